@@ -1,6 +1,6 @@
 // The free names of a term, and those that two parts share.
 
-ghost use Rattle.std.specs.Prelude.{◌≡◌, ◌++◌, ◌∷◌, [], Ok, IfOk, IfErr};
+ghost use Rattle.std.specs.Prelude.{◌≡◌, ◌∷◌, [], Ok, IfOk, IfErr};
 ghost use Rattle.gos_check.specs.Faults.{Refuses};
 ghost use Rattle.gos_check.specs.Free.{place_in, besides, joined, without, apart};
 

@@ -1,6 +1,6 @@
 // Numbered terms made of numbered parts.
 
-ghost use Rattle.std.specs.Prelude.{◌≡◌, ◌+◌, ◌++◌, ◌^◌, ◌<◌, ◌≤◌, length, IfOk, IfErr};
+ghost use Rattle.std.specs.Prelude.{◌≡◌, ◌+◌, ◌^◌, ◌<◌, ◌≤◌, length, IfOk, IfErr};
 ghost use Rattle.gos_types.specs.Types.{type_of, Var};
 ghost use Rattle.gos_check.specs.Nodes.{OfFun, OfNew, If, one_form, two_form, node_seen, type_of_node};
 ghost use Rattle.gos_check.specs.inner.Numbering.{seen, binder_result, one_result, two_result, choice_after, Numbers};

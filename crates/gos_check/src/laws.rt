@@ -1,6 +1,6 @@
 // Laws of the definitions. Each is the contract of a function that does nothing.
 
-ghost use Rattle.std.specs.Prelude.{ℕ, ◌≤◌, length, None};
+ghost use Rattle.std.specs.Prelude.{◌≤◌, length, None};
 ghost use Rattle.gos_lex.specs.Tokens.{Reads};
 ghost use Rattle.gos_syntax.specs.ParsedModules.{IsParsed};
 ghost use Rattle.gos_check.specs.Sizes.{IsCountableModule};

@@ -1,6 +1,6 @@
 // Widths, literals, and types as they are written.
 
-ghost use Rattle.std.specs.Prelude.{◌≡◌, ◌<◌, ◌≤◌, ◌^◌, IfOk, IfErr};
+ghost use Rattle.std.specs.Prelude.{◌≡◌, ◌<◌, ◌≤◌, IfOk, IfErr};
 ghost use Rattle.gos_types.specs.Types.{type_of, Exp};
 ghost use Rattle.gos_model.specs.Weight.{count};
 ghost use Rattle.gos_check.specs.Sizes.{IsCountable};

@@ -26,7 +26,7 @@ use Rattle.gos_netlist.specs.NetText.{spaced}
 use Rattle.gos_netlist.specs.Seen.{number_of}
 use Rattle.gos_netcheck.specs.declared.fault.NetFault.{NetFault}
 use Rattle.gos_netcheck.specs.declared.fault.NetFault.TheVariants as net
-use Rattle.gos_lines.specs.Lines.{Word}
+use Rattle.gos_lex.specs.Lines.{Word}
 use Rattle.gos_pulse.specs.EventNames.{name_of_number}
 use Rattle.gos_pulse.specs.declared.fault.PulseFault.{PulseFault}
 use Rattle.gos_pulse.specs.declared.fault.PulseFault.TheVariants as pulse

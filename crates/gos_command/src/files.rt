@@ -2,8 +2,8 @@
 
 ghost use Rattle.std.specs.Prelude.{◌≡◌, ◌+◌, ◌≤◌, ◌<◌, ◌^◌, max, take, length, IfOk, IfErr, IfSome, OnOk, IsErrOf, Err};
 ghost use Rattle.gos_outside.specs.FileName.{IsFileName};
-ghost use Rattle.gos_outside.specs.Files.{Files, bytes_at, with_file, SameBut};
-ghost use Rattle.gos_outside.specs.Faults.{LastFault, ReadFault, WriteFault, Rose};
+ghost use Rattle.gos_outside.specs.Files.{bytes_at, with_file, SameBut};
+ghost use Rattle.gos_outside.specs.Faults.{ReadFault, WriteFault, Rose};
 ghost use Rattle.gos_command.specs.Files.{IsReadWhole};
 ghost use Rattle.gos_command.specs.Ends.{IfStopped};
 

@@ -14,7 +14,7 @@ use Rattle.gos_model.specs.Weight.{node_type, nodes_weight}
 use Rattle.gos_check.specs.declared.linear.Split.{Split}
 use Rattle.gos_check.specs.Nodes.{Numbered, Closed, Use, Under, One, Two, If, OfFun, OfNew, OfFst, OfSnd, OfDeref, OfNot, OfApp, OfBoth, OfSeq, OfPar, OfWhile, OfAssign, OfBin, Meaning, meaning, below, shifted, inside, inside_one, HasTypes, argument_of}
 use Rattle.gos_check.specs.Linearity.{import_at}
-use Rattle.gos_realises.specs.Regular.{count}
+use Rattle.gos_realises.specs.realises.Regular.{count}
 use Rattle.gos_compile.proofs.KnownLemmas.{is_bound, UsesBound, lost, all_lost}
 
 -- a term is a variable, an import or a location

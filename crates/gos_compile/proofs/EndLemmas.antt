@@ -7,8 +7,8 @@ use Rattle.gos_model.specs.Typing.{Imports}
 use Rattle.gos_check.proofs.TimesLemmas.{eq_true}
 use Rattle.gos_plan.specs.Kinds.{Part, Contact, asks, serves, contacts_of, part_contacts}
 use Rattle.gos_plan.specs.Plans.{End, PartEnd, ImportEnd, ResultEnd, Joint, Plan, contact_at, contacts_of_part, contacts_of_import, turned_if, same_end, is_free, AreRight, IsRight}
-use Rattle.gos_realises.specs.Regular.{count}
-use Rattle.gos_realises.specs.Slim.{all_shakes}
+use Rattle.gos_realises.specs.realises.Regular.{count}
+use Rattle.gos_realises.specs.realises.Slim.{all_shakes}
 use Rattle.gos_plan.proofs.JointLemmas.{same_is}
 
 -- an end that asks is none that serves

@@ -22,8 +22,8 @@ use Rattle.gos_check.specs.Linearity.{times, split_in, sides, used, made, all_si
 use Rattle.gos_check.specs.Nodes.{Numbered, Closed, Use, Under, One, Two, If, OfFun, OfNew, OfFst, OfSnd, OfDeref, OfNot, OfApp, OfBoth, OfSeq, OfPar, OfWhile, OfAssign, OfBin, Binding, OneForm, TwoForm, Meaning, node_seen}
 use Rattle.gos_plan.specs.Kinds as kinds
 use Rattle.gos_plan.specs.Kinds.{Part, part_contacts, contacts_of, other_side}
-use Rattle.gos_realises.specs.Regular.{count}
-use Rattle.gos_realises.specs.Slim.{all_shakes}
+use Rattle.gos_realises.specs.realises.Regular.{count}
+use Rattle.gos_realises.specs.realises.Slim.{all_shakes}
 use Rattle.gos_compile.specs.Wiring.{Types, type_of_node, shares, closed_part, binder_part, one_part, two_part, parts_of, import_types, all_types}
 use Rattle.gos_compile.specs.inner.Loads.{share_load, splits_load, load}
 use Rattle.gos_compile.proofs.KnownLemmas.{is_bound, UsesBound, none_lost, total, total-append, total_fewer}

@@ -20,8 +20,8 @@ use Rattle.gos_types.specs.Widths.{IsWidth}
 use Rattle.gos_plan.specs.Seen.{import_of}
 use Rattle.gos_plan.specs.ObjectText.{text_of, IsWritablePart, IsWritableImport, IsWritableEnd, IsWritableJoint, IsWritable, IsSmallType, IsSmallPart, IsSmallPlan}
 use Rattle.gos_plan.specs.ObjectFaults.{IsRead}
-use Rattle.gos_realises.specs.Regular.{count}
-use Rattle.gos_realises.specs.Slim.{all_shakes, IsSlim}
+use Rattle.gos_realises.specs.realises.Regular.{count}
+use Rattle.gos_realises.specs.realises.Slim.{all_shakes, IsSlim}
 use Rattle.gos_compile.specs.Wiring.{type_of_node, all_parts, IsPlanOf}
 use Rattle.gos_compile.specs.inner.Named.{HaveNames}
 use Rattle.gos_compile.proofs.EndLemmas.{imports_shakes, short, turned_some}

@@ -6,7 +6,7 @@ use Rattle.gos_types.specs.Types.{Type', Com, Exp, Var, Pair, Fun}
 use Rattle.gos_check.specs.Nodes.{argument_of}
 use Rattle.gos_ties.specs.declared.points.Place.{Place}
 use Rattle.gos_ties.specs.declared.points.Point.{Point}
-use Rattle.gos_realises.specs.Regular.{count}
+use Rattle.gos_realises.specs.realises.Regular.{count}
 use Rattle.gos_ties.specs.Ties.{point}
 use Rattle.gos_compile.specs.Wiring.{row}
 

@@ -18,9 +18,9 @@ use Rattle.gos_check.specs.Nodes.{Numbered, node_seen}
 use Rattle.gos_plan.specs.Kinds as kinds
 use Rattle.gos_plan.specs.Kinds.{Part, part_contacts, contacts_of, other_side}
 use Rattle.gos_plan.specs.Plans.{Plan}
-use Rattle.gos_realises.specs.Regular.{count}
-use Rattle.gos_realises.specs.Slim.{all_shakes, IsSlim}
-use Rattle.gos_realises.proofs.CountLemmas.{some_shake}
+use Rattle.gos_realises.specs.realises.Regular.{count}
+use Rattle.gos_realises.specs.realises.Slim.{all_shakes, IsSlim}
+use Rattle.gos_realises.proofs.realises.CountLemmas.{some_shake}
 use Rattle.gos_compile.specs.Wiring.{type_of_node, all_parts, IsPlanOf}
 use Rattle.gos_compile.specs.inner.Loads.{HasFewShakes}
 use Rattle.gos_compile.proofs.BoundLemmas.{same_count}

@@ -9,7 +9,7 @@ use Rattle.gos_ties.specs.declared.points.Place.{Place}
 use Rattle.gos_ties.specs.declared.points.Place.TheVariants as places
 use Rattle.gos_ties.specs.declared.points.Point.{Point}
 use Rattle.gos_ties.specs.declared.points.Tie.{Tie}
-use Rattle.gos_realises.specs.Regular.{count}
+use Rattle.gos_realises.specs.realises.Regular.{count}
 use Rattle.gos_ties.specs.Ties.{point}
 use Rattle.gos_compile.specs.Wiring.{Types, row, led, share_ties, shares_ties, ties_of, parts_of, type_of_node, nodes, binder_part, binder_ties, binder_out, one_part, one_ties, one_out, two_part, two_ties, first_out, second_out}
 use Rattle.gos_ties.specs.Counted.{place_once, once, meetings}

@@ -15,9 +15,9 @@ use Rattle.gos_plan.specs.Kinds.{Part, part_contacts}
 use Rattle.gos_plan.specs.Plans.{End, PartEnd, ImportEnd, ResultEnd, Joint, Plan}
 use Rattle.gos_types.specs.Widths.{HasWidths}
 use Rattle.gos_plan.specs.ObjectText.{number_text, type_text, bits_text, body_text, word_text, word_of, operands_text, part_text, import_text, end_text, joint_text, section_text, imports_text, parts_text, joints_text, text_of, IsNumber, IsWritablePart, IsWritableImport, IsWritableEnd, IsWritableJoint, IsWritable, IsSmallType, IsSmallPlan}
-use Rattle.gos_realises.specs.Regular.{count}
-use Rattle.gos_realises.specs.Slim.{all_shakes, IsSlim}
-use Rattle.gos_realises.proofs.CountLemmas.{count_pair, count_fun}
+use Rattle.gos_realises.specs.realises.Regular.{count}
+use Rattle.gos_realises.specs.realises.Slim.{all_shakes, IsSlim}
+use Rattle.gos_realises.proofs.realises.CountLemmas.{count_pair, count_fun}
 use Rattle.gos_compile.proofs.BoundLemmas.{same_count}
 use Rattle.gos_compile.proofs.LoadLemmas.{share_shakes}
 

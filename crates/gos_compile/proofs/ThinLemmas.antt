@@ -17,7 +17,7 @@ use Rattle.gos_plan.specs.Plans.{End}
 use Rattle.gos_ties.specs.declared.points.Place.{Place}
 use Rattle.gos_ties.specs.declared.points.Place.TheVariants as places
 use Rattle.gos_ties.specs.declared.points.Point.{Point}
-use Rattle.gos_realises.specs.Regular.{count}
+use Rattle.gos_realises.specs.realises.Regular.{count}
 use Rattle.gos_compile.specs.Wiring.{Types, row, led, shares, closed_part, binder_part, one_part, two_part, parts_of, ties_of, type_of_node, nodes, import_ties, all_types, all_ties}
 use Rattle.gos_ties.specs.Ties.{end_of_place}
 use Rattle.gos_ties.specs.Counted.{place_once, meetings, IsThin}

@@ -12,7 +12,7 @@ use Rattle.gos_ties.specs.declared.points.Tie.{Tie}
 use Rattle.gos_model.specs.Typing.{Imports}
 use Rattle.gos_ties.specs.declared.points.Place.TheVariants as places
 use Rattle.gos_compile.specs.Wiring.{Types, row, type_of_node, import_ties, all_types, all_parts, all_ties, shares, shares_ties, share_ties, parts_of, ties_of, nodes}
-use Rattle.gos_realises.specs.Regular.{count}
+use Rattle.gos_realises.specs.realises.Regular.{count}
 use Rattle.gos_compile.specs.inner.Walked.{Wired, is_plain, with_share, with_shares, wired}
 
 after_none : (w : List Part) → w ++ [] ≡ w

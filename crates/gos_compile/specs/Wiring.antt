@@ -19,7 +19,7 @@ use Rattle.gos_ties.specs.declared.points.Place.TheVariants as places
 use Rattle.gos_ties.specs.declared.points.Point.{Point}
 use Rattle.gos_ties.specs.declared.points.Tie.{Tie}
 use Rattle.gos_ties.specs.Ties.{point, tie, Connects, joint, Has}
-use Rattle.gos_realises.specs.Regular.{count}
+use Rattle.gos_realises.specs.realises.Regular.{count}
 
 -- n points of a place, from handshake h on
 abbrev pub row : Place → ℕ → ℕ → List Point

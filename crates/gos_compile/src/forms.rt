@@ -9,7 +9,7 @@ ghost use Rattle.gos_model.specs.Sources.{op_of};
 ghost use Rattle.gos_compile.specs.inner.Walked.{seen, is_plain, with_one_own, with_two_own};
 ghost use Rattle.gos_ties.specs.Ties.{point};
 ghost use Rattle.gos_compile.specs.Wiring.{row, answer_bits, one_out, first_out, second_out};
-ghost use Rattle.gos_realises.specs.Regular.{count};
+ghost use Rattle.gos_realises.specs.realises.Regular.{count};
 ghost use Rattle.gos_compile.specs.inner.Loads.{most, spent};
 
 use crate::points::{add_row, answer_bits, row, shakes};

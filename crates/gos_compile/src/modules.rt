@@ -9,7 +9,7 @@ ghost use Rattle.gos_model.specs.Sources.{import_of};
 ghost use Rattle.gos_check.specs.Nodes.{node_seen};
 ghost use Rattle.gos_plan.specs.Seen.{part_of};
 ghost use Rattle.gos_compile.specs.inner.Walked.{is_plain};
-ghost use Rattle.gos_realises.specs.Regular.{count};
+ghost use Rattle.gos_realises.specs.realises.Regular.{count};
 ghost use Rattle.gos_compile.specs.Wiring.{type_of_node, import_ties, all_parts, all_ties, all_types};
 ghost use Rattle.gos_compile.specs.inner.Loads.{load, most, HasFewShakes};
 

@@ -10,7 +10,7 @@ ghost use Rattle.gos_plan.specs.ObjectFaults.{IsRead};
 ghost use Rattle.gos_plan.specs.ObjectText.{text_of};
 ghost use Rattle.gos_plan.specs.Seen as plans;
 ghost use Rattle.gos_plan.specs.Seen.{plan_of};
-ghost use Rattle.gos_realises.specs.Slim.{IsSlim};
+ghost use Rattle.gos_realises.specs.realises.Slim.{IsSlim};
 ghost use Rattle.gos_compile.specs.Wiring.{IsPlanOf};
 ghost use Rattle.gos_compile.specs.inner.Named.{HaveNames};
 

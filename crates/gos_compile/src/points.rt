@@ -2,7 +2,7 @@
 
 ghost use Rattle.std.specs.Prelude.{◌≡◌, ◌≤◌, ◌+◌, ◌++◌, length, IfOk, OnOk};
 ghost use Rattle.gos_types.specs.Types.{type_of};
-ghost use Rattle.gos_realises.specs.Regular.{count};
+ghost use Rattle.gos_realises.specs.realises.Regular.{count};
 ghost use Rattle.gos_compile.specs.Wiring.{led, row, answer_bits};
 ghost use Rattle.gos_compile.specs.inner.Loads.{most};
 

@@ -7,8 +7,8 @@
 ghost use Rattle.std.specs.Prelude.{◌≡◌, ◌≤◌, ◌+◌, length, OnOk};
 ghost use Rattle.gos_types.specs.Types.{type_of};
 ghost use Rattle.gos_plan.specs.Kinds as kinds;
-ghost use Rattle.gos_check.specs.Nodes.{node_seen, OfFun, OfNew, argument_of};
-ghost use Rattle.gos_realises.specs.Regular.{count};
+ghost use Rattle.gos_check.specs.Nodes.{node_seen, OfFun, OfNew};
+ghost use Rattle.gos_realises.specs.realises.Regular.{count};
 ghost use Rattle.gos_compile.specs.inner.Tables.{types_at};
 ghost use Rattle.gos_compile.specs.inner.Walked.{seen, wired, with_binder, with_one, with_two, with_choice};
 ghost use Rattle.gos_compile.specs.inner.Loads.{loaded, part_loaded, most, spent};

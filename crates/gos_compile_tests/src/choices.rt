@@ -1,5 +1,5 @@
 // The registers of joints: which directions keep them by each policy, and by a choice of one's own.
-ghost use Rattle.std.specs.Prelude.{◌≡◌, ◌∷◌, ◌≤◌, ◌+◌, ◌*◌, map, length, All};
+ghost use Rattle.std.specs.Prelude.{◌∷◌, ◌≤◌, ◌+◌, map, length, All};
 ghost use Rattle.gos_types.specs.Types.{type_of, IsGround, IsDone};
 ghost use Rattle.gos_plan.specs.Seen.{plan_of};
 ghost use Rattle.gos_plan.specs.Size.{plan_size};

@@ -3,7 +3,7 @@ use Rattle.std.specs.Prelude.{Option, None, Some, IsSome}
 use Rattle.std.proofs.Common.{◌≡◌, ℕ, zero, suc, ◌+◌, ◌<◌, List, [], ◌∷◌, ◌++◌, length, map, slice_index_or, refl, ap, subst, arith, ◌∙◌, slice_get}
 use Rattle.std.proofs.lemmas.List.{length-append}
 use Rattle.gos_netlist.specs.Nets.{Cell, Side}
-use Rattle.gos_netlist.specs.Events.{Request, Answer}
+use Rattle.gos_types.specs.Events.{Request, Answer}
 use Rattle.gos_plan.specs.Kinds.{Contact, turned_contact}
 use Rattle.gos_plan.specs.Contacts.{held_contact, contact_held}
 use Rattle.gos_model.specs.Typing.{Imported}

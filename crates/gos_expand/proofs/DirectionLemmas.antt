@@ -3,7 +3,7 @@
 -- Read first: Directions.
 use Rattle.std.proofs.Common.{◌≡◌, ◌+◌, ◌<◌, ◌⊎◌, ◌↔◌, ℕ, List, [], ◌∷◌, length, slice_get, inl, inr, refl, sym, ap, subst, ◌∙◌, arith}
 use Rattle.std.proofs.lemmas.Option.{same_Some, slice_get_within}
-use Rattle.gos_netlist.specs.Events.{Direction, Request, Answer}
+use Rattle.gos_types.specs.Events.{Direction, Request, Answer}
 use Rattle.gos_plan.specs.Plans.{PartEnd, Joint, Plan}
 use Rattle.gos_expand.specs.Gates.{passing_of}
 use Rattle.gos_expand.specs.Starts.{Keep, place_of}

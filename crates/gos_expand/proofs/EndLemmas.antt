@@ -4,7 +4,7 @@ use Rattle.std.proofs.Common.{get_or, ◌≡◌, ℕ, zero, suc, ◌+◌, ◌≤
 use Rattle.std.proofs.lemmas.Option.{get_or_from_slice_get}
 use Rattle.gos_types.specs.Types.{type_of}
 use Rattle.gos_netlist.specs.Nets.{Take, NetPort}
-use Rattle.gos_netlist.specs.Events.{Request, Answer}
+use Rattle.gos_types.specs.Events.{Request, Answer}
 use Rattle.gos_plan.specs.declared.kinds.Kind.{Kind}
 use Rattle.gos_plan.specs.declared.plan.PlanImport.{PlanImport}
 use Rattle.gos_plan.specs.Kinds.{Part, Contact, contacts_of, part_contacts}

@@ -2,7 +2,7 @@
 use Rattle.std.proofs.Common.{◌≡◌, ℕ, zero, suc, ◌≤◌, ◌<◌, true, false, List, ◌++◌, refl, sym, arith, nat_eq, if◌then◌else◌}
 use Rattle.gos_netlist.specs.Settling.{Numbers, at}
 use Rattle.gos_plan.specs.Plans.{End, Plan}
-use Rattle.gos_plan.specs.Cycles.{PartFiring, fires_of}
+use Rattle.gos_plan.specs.Made.{PartFiring, fires_of}
 use Rattle.gos_expand.specs.Blocks.{Nets}
 use Rattle.gos_expand.specs.Starts.{ports_of, port_ends}
 use Rattle.gos_expand.specs.Facts.{Places, bits_in_at, bits_out_at, given_elements, occurs}

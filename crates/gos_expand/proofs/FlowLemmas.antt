@@ -8,14 +8,14 @@ use Rattle.gos_types.specs.declared.shakes.Role.{Role}
 use Rattle.gos_types.specs.declared.shakes.Role.TheVariants.{Serve, Ask}
 use Rattle.gos_types.specs.Types.{Type', Com, Exp, Var, Pair, Fun, IsGround, IsDone}
 use Rattle.gos_netlist.specs.Nets.{Function, Const, Cell, Give, Take}
-use Rattle.gos_netlist.specs.Events.{Direction, Request, Answer}
+use Rattle.gos_types.specs.Events.{Direction, Request, Answer}
 use Rattle.gos_plan.specs.Kinds.{Part, Contact, contacts_of, part_contacts, turned_contact, asks, serves}
 use Rattle.gos_model.specs.Typing.{Imported}
 use Rattle.gos_plan.specs.Plans.{End, PartEnd, ImportEnd, ResultEnd, Joint, Plan, contacts_of_part, contacts_of_import, turned_if, contact_at, IsRight}
 use Rattle.gos_plan.specs.Tokens.{bits_of, way_put, way_taken}
-use Rattle.gos_plan.specs.Gates.{Outgoing, Bare, Bearing, bits_out}
+use Rattle.gos_gates.specs.Gates.{Outgoing, Bare, Bearing, bits_out}
 use Rattle.gos_types.specs.Widths.{HasWidths}
-use Rattle.gos_plan.specs.Fit.{IsOwn, GoesOut, AllGoOut, GatesFit}
+use Rattle.gos_gates.specs.Fit.{IsOwn, GoesOut, AllGoOut, GatesFit}
 use Rattle.gos_expand.specs.Blocks.{Nets, nets_from, token_size, inputs, registers}
 use Rattle.gos_expand.specs.Gates.{layout, outs_of}
 use Rattle.gos_expand.specs.Starts.{Keep, keep_all, Outer, ports_of, taken_ports, shake_size, bits_if, bits_taken, port_start, part_start, loose_start}

@@ -2,20 +2,21 @@
 use Rattle.std.specs.Prelude.{Option, None}
 use Rattle.std.proofs.Common.{◌≡◌, inl, inr, ◌⊎◌, ℕ, suc, ◌≤◌, Bool, true, false, List, [], ◌∷◌, ◌++◌, Some, slice_get, length, refl, sym, ◌∙◌, ap, subst, arith, append_assoc}
 use Rattle.gos_netlist.specs.Nets.{Netlist}
-use Rattle.gos_netlist.specs.Events.{Direction}
+use Rattle.gos_types.specs.Events.{Direction}
 use Rattle.gos_netlist.specs.Settling.{Numbers, at}
-use Rattle.gos_model.specs.Flattening.{outputs, inputs}
+use Rattle.gos_pace.specs.Flattening.{outputs, inputs}
 use Rattle.gos_plan.specs.Kinds.{Part}
 use Rattle.gos_plan.specs.Firing.{Rest}
 use Rattle.gos_plan.specs.Firing as firing
 use Rattle.gos_plan.specs.Plans.{End, PartEnd, ImportEnd, ResultEnd, Joint, Plan, IsRight}
 use Rattle.gos_plan.specs.Tokens.{Tokens, Element, places_of, held_at, end_of, way_of, Runs}
 use Rattle.gos_plan.specs.Orderly.{Open, OrderlyFrom}
-use Rattle.gos_plan.specs.Gates.{due, value_due}
-use Rattle.gos_plan.specs.Cycles.{PartFiring, Made, fires_of, cycle_list, list_of, MakesCycles}
+use Rattle.gos_plan.specs.Firings.{due, value_due}
+use Rattle.gos_pace.specs.Cycles.{cycle_list, list_of, MakesCycles}
+use Rattle.gos_plan.specs.Made.{PartFiring, Made, fires_of}
 use Rattle.gos_plan.proofs.DecidedLemmas.{orderly_is_possible}
 use Rattle.gos_plan.proofs.TokenBitsLemmas.{all_stay_fit, idle_fits}
-use Rattle.gos_plan.proofs.OrderLemmas.{one_order_is_enough}
+use Rattle.gos_pace.proofs.OrderLemmas.{one_order_is_enough}
 use Rattle.gos_expand.specs.Blocks.{Nets}
 use Rattle.gos_expand.specs.Starts.{Keep}
 use Rattle.gos_expand.specs.Facts.{Places, source, target, CycleFacts, PlanFacts, PartFacts, Rises, Follow}

@@ -8,15 +8,15 @@ use Rattle.std.proofs.lemmas.Option.{none-some, same_Some, slice_get_within}
 use Rattle.gos_types.specs.declared.shakes.Role.{Role}
 use Rattle.gos_types.specs.declared.shakes.Role.TheVariants.{Serve, Ask}
 use Rattle.gos_netlist.specs.Nets.{Function, Input, Const, Not, And, Or, Xor, Mux, Add, Sub, Eq, Less, Gate, Reg, Cell, Side, Give, Take, pins}
-use Rattle.gos_netlist.specs.Events.{Request, Answer}
+use Rattle.gos_types.specs.Events.{Request, Answer}
 use Rattle.gos_netlist.specs.Cycles.{IsRegister}
 use Rattle.gos_netcheck.specs.CellRules.{PinsExist, widths_of, HasRightWidths}
 use Rattle.gos_plan.specs.Kinds.{Part, Contact, part_contacts, turned_contact, asks, serves}
 use Rattle.gos_model.specs.Typing.{Imported}
 use Rattle.gos_plan.specs.Plans.{End, PartEnd, ImportEnd, ResultEnd, Joint, Plan, contacts_of_part, contacts_of_import, turned_if, contact_at}
 use Rattle.gos_plan.specs.Tokens.{bits_of, way_taken}
-use Rattle.gos_plan.specs.Gates.{Incoming, bits_in, incoming_bits}
-use Rattle.gos_plan.specs.Fit.{IsKnown, reach_of, NameEarlier, BitsComeIn, HaveBits, GatesFit}
+use Rattle.gos_gates.specs.Gates.{Incoming, bits_in, incoming_bits}
+use Rattle.gos_gates.specs.Fit.{IsKnown, reach_of, NameEarlier, BitsComeIn, HaveBits, GatesFit}
 use Rattle.gos_expand.specs.Blocks.{Nets, inputs, registers, nothing}
 use Rattle.gos_expand.specs.Gates.{layout, outs_of}
 use Rattle.gos_expand.specs.Starts.{Keep, Outer, ports_of, taken_ports, shake_size, bits_if, bits_taken, port_start, joint_start, part_start}

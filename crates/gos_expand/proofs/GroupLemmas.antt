@@ -2,8 +2,8 @@
 --
 -- Read first: Laid; StandLemmas.
 use Rattle.std.proofs.Common.{◌≡◌, ◌+◌, ℕ, zero, suc, Bool, true, false, List, ◌++◌, length, take, slice_get, Some, refl, sym, ap₂, subst, ◌∙◌, length-append, arith}
-use Rattle.gos_netlist.specs.Nets.{Function, Cell}
-use Rattle.gos_plan.specs.Gates.{Incoming}
+use Rattle.gos_netlist.specs.Nets.{Function, Cell, Side, Give, Take}
+use Rattle.gos_gates.specs.Gates.{Incoming}
 use Rattle.gos_plan.specs.Kinds.{Part, Skip, Lit, Seq, Par, If, While, Op, Not, Assign, Deref, Local, Share, Contact, contacts_of}
 use Rattle.gos_plan.specs.Plans.{End, Joint, Plan, contact_at}
 use Rattle.gos_expand.specs.Blocks.{Nets, token_size, token_cells, registers, blocks, total}
@@ -11,8 +11,7 @@ use Rattle.gos_expand.specs.Gates.{layout, part_size}
 use Rattle.gos_expand.specs.Starts.{Keep, Outer, ports_of, shake_size, port_size, bits_taken, kept_size, way_size, joint_size, loose_ends, loose_size, port_start, joints_start, joint_start, loose_ends_start, part_start}
 use Rattle.gos_expand.specs.Laid.{registers_if, side_cells, shake_cells, port_cells, joint_cells, loose_cells, part_cells, laid_cells, leaves, arrives, way_start, way_cells}
 use Rattle.gos_expand.specs.Facts.{source, width}
-use Rattle.gos_netlist.specs.Nets.{Side, Give, Take}
-use Rattle.gos_netlist.specs.Events.{Direction, Request, Answer}
+use Rattle.gos_types.specs.Events.{Direction, Request, Answer}
 use Rattle.gos_expand.proofs.ShareLemmas.{share_length}
 use Rattle.gos_expand.proofs.StandLemmas.{Each, StandAt, each_left, each_right, each_both, each_block, each_of_blocks, length_blocks, first_moved, first_moved_back, all_stand}
 

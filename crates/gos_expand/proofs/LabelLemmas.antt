@@ -1,10 +1,10 @@
 -- The labels of a port's pulses, as elements at its ends: its requests, and its answers.
 use Rattle.std.proofs.Common.{◌≡◌, ℕ, zero, suc, ◌+◌, Bool, true, false, not, List, [], ◌∷◌, ◌++◌, map, filter, Some, slice_get, refl, sym, ◌∙◌, ap, arith, nat_eq, if◌then◌else◌}
 use Rattle.gos_types.specs.Types.{Type', Com, Exp, Var, Pair, Fun, IsGround}
-use Rattle.gos_netlist.specs.Events.{events}
+use Rattle.gos_types.specs.Events.{events}
 use Rattle.gos_netlist.specs.Settling.{Numbers, at}
 use Rattle.gos_model.specs.Labels.{Port, Label, is_answer}
-use Rattle.gos_model.specs.Flattening.{if_pulse, pulses_from}
+use Rattle.gos_pace.specs.Flattening.{if_pulse, pulses_from}
 use Rattle.gos_model.specs.Protocol.{shake_of}
 use Rattle.gos_plan.specs.Kinds.{Contact, contacts_of}
 use Rattle.gos_plan.specs.Plans.{End}

@@ -2,13 +2,13 @@
 use Rattle.std.specs.Prelude.{Some}
 use Rattle.std.proofs.Common.{◌≡◌, ℕ, zero, suc, ◌<◌, List, [], ◌∷◌, ◌++◌, slice_index_or, length, refl, sym, ap, subst, arith, ◌∙◌, slice_get}
 use Rattle.gos_netlist.specs.Nets.{Cell}
-use Rattle.gos_plan.specs.declared.gates.Wire.{Wire}
+use Rattle.gos_gates.specs.declared.gates.Wire.{Wire}
 use Rattle.gos_plan.specs.declared.kinds.Kind.{Kind}
 use Rattle.gos_plan.specs.declared.kinds.Kind.TheVariants as kinds
 use Rattle.gos_plan.specs.Kinds.{Part, Contact, part_contacts}
-use Rattle.gos_plan.specs.Gates.{Incoming, Outgoing, Bare, Bearing, bits_out}
-use Rattle.gos_plan.specs.Fit.{AllGoOut}
-use Rattle.gos_plan.specs.Wires.{HoldNets}
+use Rattle.gos_gates.specs.Gates.{Incoming, Outgoing, Bare, Bearing, bits_out}
+use Rattle.gos_gates.specs.Fit.{AllGoOut}
+use Rattle.gos_gates.specs.Wires.{HoldNets}
 use Rattle.gos_plan.specs.Seen.{part_of}
 use Rattle.gos_expand.specs.Gates.{outs_of}
 use Rattle.gos_expand.specs.inner.Dispatch.{gates_for, part_in, cells_in, outs_in, IsLaidOut, gates_keep}

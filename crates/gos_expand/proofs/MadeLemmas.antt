@@ -8,9 +8,10 @@ use Rattle.gos_plan.specs.Firing.{Slot, Token}
 use Rattle.gos_plan.specs.Plans.{End, Plan}
 use Rattle.gos_plan.specs.Tokens.{Tokens}
 use Rattle.gos_plan.specs.Orderly.{Open}
-use Rattle.gos_plan.specs.Gates.{value_in, pulse_in, Shows, SameTokens}
-use Rattle.gos_plan.specs.Law.{Fires, Fired, pulsed, late_slots}
-use Rattle.gos_plan.specs.Cycles.{fires_of}
+use Rattle.gos_gates.specs.Gates.{value_in, pulse_in, Shows, SameTokens}
+use Rattle.gos_gates.specs.Law.{Fired, pulsed, late_slots}
+use Rattle.gos_plan.specs.Firings.{Fires}
+use Rattle.gos_plan.specs.Made.{fires_of}
 use Rattle.gos_plan.specs.Projection.{firings_of, asked_by}
 use Rattle.gos_expand.specs.Gates.{outs_of, late_of, pending_of, stands_of}
 use Rattle.gos_expand.specs.Starts.{Keep}

@@ -2,14 +2,14 @@
 use Rattle.std.specs.Prelude.{Option, None, Some, is_none, not, ◌&&◌, ◌||◌}
 use Rattle.std.proofs.Common.{◌≡◌, ℕ, zero, suc, ◌+◌, ◌≤◌, Bool, true, false, List, [], ◌∷◌, ◌++◌, length, refl, sym, ap, arith, ◌∙◌, map, take, slice_get}
 use Rattle.gos_netlist.specs.Nets.{Cell}
-use Rattle.gos_netlist.specs.Events.{Request, Answer}
+use Rattle.gos_types.specs.Events.{Request, Answer}
 use Rattle.gos_plan.specs.declared.kinds.Kind.{Kind}
 use Rattle.gos_plan.specs.declared.kinds.Kind.TheVariants as kinds
 use Rattle.gos_plan.specs.Kinds.{Part, Contact, part_contacts}
 use Rattle.gos_plan.specs.Size.{shakes_of}
 use Rattle.gos_plan.specs.Plans.{End, Joint, Plan, contact_at, same_end, is_free}
 use Rattle.gos_plan.specs.Seen.{part_of}
-use Rattle.gos_plan.specs.Gates.{Incoming}
+use Rattle.gos_gates.specs.Gates.{Incoming}
 use Rattle.gos_expand.specs.declared.arrivals.Origin.{Origin}
 use Rattle.gos_expand.specs.declared.arrivals.Origin.TheVariants.{Cells}
 use Rattle.gos_expand.specs.declared.arrivals.Arrivals.{Arrivals}

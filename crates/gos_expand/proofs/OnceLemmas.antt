@@ -6,7 +6,7 @@ use Rattle.gos_plan.specs.Kinds.{Contact, contacts_of, turned_contact}
 use Rattle.gos_model.specs.Typing.{Imported}
 use Rattle.gos_plan.specs.Plans.{End, PartEnd, ImportEnd, ResultEnd, Plan, contact_at, contacts_of_import, turned_if, same_end}
 use Rattle.gos_plan.specs.Tokens.{IsPortEnd}
-use Rattle.gos_plan.specs.Cycles.{import_number}
+use Rattle.gos_pace.specs.Cycles.{import_number}
 use Rattle.gos_expand.specs.Starts.{ports_of, taken_ports, ends_at, port_ends}
 use Rattle.gos_expand.specs.Acceptance.{AreDifferent}
 use Rattle.gos_expand.specs.Facts.{occurs}

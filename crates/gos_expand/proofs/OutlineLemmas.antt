@@ -7,19 +7,20 @@ use Rattle.std.proofs.lemmas.List.Elements.{filter-append}
 use Rattle.gos_types.specs.declared.shakes.Role.TheVariants.{Serve}
 use Rattle.gos_types.specs.Types.{Type', Com, Exp, Var, Pair, Fun, IsGround, IsDone}
 use Rattle.gos_netlist.specs.Nets.{Give, Take}
-use Rattle.gos_netlist.specs.Events.{events}
+use Rattle.gos_types.specs.Events.{events}
 use Rattle.gos_netlist.specs.Settling.{Numbers, at}
 use Rattle.gos_model.specs.Labels.{Given, Taken, Label, is_answer, is_output}
-use Rattle.gos_model.specs.Flattening.{port_pulses, pulses, outputs, inputs}
-use Rattle.gos_model.specs.Protocol.{IsQuiet, IsQuietFrom, shake_of}
+use Rattle.gos_pace.specs.Flattening.{port_pulses, pulses, outputs, inputs}
+use Rattle.gos_model.specs.Protocol.{shake_of}
+use Rattle.gos_pace.specs.RunProtocol.{IsQuiet, IsQuietFrom}
 use Rattle.gos_plan.specs.Kinds.{Contact, contacts_of}
 use Rattle.gos_model.specs.Typing.{Imported}
 use Rattle.gos_plan.specs.Plans.{End, PartEnd, ImportEnd, ResultEnd, Plan, contact_at, contacts_of_import, turned_if, same_end}
 use Rattle.gos_types.specs.Widths.{HasWidths}
 use Rattle.gos_plan.specs.Tokens.{Element, Out, In, IsPortEnd}
 use Rattle.gos_plan.specs.Accounts.{outs_at, ins_at}
-use Rattle.gos_plan.specs.Cycles.{end_of_label, out_of, in_of, outs_of, ins_of}
-use Rattle.gos_plan.specs.AnyOrder.{NonePasses, EndsDiffer}
+use Rattle.gos_pace.specs.Cycles.{end_of_label, out_of, in_of, outs_of, ins_of}
+use Rattle.gos_pace.specs.AnyOrder.{NonePasses, EndsDiffer}
 use Rattle.gos_plan.proofs.JointLemmas.{same_is, same_itself}
 use Rattle.gos_expand.specs.Blocks.{Nets, nets_on, total}
 use Rattle.gos_expand.specs.Starts.{Keep, ports_of, taken_ports, port_start, ends_at, port_ends, bits_taken, shake_size}

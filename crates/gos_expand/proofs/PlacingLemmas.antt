@@ -3,7 +3,7 @@ use Rattle.std.specs.Prelude.{None, Some}
 use Rattle.std.proofs.Common.{◌≡◌, ℕ, ◌+◌, ◌-◌, ◌<◌, ◌≤◌, List, [], ◌∷◌, ◌++◌, length, refl, sym, ap, subst, arith, ◌∙◌, take, slice_get, append_assoc}
 use Rattle.std.proofs.lemmas.List.{length-append}
 use Rattle.gos_netlist.specs.Nets.{Cell}
-use Rattle.gos_pool.specs.Pools.{Pool, with_closed}
+use Rattle.gos_netlist.specs.Pools.{Pool, with_closed}
 use Rattle.gos_expand.specs.Blocks.{blocks}
 use Rattle.gos_expand.specs.inner.Tokens.{Places}
 use Rattle.gos_expand.proofs.BlockLemmas.{blocks_more, blocks_within}

@@ -5,17 +5,17 @@ use Rattle.std.proofs.Common.{◌≡◌, inl, inr, ◌⊎◌, ℕ, zero, suc, �
 use Rattle.gos_types.specs.declared.shakes.Role.{Role}
 use Rattle.gos_types.specs.declared.shakes.Role.TheVariants.{Serve, Ask}
 use Rattle.gos_netlist.specs.Nets.{Netlist}
-use Rattle.gos_netlist.specs.Events.{Direction}
+use Rattle.gos_types.specs.Events.{Direction}
 use Rattle.gos_netlist.specs.Settling.{Numbers, at}
 use Rattle.gos_plan.specs.Kinds.{Contact}
 use Rattle.gos_plan.specs.Firing.{Slot, Req, Ans, same_slot}
 use Rattle.gos_plan.specs.Plans.{End, PartEnd, ImportEnd, ResultEnd, Plan, IsRight, contact_at, same_end}
 use Rattle.gos_plan.specs.Tokens.{Tokens, Element, Fire, Out, In, IsPortEnd, places_of, same_way, with_place, with_held, held_at, token_at, with_token, bits_of, way_taken, way_put, way_of, end_of, shake_of, fired, Does, Passes, Runs}
 use Rattle.gos_plan.specs.Orderly.{Open, after_taken, ComesInOrder, AllWelcome, OrderlyFrom}
-use Rattle.gos_plan.specs.Gates.{slot_in}
-use Rattle.gos_plan.specs.Law.{times}
+use Rattle.gos_gates.specs.Gates.{slot_in}
+use Rattle.gos_plan.specs.Firings.{times}
 use Rattle.gos_plan.specs.Projection.{firings_of, TakesValues}
-use Rattle.gos_plan.specs.Cycles.{PartFiring, fires_of}
+use Rattle.gos_plan.specs.Made.{PartFiring, fires_of}
 use Rattle.gos_plan.proofs.JointLemmas.{same_itself}
 use Rattle.gos_plan.proofs.DecidedLemmas.{order_is_decided, one_state, orderly_is_possible}
 use Rattle.gos_expand.specs.Blocks.{Nets}

@@ -7,20 +7,21 @@ use Rattle.std.specs.Prelude.{Option, None}
 use Rattle.std.proofs.Common.{◌≡◌, inl, inr, ◌⊎◌, ℕ, zero, suc, ◌+◌, ◌≤◌, ◌<◌, Bool, true, false, List, [], ◌∷◌, Some, slice_get, length, Contains, refl, sym, ◌∙◌, ap, subst, arith, nat_eq, if◌then◌else◌}
 use Rattle.gos_types.specs.declared.shakes.Role.{Role}
 use Rattle.gos_netlist.specs.Nets.{Netlist}
-use Rattle.gos_netlist.specs.Events.{Direction}
+use Rattle.gos_types.specs.Events.{Direction}
 use Rattle.gos_netlist.specs.Settling.{Numbers, at}
-use Rattle.gos_model.specs.Flattening.{outputs}
+use Rattle.gos_pace.specs.Flattening.{outputs}
 use Rattle.gos_plan.specs.Kinds.{Part, Contact, part_contacts}
 use Rattle.gos_plan.specs.Firing.{Slot, Req, Ans, firing}
 use Rattle.gos_plan.specs.Plans.{End, PartEnd, Joint, Plan, contact_at, contacts_of_part, same_end}
 use Rattle.gos_plan.specs.Tokens.{Tokens, Element, Fire, Out, In, IsPortEnd, IsIdle, places_of, token_at, held_at, shake_of, way_of, way_taken, end_of, firing_of, Passes, Does}
 use Rattle.gos_plan.specs.Orderly.{none_open}
-use Rattle.gos_plan.specs.Gates.{slot_in}
-use Rattle.gos_plan.specs.Law.{times}
+use Rattle.gos_gates.specs.Gates.{slot_in}
+use Rattle.gos_plan.specs.Firings.{times}
 use Rattle.gos_plan.specs.Projection.{firings_of}
 use Rattle.gos_plan.specs.Accounts.{count, number, taken_at}
-use Rattle.gos_plan.specs.Cycles.{PartFiring, Made, fires_of, state_after, IsMadeSoon}
-use Rattle.gos_plan.specs.Cycles as cycles
+use Rattle.gos_pace.specs.Cycles.{IsMadeSoon}
+use Rattle.gos_plan.specs.Made.{PartFiring, Made, fires_of, state_after}
+use Rattle.gos_pace.specs.Cycles as cycles
 use Rattle.gos_plan.proofs.JointLemmas.{same_is, joined}
 use Rattle.gos_plan.proofs.RowLemmas.{HasRole, role_taking}
 use Rattle.gos_plan.proofs.AskingLemmas.{RoleIs, row_roles}

@@ -6,7 +6,7 @@ use Rattle.gos_netlist.specs.Settling.{Numbers, at}
 use Rattle.gos_plan.specs.Plans.{End, Plan, same_end}
 use Rattle.gos_plan.specs.Tokens.{Tokens, Element, Out, In}
 use Rattle.gos_plan.specs.Accounts.{ins_at, ins_sum, outs_at, outs_sum}
-use Rattle.gos_plan.specs.Cycles.{PartFiring, fires_of}
+use Rattle.gos_plan.specs.Made.{PartFiring, fires_of}
 use Rattle.gos_plan.specs.Projection.{TakesValues}
 use Rattle.gos_plan.proofs.JointLemmas.{same_is}
 use Rattle.gos_expand.specs.Blocks.{Nets}

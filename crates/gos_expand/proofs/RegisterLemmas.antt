@@ -4,14 +4,14 @@ use Rattle.std.proofs.Common.{◌≡◌, ◌≢◌, ◌||◌, ℕ, zero, suc, �
 use Rattle.gos_types.specs.declared.shakes.Role.TheVariants.{Serve}
 use Rattle.gos_types.specs.Types.{IsGround}
 use Rattle.gos_netlist.specs.Nets.{Function, Input, Const, Not, And, Or, Xor, Mux, Add, Sub, Eq, Less, Gate, Reg, Cell, Give, Take}
-use Rattle.gos_netlist.specs.Events.{Direction, Request, Answer}
+use Rattle.gos_types.specs.Events.{Direction, Request, Answer}
 use Rattle.gos_netlist.specs.Settling.{Numbers, at, shown, next_of, next_registers, Settling}
 use Rattle.gos_plan.specs.Kinds.{Part, Contact, contacts_of, turned_contact}
 use Rattle.gos_model.specs.Typing.{Imported}
 use Rattle.gos_plan.specs.Plans.{End, PartEnd, ImportEnd, ResultEnd, Joint, Plan, IsRight, AreRight, contact_at, same_end, stands_in, is_free, turned_if, contacts_of_import}
-use Rattle.gos_plan.specs.Cells.{bit, wide}
-use Rattle.gos_plan.specs.Gates.{Settled}
-use Rattle.gos_plan.specs.Fit.{HasNoInput}
+use Rattle.gos_gates.specs.Cells.{bit, wide}
+use Rattle.gos_gates.specs.Gates.{Settled}
+use Rattle.gos_gates.specs.Fit.{HasNoInput}
 use Rattle.gos_plan.specs.Tokens.{places_of, asking_in}
 use Rattle.gos_plan.proofs.JointLemmas.{IsIn, same_itself}
 use Rattle.gos_plan.proofs.BalanceLemmas.{ends_differ}

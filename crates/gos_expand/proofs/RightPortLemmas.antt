@@ -6,14 +6,14 @@ use Rattle.std.proofs.lemmas.Option.{none-some, same_Some, slice_get_within}
 use Rattle.std.proofs.lemmas.List.Elements.{Contains-append_left, Contains-append_right, Contains-append_cases}
 use Rattle.gos_types.specs.Types.{Type', IsGround}
 use Rattle.gos_netlist.specs.Nets.{Input, Reg, Const, Cell, Side, Give, Take, NetPort}
-use Rattle.gos_netlist.specs.Events.{Request, Answer}
+use Rattle.gos_types.specs.Events.{Request, Answer}
 use Rattle.gos_netcheck.specs.Rules.{Kept}
 use Rattle.gos_netcheck.specs.PortRules.{place, places, AllFit, inputs_among, inputs_of, all_inputs, HasSide, IsRightPort, PortsFit}
 use Rattle.gos_plan.specs.Kinds.{contacts_of}
 use Rattle.gos_model.specs.Typing.{Imported}
 use Rattle.gos_plan.specs.Plans.{End, Joint, ImportEnd, ResultEnd, Plan, contact_at}
 use Rattle.gos_types.specs.Widths.{HasWidths}
-use Rattle.gos_plan.specs.Fit.{HasNoInput}
+use Rattle.gos_gates.specs.Fit.{HasNoInput}
 use Rattle.gos_expand.specs.Blocks.{Nets, registers, total, nets_on}
 use Rattle.gos_expand.specs.Starts.{Keep, Outer, ports_of, taken_ports, port_size, bits_taken, port_start, joint_start, part_start}
 use Rattle.gos_expand.specs.Laid.{arrives, registers_if, port_cells, way_cells, joint_cells, loose_cells, part_cells, incoming, laid_port, taken}

@@ -6,15 +6,15 @@ use Rattle.std.specs.Prelude.{Option}
 use Rattle.std.proofs.Common.{◌≡◌, ℕ, zero, suc, ◌^◌, ◌<◌, ◌≤◌, List, [], ◌∷◌, map, Some, slice_get, length, replicate, refl, sym, ◌∙◌, ap, subst}
 use Rattle.gos_netlist.specs.Nets.{Cell}
 use Rattle.gos_netlist.specs.Settling.{Numbers, at, next_registers, Settling, RunFrom}
-use Rattle.gos_model.specs.Protocol.{IsInRange, InputsInRange}
+use Rattle.gos_pace.specs.RunProtocol.{IsInRange, InputsInRange}
 use Rattle.gos_plan.specs.Kinds.{Part, Contact}
 use Rattle.gos_model.specs.Typing.{Imported}
 use Rattle.gos_plan.specs.Plans.{End, Plan, IsRight, contact_at}
 use Rattle.gos_plan.specs.Tokens.{IsPortEnd}
 use Rattle.gos_plan.specs.Seen.{SeenPlan, plan_of, part_of}
 use Rattle.gos_plan.specs.Ranges as ranges
-use Rattle.gos_plan.specs.Kept.{KeepLaws}
-use Rattle.gos_plan.specs.Paths.{KeepPaths}
+use Rattle.gos_gates.specs.Kept.{KeepLaws}
+use Rattle.gos_gates.specs.Paths.{KeepPaths}
 use Rattle.gos_plan.proofs.TokenBitsLemmas.{literals_fit}
 use Rattle.gos_expand.specs.Gates.{layout, outs_of, late_of, pending_of, stands_of, passing_of}
 use Rattle.gos_expand.specs.Kept.{AllKeepPaths}

@@ -5,7 +5,7 @@ use Rattle.std.proofs.Common.{◌≡◌, ◌+◌, ◌⊎◌, ◌&&◌, ◌||◌,
 use Rattle.std.specs.Prelude.{None}
 use Rattle.std.proofs.lemmas.Option.{none-some, same_Some}
 use Rattle.gos_netlist.specs.Nets.{Cell}
-use Rattle.gos_netlist.specs.Events.{Request, Answer}
+use Rattle.gos_types.specs.Events.{Request, Answer}
 use Rattle.gos_plan.specs.Kinds.{Part, Contact, contacts_of, part_contacts}
 use Rattle.gos_model.specs.Typing.{Imported}
 use Rattle.gos_plan.specs.Plans.{End, PartEnd, ImportEnd, ResultEnd, Joint, Plan, contacts_of_part, contacts_of_import, turned_if, contact_at, same_end, is_free, Fits, AreRight}

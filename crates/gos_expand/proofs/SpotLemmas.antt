@@ -7,7 +7,8 @@ use Rattle.std.proofs.lemmas.List.{length-map}
 use Rattle.std.proofs.lemmas.List.Elements.{Contains-append_left, Contains-append_right, Contains-append_cases, Contains-push_cases}
 use Rattle.gos_types.specs.Types.{Type', Com, Exp, Var, Pair, Fun, IsGround}
 use Rattle.gos_netlist.specs.Nets.{Function, Input, Reg, Cell, Side, Give, Take}
-use Rattle.gos_netlist.specs.Events.{Direction, Request, Answer, is_input}
+use Rattle.gos_netlist.specs.Events.{is_input}
+use Rattle.gos_types.specs.Events.{Direction, Request, Answer}
 use Rattle.gos_netcheck.specs.PortRules.{place, places, IsEnd, Fits, FitsAt, AllFit, inputs_among, AreNew}
 use Rattle.gos_plan.specs.Kinds.{Contact, contacts_of}
 use Rattle.gos_types.specs.Widths.{HasWidths}

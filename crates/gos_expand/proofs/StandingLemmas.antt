@@ -8,7 +8,7 @@ use Rattle.std.proofs.Common.{◌≡◌, inl, inr, ℕ, zero, suc, ◌+◌, ◌�
 use Rattle.gos_types.specs.declared.shakes.Role.{Role}
 use Rattle.gos_types.specs.declared.shakes.Role.TheVariants.{Serve, Ask}
 use Rattle.gos_netlist.specs.Nets.{Netlist}
-use Rattle.gos_netlist.specs.Events.{Direction, Request, Answer}
+use Rattle.gos_types.specs.Events.{Direction, Request, Answer}
 use Rattle.gos_netlist.specs.Settling.{Numbers, at}
 use Rattle.gos_plan.specs.Kinds.{Part, Contact, asks, serves}
 use Rattle.gos_plan.specs.Firing.{Token}
@@ -16,7 +16,8 @@ use Rattle.gos_plan.specs.Plans.{End, PartEnd, Joint, Plan, IsRight, Fits, conta
 use Rattle.gos_plan.specs.Tokens.{Tokens, Element, IsPortEnd, IsIdle, places_of, token_at, held_at, bits_of, way_taken}
 use Rattle.gos_plan.specs.TokenBits.{AllFit}
 use Rattle.gos_plan.specs.Orderly.{Open, none_open, AllWelcome, OrderlyFrom}
-use Rattle.gos_plan.specs.Gates.{Incoming, due, value_due, incoming_bits, bits_in, value_in}
+use Rattle.gos_gates.specs.Gates.{Incoming, incoming_bits, bits_in, value_in}
+use Rattle.gos_plan.specs.Firings.{due, value_due}
 use Rattle.gos_plan.specs.Projection.{TakesValues}
 use Rattle.gos_plan.proofs.AccountLemmas.{parts_fill_places}
 use Rattle.gos_plan.proofs.JointLemmas.{IsIn, found, fits}

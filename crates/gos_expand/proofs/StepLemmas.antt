@@ -5,15 +5,14 @@
 use Rattle.std.specs.Prelude.{Option, None}
 use Rattle.std.proofs.Common.{◌≡◌, ℕ, zero, suc, ◌+◌, ◌*◌, ◌≤◌, ◌<◌, Bool, true, false, List, [], ◌++◌, Some, slice_get, refl, sym, ◌∙◌, ap, subst, arith, nat_eq}
 use Rattle.gos_netlist.specs.Nets.{Netlist}
-use Rattle.gos_netlist.specs.Events.{Direction}
+use Rattle.gos_types.specs.Events.{Direction}
 use Rattle.gos_netlist.specs.Settling.{Numbers, at}
 use Rattle.gos_plan.specs.Kinds.{Part, Contact}
 use Rattle.gos_plan.specs.Firing.{Token}
 use Rattle.gos_plan.specs.Plans.{End, PartEnd, ImportEnd, ResultEnd, Joint, Plan, contact_at}
 use Rattle.gos_plan.specs.Tokens.{Tokens, Element, IsPortEnd, places_of, way_taken}
 use Rattle.gos_plan.specs.Orderly.{Open}
-use Rattle.gos_plan.specs.Gates.{due, value_due}
-use Rattle.gos_plan.specs.Law.{times}
+use Rattle.gos_plan.specs.Firings.{due, value_due, times}
 use Rattle.gos_plan.specs.Accounts.{count, outs_at, outs_sum, put_at, sum_put, taken_at, sum_taken, AddsUp, PartsPut}
 use Rattle.gos_plan.proofs.JointLemmas.{fits}
 use Rattle.gos_expand.specs.Gates.{outs_of, pending_of}

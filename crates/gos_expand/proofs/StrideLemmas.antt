@@ -8,14 +8,14 @@ use Rattle.std.proofs.lemmas.List.Elements.{All-from_recursion, All-contains}
 use Rattle.gos_types.specs.declared.shakes.Role.{Role}
 use Rattle.gos_types.specs.declared.shakes.Role.TheVariants.{Serve, Ask}
 use Rattle.gos_netlist.specs.Nets.{Cell, pins}
-use Rattle.gos_netlist.specs.Events.{Direction, Request, Answer}
+use Rattle.gos_types.specs.Events.{Direction, Request, Answer}
 use Rattle.gos_netlist.specs.Cycles.{IsRegister, Feeds}
 use Rattle.gos_plan.specs.Kinds.{Part, Contact, part_contacts, asks, serves}
 use Rattle.gos_plan.specs.Plans.{End, PartEnd, ImportEnd, ResultEnd, Joint, Plan, Fits, contacts_of_part, contact_at}
 use Rattle.gos_plan.specs.Tokens.{IsPortEnd, bits_of, way_put}
-use Rattle.gos_plan.specs.Gates.{Outgoing, Bare, Bearing, bits_out}
-use Rattle.gos_plan.specs.Fit.{IsKnown, reach_of, GoesOut, AllGoOut}
-use Rattle.gos_plan.specs.Paths.{Drives, IsIn, IsOut, with_renamed}
+use Rattle.gos_gates.specs.Gates.{Outgoing, Bare, Bearing, bits_out}
+use Rattle.gos_gates.specs.Fit.{IsKnown, reach_of, GoesOut, AllGoOut}
+use Rattle.gos_gates.specs.Paths.{Drives, IsIn, IsOut, with_renamed}
 use Rattle.gos_expand.specs.Blocks.{Nets}
 use Rattle.gos_expand.specs.Gates.{layout, outs_of, part_size}
 use Rattle.gos_expand.specs.Starts.{Keep, bits_taken}

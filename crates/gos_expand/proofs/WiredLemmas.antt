@@ -4,14 +4,14 @@
 use Rattle.std.proofs.Common.{◌≡◌, ◌+◌, ◌<◌, ◌⊎◌, ℕ, zero, suc, false, List, [], ◌∷◌, map, length, slice_get, Some, Contains, refl, sym, ap, subst, arith}
 use Rattle.std.proofs.lemmas.Option.{none-some, same_Some}
 use Rattle.gos_netlist.specs.Nets.{Function, Input, Const, Not, And, Or, Xor, Mux, Add, Sub, Eq, Less, Gate, Reg, Cell, pins}
-use Rattle.gos_netlist.specs.Events.{Direction}
+use Rattle.gos_types.specs.Events.{Direction}
 use Rattle.gos_netlist.specs.Cycles.{IsRegister}
 use Rattle.gos_plan.specs.Kinds.{Part, Contact, part_contacts}
 use Rattle.gos_plan.specs.Plans.{End, PartEnd, Joint, Plan, IsRight, contact_at}
 use Rattle.gos_plan.specs.Tokens.{IsPortEnd}
-use Rattle.gos_plan.specs.Gates.{Incoming}
-use Rattle.gos_plan.specs.Fit.{GatesFit}
-use Rattle.gos_plan.specs.Paths.{AreApart, Renames, renamed, with_renamed, KeepPaths}
+use Rattle.gos_gates.specs.Gates.{Incoming}
+use Rattle.gos_gates.specs.Fit.{GatesFit}
+use Rattle.gos_gates.specs.Paths.{AreApart, Renames, renamed, with_renamed, KeepPaths}
 use Rattle.gos_expand.specs.Blocks.{Nets}
 use Rattle.gos_expand.specs.Gates.{layout, outs_of, late_of, passing_of, part_size}
 use Rattle.gos_expand.specs.Starts.{Keep, bits_taken}

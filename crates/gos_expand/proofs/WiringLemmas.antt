@@ -6,11 +6,11 @@ use Rattle.std.specs.Prelude.{Option}
 use Rattle.std.proofs.Common.{◌≡◌, ◌+◌, ◌≤◌, ◌<◌, ◌⊎◌, ℕ, zero, suc, Bool, true, false, List, [], ◌∷◌, slice_get, take, Some, inl, inr, refl, sym, ap, subst, zero-add, arith}
 use Rattle.std.proofs.lemmas.Option.{none-some, same_Some, slice_get_within}
 use Rattle.gos_netlist.specs.Nets.{Function, Input, Const, Reg, Cell, Side, Give, Take}
-use Rattle.gos_netlist.specs.Events.{Request, Answer}
+use Rattle.gos_types.specs.Events.{Request, Answer}
 use Rattle.gos_plan.specs.Kinds.{Part, Contact}
 use Rattle.gos_plan.specs.Plans.{End, PartEnd, ImportEnd, ResultEnd, Joint, Plan, contact_at}
 use Rattle.gos_plan.specs.Tokens.{IsPortEnd}
-use Rattle.gos_plan.specs.Paths.{KeepPaths}
+use Rattle.gos_gates.specs.Paths.{KeepPaths}
 use Rattle.gos_expand.specs.Blocks.{Nets, token_cells, inputs, registers, total}
 use Rattle.gos_expand.specs.Gates.{layout, outs_of, late_of, passing_of, part_size}
 use Rattle.gos_expand.specs.Starts.{Keep, Outer, bits_taken, shake_size, part_start}

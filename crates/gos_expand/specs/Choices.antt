@@ -4,7 +4,7 @@
 -- answer. One is left out exactly where the netlist without its register, without those already left out and with all later
 -- ones has no combinational cycle.
 use Rattle.std.specs.Prelude.{◌≡◌, ℕ, List, true, false, not, Some, None, slice_get, nat_eq, nat_lt, if◌then◌else◌}
-use Rattle.gos_netlist.specs.Events.{Direction}
+use Rattle.gos_types.specs.Events.{Direction}
 use Rattle.gos_netlist.specs.Nets.{Netlist}
 use Rattle.gos_netlist.specs.Cycles.{HasCycle}
 use Rattle.gos_plan.specs.Plans.{Joint, Plan}

@@ -1,12 +1,12 @@
 -- The cycles of a plan's netlist are lists of the plan.
 --
--- Read first: Acceptance, Facts; Cycles of gos_plan; Protocol of gos_model.
+-- Read first: Acceptance, Facts; Cycles of gos_pace; Protocol of gos_model.
 use Rattle.std.specs.Prelude.{ℕ, List}
 use Rattle.gos_netlist.specs.Cycles.{HasCycle}
 use Rattle.gos_netlist.specs.Settling.{Numbers, IsRun}
-use Rattle.gos_model.specs.Protocol.{InputsInRange}
+use Rattle.gos_pace.specs.RunProtocol.{InputsInRange}
 use Rattle.gos_plan.specs.Seen.{SeenPlan, plan_of}
-use Rattle.gos_plan.specs.Cycles.{CyclesAreLists}
+use Rattle.gos_pace.specs.Cycles.{CyclesAreLists}
 use Rattle.gos_expand.specs.Starts.{Keep}
 use Rattle.gos_expand.specs.Laid.{laid}
 use Rattle.gos_expand.specs.Acceptance.{CanBeLaid}

@@ -4,7 +4,7 @@
 -- no joint, and each part, in this order.
 use Rattle.std.specs.Prelude.{ℕ, suc, ◌+◌, Bool, true, List, [], ◌∷◌, ◌++◌, Option, Some, None, take, filter, get_or, if◌then◌else◌}
 use Rattle.gos_netlist.specs.Nets.{Side, Give, Take}
-use Rattle.gos_netlist.specs.Events.{Direction, Request, Answer}
+use Rattle.gos_types.specs.Events.{Direction, Request, Answer}
 use Rattle.gos_plan.specs.Kinds.{Part, Contact, contacts_of, part_contacts}
 use Rattle.gos_model.specs.Typing.{Imported}
 use Rattle.gos_plan.specs.Plans.{End, PartEnd, ImportEnd, ResultEnd, Joint, Plan, contact_at, same_end, is_free}

@@ -2,7 +2,7 @@
 ghost use Rattle.std.specs.Prelude.{◌≡◌, ◌≤◌, ◌<◌, ◌+◌, Some, length, slice_get, IsSome};
 ghost use Rattle.gos_types.specs.Types.{type_of, IsGround};
 ghost use Rattle.gos_plan.specs.Kinds.{Contact as AContact, contacts_of, part_contacts};
-ghost use Rattle.gos_plan.specs.Gates.{bits_out};
+ghost use Rattle.gos_gates.specs.Gates.{bits_out};
 ghost use Rattle.gos_plan.specs.Plans.{contact_at, IsRight};
 ghost use Rattle.gos_plan.specs.Ranges.{IsInRange};
 ghost use Rattle.gos_plan.specs.Seen.{plan_of, part_of, end_of};
@@ -18,8 +18,9 @@ use crate::gates::gates_of;
 use crate::numbering::Numbering;
 use crate::places::shakes;
 use crate::tokens::{Nets, nets_from, token_size};
+use gos_gates::{Macro, Wire};
 use gos_netlist::NetId;
-use gos_plan::{End, Kind, Macro, Plan, Wire};
+use gos_plan::{End, Kind, Plan};
 use gos_types::{Role, Ty};
 
 // The nets of what goes into the circuit at an end: of a part's gates, or of the inputs of a port.

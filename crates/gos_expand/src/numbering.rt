@@ -1,7 +1,7 @@
 // Where the blocks of a plan's netlist begin: of ports, of joints, of ends in no joint, and of parts, in this order.
-ghost use Rattle.std.specs.Prelude.{◌≡◌, ◌≤◌, ◌<◌, ◌+◌, ◌*◌, ℕ, List, Option, None, is_none, map, filter, length, IfOk, IsSome};
+ghost use Rattle.std.specs.Prelude.{◌≡◌, ◌≤◌, ◌<◌, ◌+◌, ◌*◌, ℕ, Option, None, is_none, map, filter, length, IfOk, IsSome};
 ghost use Rattle.gos_types.specs.Types.{type_of, IsGround};
-ghost use Rattle.gos_netlist.specs.Events.{Request, Answer};
+ghost use Rattle.gos_types.specs.Events.{Request, Answer};
 ghost use Rattle.gos_plan.specs.Kinds.{contacts_of, part_contacts};
 ghost use Rattle.gos_plan.specs.Plans.{End as AnEnd, Plan as APlan, contact_at, is_free, IsRight};
 ghost use Rattle.gos_plan.specs.Seen.{plan_of, part_of, end_of, joint_of};
@@ -26,7 +26,7 @@ ghost use Rattle.gos_expand.specs.Starts.{
   bits_taken,
 };
 ghost use Rattle.gos_expand.specs.declared.arrivals.Origin.{Origin as AnOrigin};
-ghost use Rattle.gos_expand.specs.inner.Arrivals.{AreAt, Exist, or_else, by_way, start_by, start_by_joints, start_by_ends, joined_start, start_at};
+ghost use Rattle.gos_expand.specs.inner.Arrivals.{AreAt, Exist, or_else, by_way, start_by, start_by_ends, joined_start};
 ghost use Rattle.gos_expand.specs.Acceptance.{HasGroundPorts};
 ghost use Rattle.gos_expand.specs.inner.Numbering.{IsNumbered, starts};
 
@@ -34,7 +34,8 @@ use crate::arrivals::{Arrivals, Origin};
 use crate::gates::gates_of;
 use crate::places::all_ends;
 use crate::tokens::token_size;
-use gos_plan::{End, Joint, Kind, Macro, Plan};
+use gos_gates::Macro;
+use gos_plan::{End, Joint, Kind, Plan};
 use gos_types::{NoMemory, Ty};
 use std::alloc::Global;
 

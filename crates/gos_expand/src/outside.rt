@@ -1,8 +1,8 @@
 // The ports of a netlist.
-ghost use Rattle.std.specs.Prelude.{◌≡◌, ◌∷◌, ◌+◌, ◌≤◌, List, map, IfOk};
+ghost use Rattle.std.specs.Prelude.{◌≡◌, ◌∷◌, ◌+◌, ◌≤◌, IfOk};
 ghost use Rattle.gos_types.specs.Types.{type_of, IsGround};
 ghost use Rattle.gos_netlist.specs.Nets.{Give};
-ghost use Rattle.gos_netlist.specs.Seen.{number_of, side_of, ground_type};
+ghost use Rattle.gos_netlist.specs.Seen.{side_of, ground_type};
 ghost use Rattle.gos_plan.specs.Kinds.{contacts_of};
 ghost use Rattle.gos_plan.specs.Seen.{plan_of};
 ghost use Rattle.gos_expand.specs.Blocks.{nets_on, total};

@@ -1,30 +1,29 @@
 // The cells of a plan, in four groups: of the ports, of the joints, of the ends in no joint, and of the parts.
 ghost use Rattle.std.specs.Prelude.{◌≡◌, ◌≤◌, ◌<◌, ◌+◌, None, Some, length, slice_get, IsSome};
-ghost use Rattle.gos_types.specs.Types.{type_of, IsGround};
 ghost use Rattle.gos_netlist.specs.Seen.{side_of};
-ghost use Rattle.gos_plan.specs.Kinds.{Part, contacts_of, part_contacts};
+ghost use Rattle.gos_plan.specs.Kinds.{Part, part_contacts};
 ghost use Rattle.gos_plan.specs.Contacts.{contact_held};
 ghost use Rattle.gos_plan.specs.Plans.{contact_at, IsRight};
-ghost use Rattle.gos_plan.specs.Seen.{plan_of, part_of, joint_of, end_of};
-ghost use Rattle.gos_plan.specs.Wires.{incoming_of};
+ghost use Rattle.gos_plan.specs.Seen.{plan_of, joint_of, end_of};
+ghost use Rattle.gos_gates.specs.Wires.{incoming_of};
 ghost use Rattle.gos_expand.specs.Blocks.{blocks};
 ghost use Rattle.gos_expand.specs.Gates.{part_size};
-ghost use Rattle.gos_expand.specs.Starts.{kept_size, shake_size, joint_size, bits_if, ports_of, taken_ports, loose_ends, port_size, part_start, parts_start};
+ghost use Rattle.gos_expand.specs.Starts.{kept_size, shake_size, joint_size, ports_of, taken_ports, loose_ends, part_start, parts_start};
 ghost use Rattle.gos_expand.specs.Laid.{registers_if, leaves, side_cells, port_cells, joint_cells, loose_cells, part_cells, incoming};
 ghost use Rattle.gos_expand.specs.inner.Tokens.{held_nets, Places};
 ghost use Rattle.gos_plan.specs.Size.{plan_size};
 ghost use Rattle.gos_expand.specs.Acceptance.{HasGroundPorts};
 ghost use Rattle.gos_expand.specs.inner.Numbering.{IsNumbered, keep_in};
-ghost use Rattle.gos_expand.specs.inner.Outers.{outer_at, side_at};
+ghost use Rattle.gos_expand.specs.inner.Outers.{outer_at};
 
 use crate::gates::gates_of;
 use crate::leaves::{arrives, leaves, no_wires};
 use crate::numbering::{Numbering, bits_at, kept};
 use crate::places::{Place, shakes};
 use crate::tokens::{Nets, place_inputs, place_nothing, place_registers};
-use gos_netlist::{NetId, Side};
-use gos_plan::{Contact, End, Joint, Macro, Plan, Wire};
-use gos_pool::{NetPool, Region};
+use gos_gates::{Macro, Wire};
+use gos_netlist::{NetId, NetPool, Region, Side};
+use gos_plan::{Contact, End, Joint, Plan};
 use gos_types::count;
 
 // Places the cells of the ports.

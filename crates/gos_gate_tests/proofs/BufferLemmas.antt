@@ -1,10 +1,10 @@
 -- The gates of Skip, of which the one handshake passes on to itself.
 use Rattle.std.proofs.Common.{◌≡◌, ◌<◌, ℕ, zero, suc, Bool, true, subst, refl, arith}
 use Rattle.gos_plan.specs.Kinds.{Skip}
-use Rattle.gos_plan.specs.SmallGates.{skip_cells, skip_outs}
-use Rattle.gos_plan.specs.SmallPaths.{skip_passing}
-use Rattle.gos_plan.specs.Paths.{TellsIfItPasses}
-use Rattle.gos_plan.specs.laws.SkipPaths.{skip_passes}
+use Rattle.gos_gates.specs.SmallGates.{skip_cells, skip_outs}
+use Rattle.gos_gates.specs.SmallPaths.{skip_passing}
+use Rattle.gos_gates.specs.Paths.{TellsIfItPasses}
+use Rattle.gos_gates.specs.laws.SkipPaths.{skip_passes}
 
 always : (from to : ℕ) → from < 1 → to < 1 → skip_passing from to ≡ true
 always zero zero low near = refl

@@ -1,6 +1,6 @@
 // Each kind that passes control on, alone in a pool with room for exactly its cells and one region.
 use crate::trial::place_alone;
-use gos_control::Control;
+use gos_gates::Control;
 use gos_netlist::{Gate, NetId};
 use gos_plan::Kind;
 use std::test::Fail;

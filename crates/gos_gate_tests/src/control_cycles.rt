@@ -1,6 +1,6 @@
 // Each kind that passes control on, settled cycle by cycle over the worked steps of its firing rule.
 use crate::trial::{NO, PULSE, ShortCycle, first_wrong, runs_short, widened};
-use gos_control::Control;
+use gos_gates::Control;
 use gos_plan::Kind;
 use std::test::Fail;
 

@@ -1,6 +1,6 @@
 // Each kind that gives, computes, reads or writes numbers, alone in a pool with room for exactly its cells and one region.
 use crate::trial::place_alone;
-use gos_data::Arith;
+use gos_gates::Arith;
 use gos_netlist::{Gate, NetId};
 use gos_plan::{Kind, Op2};
 use std::test::Fail;

@@ -1,6 +1,6 @@
 // Each kind that gives, computes, reads or writes numbers, settled cycle by cycle over the worked steps of its firing rule.
 use crate::trial::{NO, PULSE, ShortCycle, runs_short};
-use gos_data::Arith;
+use gos_gates::Arith;
 use gos_plan::{Kind, Op2};
 use std::alloc::Global;
 use std::test::Fail;

@@ -1,16 +1,15 @@
 // The gates of Skip, placed in a pool.
 ghost use Rattle.std.specs.Prelude.{[]};
 ghost use Rattle.gos_plan.specs.Kinds.{Skip};
-ghost use Rattle.gos_plan.specs.Gates.{nothing_pending};
-ghost use Rattle.gos_plan.specs.SmallGates.{skip_cells, skip_outs, skip_stands};
-ghost use Rattle.gos_plan.specs.SmallPaths.{skip_passing};
-ghost use Rattle.gos_plan.specs.laws.SkipKept.{skip_gates};
-ghost use Rattle.gos_plan.specs.laws.SkipPaths.{skip_paths};
+ghost use Rattle.gos_gates.specs.Gates.{nothing_pending};
+ghost use Rattle.gos_gates.specs.SmallGates.{skip_cells, skip_outs, skip_stands};
+ghost use Rattle.gos_gates.specs.SmallPaths.{skip_passing};
+ghost use Rattle.gos_gates.specs.laws.SkipKept.{skip_gates};
+ghost use Rattle.gos_gates.specs.laws.SkipPaths.{skip_paths};
 
 use crate::trial::place_alone;
-use gos_netlist::{Cell, Gate, NetId};
-use gos_plan::{Macro, Wire};
-use gos_pool::{NetPool, Region};
+use gos_gates::{Macro, Wire};
+use gos_netlist::{Cell, Gate, NetId, NetPool, Region};
 use std::test::Fail;
 
 // The gates of Skip: the request is the answer.

@@ -1,6 +1,5 @@
 // The calls of a pool, in their order.
-use gos_netlist::{Cell, Gate, NetId};
-use gos_pool::{NetPool, marks_stay};
+use gos_netlist::{Cell, Gate, NetId, NetPool, marks_stay};
 use std::test::Fail;
 
 // A bit that is what another net was in the cycle before.

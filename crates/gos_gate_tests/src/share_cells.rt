@@ -1,6 +1,6 @@
 // A Share of each sort of type, alone in a pool with room for exactly its cells and one region.
 use crate::trial::place_alone;
-use gos_share::Sharing;
+use gos_gates::Sharing;
 use gos_types::Ty;
 use std::test::Fail;
 

@@ -1,6 +1,6 @@
 // A Share of each sort of type, settled cycle by cycle over the worked steps of its firing rule.
 use crate::trial::{Cycle, NO, PULSE, QUIET, runs};
-use gos_share::Sharing;
+use gos_gates::Sharing;
 use gos_types::Ty;
 use std::test::Fail;
 

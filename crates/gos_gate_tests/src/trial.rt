@@ -5,10 +5,9 @@
 ghost use Rattle.std.specs.Prelude.{◌≡◌, ◌≤◌, All, IfOk, IsTrue, length};
 ghost use Rattle.gos_plan.specs.Kinds.{part_contacts};
 
-use gos_netlist::{Cell, Gate, NetId, Netlist, SettleFault, settle};
-use gos_plan::cells::{bit, wide};
-use gos_plan::{Macro, Wire};
-use gos_pool::NetPool;
+use gos_gates::cells::{bit, wide};
+use gos_gates::{Macro, Wire};
+use gos_netlist::{Cell, Gate, NetId, NetPool, Netlist, SettleFault, settle};
 use gos_types::NoMemory;
 use std::alloc::{AllocError, Global};
 use std::test::Fail;

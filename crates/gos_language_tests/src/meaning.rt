@@ -1,8 +1,5 @@
 // The laws are functions, so they return.
-use gos_model::{
-    keeping_pace, latch_pulses, reached_places, sequences, small_modules, small_traces,
-    types_of_terms, writes,
-};
+use gos_model::{reached_places, sequences, small_modules, small_traces, types_of_terms, writes};
 
 #[test]
 fn laws_return() {
@@ -12,6 +9,4 @@ fn laws_return() {
     types_of_terms();
     reached_places();
     writes();
-    latch_pulses();
-    keeping_pace();
 }

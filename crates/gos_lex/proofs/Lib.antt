@@ -9,4 +9,11 @@ pub mod ItemLemmas
 pub mod NameLemmas
 pub mod DecimalLemmas
 pub mod SignLemmas
+pub mod SequenceLemmas
+pub mod NumberTextLemmas
+pub mod NameTextLemmas
+pub mod WordTableLemmas
 mod EntryLemmas
+mod LineLemmas
+mod LineNumberLemmas
+mod LineWordLemmas

@@ -10,5 +10,8 @@ pub mod Tokens
 pub mod OneReading
 pub mod Items
 pub mod Decimals
+pub mod ItemTexts
 pub mod NameTables
+pub mod Lines
+pub mod LineNumbers
 pub mod inner

@@ -3,7 +3,6 @@
 ghost use Rattle.std.specs.Prelude.{◌≡◌, ◌<◌, ◌≤◌, length, take, IsTrue, IfOk, IfErr};
 ghost use Rattle.std.specs.Char.{is_ascii_digit};
 ghost use Rattle.std.specs.List.{prefix_len};
-ghost use Rattle.gos_lex.specs.Bytes.{continues_name};
 ghost use Rattle.gos_lex.specs.Names.{spells_name};
 ghost use Rattle.gos_lex.specs.Numerals.{is_numeral};
 ghost use Rattle.gos_lex.specs.Lexemes.{is_lexeme, IsLongest};

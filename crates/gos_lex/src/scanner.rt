@@ -1,6 +1,6 @@
 // The tokens of a text, one after another.
 
-ghost use Rattle.std.specs.Prelude.{◌≡◌, ◌≤◌, length, IfOk, IfErr, MatchOption, Some, None, All};
+ghost use Rattle.std.specs.Prelude.{◌≤◌, length, IfOk, IfErr, MatchOption, Some, None, All};
 ghost use Rattle.gos_lex.specs.Tokens.{EndsWith, IsNext, StandsIn, Reads, HasFault};
 
 use crate::fault::LexFault;

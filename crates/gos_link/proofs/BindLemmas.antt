@@ -1,11 +1,11 @@
 -- How the bind lines of a build read on, line by line.
-use Rattle.std.proofs.Common.{◌≡◌, ◌<◌, ℕ, List, [], ◌∷◌, ◌++◌, refl, sym, subst, Option, Some, None, append-nil, append_assoc, length, zero, suc, arith}
+use Rattle.std.proofs.Common.{◌≡◌, ◌<◌, ℕ, List, [], ◌∷◌, ◌++◌, refl, sym, subst, Option, Some, None, append-nil, append_assoc, length, zero, suc, arith, map}
 use Rattle.std.proofs.lemmas.List.Quantifiers.{position-Some}
 use Rattle.std.specs.Str.{bytes_eq}
 use Rattle.std.specs.Prelude.{slice_get}
 use Rattle.gos_types.specs.declared.types.Ty.TheVariants.{Com}
 use Rattle.gos_plan.specs.declared.plan.PlanImport.{PlanImport}
-use Rattle.gos_lines.specs.Lines.{Word}
+use Rattle.gos_lex.specs.Lines.{Word}
 use Rattle.gos_plan.specs.Seen.{SeenPlan}
 use Rattle.gos_link.specs.declared.build.Instance.{Instance}
 use Rattle.gos_link.specs.declared.build.Bind.{Bind}
@@ -14,7 +14,6 @@ use Rattle.gos_link.specs.declared.fault.LinkFault.{LinkFault}
 use Rattle.gos_link.specs.Services.{instance_named, import_named, Means, IsRightBind, IsWrongBind, BindsOn}
 use Rattle.gos_link.specs.inner.Tops.{AreTops, top_at, moved}
 use Rattle.gos_link.proofs.TopLemmas.{tops_more}
-use Rattle.std.proofs.Common.{map}
 
 -- an instance that is found is one of them
 pub instance_low : (is : List Instance) (name : Word) (k : ℕ) → instance_named is name ≡ Some k → k < length is

@@ -1,7 +1,7 @@
 -- How the statements of a build file read on, line by line.
 use Rattle.std.proofs.Common.{◌≡◌, ℕ, List, [], ◌∷◌, ◌++◌, ◌-◌, ◌∙◌, suc, length, arith, ap, refl, sym, subst, Option, Some, None, append-nil, append_assoc}
 use Rattle.std.specs.Prelude.{slice_get}
-use Rattle.gos_lines.specs.Lines.{Word, Statement}
+use Rattle.gos_lex.specs.Lines.{Word, Statement}
 use Rattle.gos_link.specs.BuildFile.{IsRightAfter, IsWrongAt, ReadsOn, last_sort, sort_of}
 use Rattle.gos_link.specs.declared.said.Said.{Said}
 use Rattle.gos_link.specs.declared.said.Item.{Item}

@@ -7,7 +7,7 @@ use Rattle.std.proofs.lemmas.Option.{slice_get-map}
 use Rattle.std.proofs.lemmas.Slice.Eq.{bytes_eq-Decides}
 use Rattle.gos_types.specs.Types.{IsGround}
 use Rattle.gos_plan.specs.Joining.{LeftImport}
-use Rattle.gos_lines.specs.Lines.{Word}
+use Rattle.gos_lex.specs.Lines.{Word}
 use Rattle.gos_link.specs.declared.opens.Open.{Open}
 use Rattle.gos_link.specs.declared.build.Instance.{Instance}
 use Rattle.gos_lex.specs.declared.table.NameTable.{NameTable}

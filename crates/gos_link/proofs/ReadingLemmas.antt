@@ -1,7 +1,7 @@
 -- A text reads in one way: what a line says is one thing, and so is what lines say together, or the first wrong line.
 use Rattle.std.specs.Prelude.{◌≡◌, ◌≢◌, ◌≤◌, ◌+◌, ℕ, List, [], ◌∷◌, ◌++◌, Option, Some, None, length}
 use Rattle.std.proofs.Common.{refl, sym, ◌∙◌, ap, subst, arith, inl, inr, length-append}
-use Rattle.gos_lines.specs.Lines.{Word, Words, Statement, statements_of}
+use Rattle.gos_lex.specs.Lines.{Word, Words, Statement, statements_of}
 use Rattle.gos_link.specs.declared.said.Role.{Role}
 use Rattle.gos_link.specs.declared.said.Role.TheVariants as roles
 use Rattle.gos_link.specs.declared.said.Said.{Said}

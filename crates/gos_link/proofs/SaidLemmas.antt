@@ -3,7 +3,7 @@ use Rattle.std.proofs.Common.{◌≡◌, [], ◌∷◌, sym, subst}
 use Rattle.std.specs.Prelude.{codes}
 use Rattle.gos_outside.specs.FileName.{IsFileName}
 use Rattle.gos_lex.specs.Names.{IsName}
-use Rattle.gos_lines.specs.Lines.{Word, Words}
+use Rattle.gos_lex.specs.Lines.{Word, Words}
 use Rattle.gos_link.specs.BuildFile.{keyword, Says}
 use Rattle.gos_link.specs.declared.said.Role.{Role}
 use Rattle.gos_link.specs.declared.said.Said.{Said}

@@ -8,7 +8,7 @@ use Rattle.std.specs.Str.{bytes_eq}
 use Rattle.std.specs.Str.Lines.{lines}
 use Rattle.gos_outside.specs.FileName.{IsFileName}
 use Rattle.gos_lex.specs.Names.{IsName}
-use Rattle.gos_lines.specs.Lines.{Word, Words, Statement, statements_of}
+use Rattle.gos_lex.specs.Lines.{Word, Words, Statement, statements_of}
 use Rattle.gos_link.specs.declared.build.Instance.{Instance}
 use Rattle.gos_link.specs.declared.build.Bind.{Bind}
 use Rattle.gos_link.specs.declared.build.Build.{Build}

@@ -1,7 +1,6 @@
 // The joining of plans along services.
 
 ghost use Rattle.std.specs.Prelude.{◌≡◌, ◌<◌, ◌^◌, ◌++◌, All, map, IfOk, OnOk};
-ghost use Rattle.gos_types.specs.Types.{type_of};
 ghost use Rattle.gos_plan.specs.Seen.{part_of, import_of, plan_of};
 ghost use Rattle.gos_plan.specs.Ranges.{IsInRange, IsSmall};
 ghost use Rattle.gos_plan.specs.Joining.{IsJoining, all_parts, all_weight};

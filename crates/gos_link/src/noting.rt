@@ -1,6 +1,6 @@
 // What the lines of a build file say together.
 
-ghost use Rattle.std.specs.Prelude.{◌≡◌, ◌∷◌, [], IfOk, OnOk, MatchOption};
+ghost use Rattle.std.specs.Prelude.{◌≡◌, IfOk, OnOk, MatchOption};
 ghost use Rattle.gos_link.specs.BuildFile.{with_said, with_file as with_one_file, sum_of, nothing, whole};
 ghost use Rattle.gos_link.specs.inner.Noting.{sum_noted};
 

@@ -1,8 +1,8 @@
 // The reader of build files.
 
-ghost use Rattle.std.specs.Prelude.{◌≡◌, ◌≢◌, ◌<◌, ◌≤◌, ◌+◌, ◌&&◌, ◌^◌, ◌↔◌, [], ℕ, Some, None, map, length, IfOk, IfErr, IsTrue, MatchOption};
+ghost use Rattle.std.specs.Prelude.{◌≡◌, ◌≢◌, ◌<◌, ◌≤◌, ◌+◌, ◌&&◌, ◌^◌, [], ℕ, Some, None, map, length, IfOk, IfErr, MatchOption};
 ghost use Rattle.std.specs.Str.Lines.{lines};
-ghost use Rattle.gos_lines.specs.Lines.{statements_from};
+ghost use Rattle.gos_lex.specs.Lines.{statements_from};
 ghost use Rattle.gos_link.specs.BuildFile.{
   sort_of,
   IsWrongAt,
@@ -24,7 +24,7 @@ use crate::build::Build;
 use crate::fault::LinkFault;
 use crate::noting::build_of;
 use crate::said::{Item, Said, said_by};
-use gos_lines::{count_lines, next_line};
+use gos_lex::{count_lines, next_line};
 use gos_types::NoMemory;
 use std::alloc::Global;
 

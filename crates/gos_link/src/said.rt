@@ -1,9 +1,8 @@
 // What one line of a build file says.
 
-ghost use Rattle.std.specs.Prelude.{◌≡◌, ◌↔◌, ◌∷◌, [], IsTrue, IfOk, MatchOption, map, codes};
+ghost use Rattle.std.specs.Prelude.{◌≡◌, ◌∷◌, [], IfOk, MatchOption, map, codes};
 ghost use Rattle.gos_lex.specs.Names.{IsName};
-ghost use Rattle.gos_outside.specs.FileName.{IsFileName};
-ghost use Rattle.gos_lines.specs.Lines.{Word};
+ghost use Rattle.gos_lex.specs.Lines.{Word};
 ghost use Rattle.gos_link.specs.BuildFile.{keyword, Says, sort_of, sort_of_file, is_instance, is_source, is_no_source};
 
 use crate::file_name::FileName;

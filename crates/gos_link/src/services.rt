@@ -1,6 +1,6 @@
 // What the bind lines of a build mean: which instance serves which import of which other one.
 
-ghost use Rattle.std.specs.Prelude.{◌≡◌, ◌≢◌, ◌<◌, ◌+◌, ◌∷◌, [], ℕ, List, Some, None, length, map, IfOk, IfErr};
+ghost use Rattle.std.specs.Prelude.{◌≡◌, ◌≢◌, ◌<◌, [], ℕ, List, Some, None, length, map, IfOk, IfErr};
 ghost use Rattle.gos_types.specs.Types.{type_of};
 ghost use Rattle.gos_link.specs.Services.{instance_named, import_named, Means, first_bound, first_used, IsRightBind, IsWrongBind, BindsOn};
 ghost use Rattle.gos_link.specs.inner.Tops.{AreTops, moved, top_at};

@@ -1,7 +1,7 @@
 // What is asked of a build behind its bind lines: the root, places, names, types and weight.
 
-ghost use Rattle.std.specs.Prelude.{◌≡◌, ◌≢◌, ◌<◌, ◌≤◌, ◌∷◌, ◌⊎◌, ℕ, List, Some, None, length, map, slice_get, IfOk, IfErr, OnOk, IsTrue, MatchOption, ◌↔◌};
-ghost use Rattle.gos_types.specs.Types.{IsGround, type_of};
+ghost use Rattle.std.specs.Prelude.{◌≡◌, ◌≢◌, ◌<◌, ◌≤◌, ◌∷◌, ℕ, List, Some, None, length, map, slice_get, IfOk, IfErr, IsTrue, MatchOption, ◌↔◌};
+ghost use Rattle.gos_types.specs.Types.{type_of};
 ghost use Rattle.gos_plan.specs.Seen.{SeenPlan};
 ghost use Rattle.gos_plan.specs.Joining.{LeftImport};
 ghost use Rattle.gos_link.specs.Linked.{AreDifferent, AreGround, IsDone, IsFirstHigher, IsPlaced, IsSecond, IsWrongWhole, first_unplaced, is_placed, port_of};

@@ -1,13 +1,3 @@
-mod CountLemmas
-mod ChainLemmas
-mod SoundLemmas
-mod NamedLemmas
-mod GrowLemmas
-mod WholeLemmas
-mod RewiredLemmas
-mod BodyLemmas
-mod TypedLemmas
-mod OpenLemmas
-mod LinkedLemmas
-mod ModuleLemmas
-mod SmallLemmas
+pub mod keeping
+pub mod fits
+pub mod linked

@@ -1,4 +1,4 @@
--- In reading order: a file uses only files above it.
-pub mod Linked
-pub mod Modules
-pub mod SmallLinks
+-- In reading order: a chapter uses only chapters above it.
+pub mod keeping
+pub mod fits
+pub mod linked

@@ -1,40 +1,4 @@
-// What the definitions give. Each theorem is the contract of a function that does nothing.
-ghost use Rattle.gos_linked.specs.Linked.{LinkedIsGround, LinkedIsRealised};
-ghost use Rattle.gos_linked.specs.Modules.{LinkedHasWeight, LinkedIsDone, LinkedIsModule, LinkedKeepsPace};
-ghost use Rattle.gos_linked.specs.SmallLinks.{ServedIsSubstituted, SkipRealisesNoUse, UnservedStays, UseIsRealised};
-
-use gos_fits::slim_plans_fit;
-use gos_ports::{modules_keep_pace, ports};
-use gos_realises::small_realisers;
-use gos_served::rewired_trees;
-
-/// The linked plan of a build realises the root's body in which each bound import is its giver's substituted program.
-pub fn linked_plans()
-    ensures realised { LinkedIsRealised }
-    ensures ground { LinkedIsGround }
-{
-    rewired_trees();
-}
-
-/// The linked plan of modules is that of a module, of the summed weight, and its netlist keeps pace with the substituted program.
-pub fn linked_modules()
-    ensures module { LinkedIsModule }
-    ensures done { LinkedIsDone }
-    ensures pace { LinkedKeepsPace }
-    ensures weight { LinkedHasWeight }
-{
-    linked_plans();
-    ports();
-    modules_keep_pace();
-    slim_plans_fit();
-}
-
-/// Two instances with one service, one instance without, and plans that realise a term and don't.
-pub fn small_links()
-    ensures served { ServedIsSubstituted }
-    ensures unserved { UnservedStays }
-    ensures realised { UseIsRealised }
-    ensures skip { SkipRealisesNoUse }
-{
-    small_realisers();
-}
+// In reading order.
+pub mod fits;
+pub mod keeping;
+pub mod linked;

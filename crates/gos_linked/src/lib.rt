@@ -1,8 +1,7 @@
-// That a build's linked plan realises the substituted program.
+// The linked plan realises the program put together, and its netlist keeps pace with it.
 //
-// Definitions and laws alone. Read `specs/Linked`, `specs/Modules`, and then laws.rt.
+// Laws alone: each function does nothing, and its contract is the law. `laws.rt` has the chapters in reading order; the
+// definitions of a chapter stand in its folder of `specs`, and what it is about in README.md.
 #![tactic(auto)]
 
-mod laws;
-
-pub use laws::{linked_modules, linked_plans, small_links};
+pub mod laws;

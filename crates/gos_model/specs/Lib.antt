@@ -10,10 +10,7 @@ pub mod Labels
 pub mod Moves
 pub mod Linking
 pub mod Sources
-pub mod Flattening
 pub mod Protocol
-pub mod Pace
 pub mod SmallPrograms
 pub mod SmallModules
-pub mod SmallPace
 pub mod Laws

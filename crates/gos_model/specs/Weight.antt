@@ -2,7 +2,7 @@
 --
 -- Read first: Typing. A node weighs 4 and the handshakes of its type; the handshakes of the imports
 -- count once more.
-use Rattle.std.specs.Prelude.{ℕ, ◌+◌, List, [], ◌∷◌, length, sum_by, Option, Some, None, slice_get}
+use Rattle.std.specs.Prelude.{ℕ, ◌+◌, List, [], ◌∷◌, length, sum_by, Option, Some, None, slice_get, ◌*◌}
 use Rattle.gos_types.specs.Types.{Type', Com, Exp, Var, Pair, Fun}
 use Rattle.gos_types.specs.Handshakes.{handshakes_of}
 use Rattle.gos_model.specs.Terms.{Op, Term, Skip, Lit, Bound, Import, Lam, App, Both, Fst, Snd, Seq, Par, If, While, Assign, Deref, New, Not, Bin, Loc, Scope, Wait, Held, Put, result_width}
@@ -101,3 +101,7 @@ nodes_weight i g (Put m k) = 0
 -- the weight of a module: its body's nodes, and the handshakes of its imports once
 abbrev pub weight : Imports → Term → ℕ
 weight i m = nodes_weight i [] m + sum_by (λ x. count x.ty) i
+
+-- the pace bound of a program with this weight, in cycles
+abbrev pub pace : ℕ → ℕ
+pace w = 32 * (w + 1)

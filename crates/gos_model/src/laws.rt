@@ -9,7 +9,6 @@ ghost use Rattle.gos_model.specs.Laws.{
   AbsentIsNotWritten,
 };
 ghost use Rattle.gos_model.specs.SmallModules.{Weights, Types, Shared, Links, LinkWeighs};
-ghost use Rattle.gos_model.specs.SmallPace.{LatchFlattens, SilentLags, SkipKeepsPace};
 ghost use Rattle.gos_model.specs.SmallPrograms.{
   SeqRuns,
   SeqWaits,
@@ -66,15 +65,4 @@ pub fn reached_places()
 pub fn writes()
     ensures left { WritesStore }
     ensures absent { AbsentIsNotWritten }
-{}
-
-/// The pulses of a latch are run in cycle 0, and done in all later ones.
-pub fn latch_pulses()
-    ensures { LatchFlattens }
-{}
-
-/// The circuit of `skip` keeps pace with it, for every list of inputs, and one that never answers does not.
-pub fn keeping_pace()
-    ensures keeps { SkipKeepsPace }
-    ensures silent { SilentLags }
 {}

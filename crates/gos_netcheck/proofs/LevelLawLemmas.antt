@@ -1,9 +1,8 @@
 -- The levels of small netlists, and that a combinational cycle has none.
 use Rattle.std.specs.Prelude.{◌≡◌, ℕ, zero, suc, ◌≤◌, List, [], ◌∷◌, Option, Some, slice_get, max}
-use Rattle.std.proofs.Common.{arith, refl, subst}
+use Rattle.std.proofs.Common.{arith, refl, subst, sym, ◌∙◌}
 use Rattle.std.proofs.Math.Nat.{le-max_left, le-max_right}
 use Rattle.std.proofs.lemmas.Option.{same_Some}
-use Rattle.std.proofs.Common.{sym, ◌∙◌}
 use Rattle.gos_netlist.specs.Nets.{Cell, Input, Const, Or, And, Reg}
 use Rattle.gos_netlist.specs.Settling.{Numbers, at}
 use Rattle.gos_netlist.specs.SmallNets.{bit, latch}

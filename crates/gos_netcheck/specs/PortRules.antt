@@ -6,7 +6,8 @@ use Rattle.std.specs.Prelude.{◌≡◌, ◌≢◌, ℕ, zero, suc, ◌<◌, Boo
 use Rattle.std.specs.List.{flat_map}
 use Rattle.gos_types.specs.Types.{Type', IsGround, IsDone}
 use Rattle.gos_netlist.specs.Nets.{Function, Input, Reg, Cell, Side, Give, Take, NetPort}
-use Rattle.gos_netlist.specs.Events.{Direction, Event, Is, events, is_input}
+use Rattle.gos_netlist.specs.Events.{is_input}
+use Rattle.gos_types.specs.Events.{Direction, Event, Is, events}
 use Rattle.gos_netcheck.specs.declared.ports.Place.{Place}
 use Rattle.gos_netcheck.specs.Rules.{KeptBefore, Kept, IsFirstToBreak}
 

@@ -12,10 +12,8 @@ ghost use Rattle.std.specs.Prelude.{
   All,
   IsTrue,
   IfOk,
-  OnOk,
   MatchBool,
   MatchOption,
-  Contains,
   map,
   length,
   take,
@@ -23,10 +21,10 @@ ghost use Rattle.std.specs.Prelude.{
   slice_get,
 };
 ghost use Rattle.std.specs.Str.{bytes_eq};
-ghost use Rattle.gos_types.specs.Types.{Type'};
 ghost use Rattle.gos_netlist.specs.Nets.{NetPort, Input};
 ghost use Rattle.gos_netlist.specs.Seen.{cell_of, function_of, number_of, side_of, ground_type};
-ghost use Rattle.gos_netlist.specs.Events.{Request, Answer, is_input};
+ghost use Rattle.gos_netlist.specs.Events.{is_input};
+ghost use Rattle.gos_types.specs.Events.{Request, Answer};
 ghost use Rattle.gos_netcheck.specs.PortRules.{
   HasSide,
   Fits,

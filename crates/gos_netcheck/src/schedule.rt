@@ -35,7 +35,7 @@ ghost use Rattle.std.specs.Prelude.{
 };
 ghost use Rattle.gos_netlist.specs.Nets.{pins};
 ghost use Rattle.gos_netlist.specs.Seen.{cell_of, function_of, number_of};
-ghost use Rattle.gos_netlist.specs.Cycles.{IsRegister, Feeds};
+ghost use Rattle.gos_netlist.specs.Cycles.{IsRegister};
 ghost use Rattle.gos_netcheck.specs.Rules.{Kept};
 ghost use Rattle.gos_netcheck.specs.CellRules.{NetsExist};
 ghost use Rattle.gos_netcheck.specs.Schedule.{IsSchedule};

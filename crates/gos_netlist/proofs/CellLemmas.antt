@@ -10,11 +10,11 @@ use Rattle.gos_netlist.specs.Nets.{Function, Input, Const, Not, And, Or, Xor, Mu
 use Rattle.gos_netlist.specs.NetText.{spaced, word_of, operands, cell_text}
 use Rattle.gos_netlist.specs.Writable.{OperandsFit, IsWritableCell}
 use Rattle.gos_types.specs.Widths.{IsWidth}
-use Rattle.gos_netlist.specs.NetItems.{IsInRange, IsNumberText, Passed, ended}
+use Rattle.gos_lex.specs.ItemTexts.{IsInRange, IsNumberText, Passed, ended}
 use Rattle.gos_netlist.specs.inner.NetLines.{end_before, numbers_text, AreNets, gate_text, word_for, pin_count, width_end, HasWord, IsGateText, IsOperandsText, IsCellText}
-use Rattle.gos_netlist.proofs.SequenceLemmas.{Then, IsCode, misses_as, then_first, then_rest}
+use Rattle.gos_lex.proofs.SequenceLemmas.{Then, IsCode, misses_as, then_first, then_rest}
 use Rattle.gos_netlist.proofs.PassedLemmas.{passed_both, passed_as}
-use Rattle.gos_netlist.proofs.NumberLemmas.{number_code}
+use Rattle.gos_lex.proofs.NumberTextLemmas.{number_code}
 use Rattle.gos_netlist.proofs.NetsLemmas.{nets_code}
 use Rattle.gos_netlist.proofs.WordLemmas.{gate_code}
 

@@ -8,11 +8,11 @@ use Rattle.gos_netlist.specs.declared.fault.NetTextFault.TheVariants as faults
 use Rattle.gos_netlist.specs.Nets.{Cell, NetPort, Netlist}
 use Rattle.gos_netlist.specs.NetText.{cell_text, port_text, text_of}
 use Rattle.gos_netlist.specs.Writable.{IsWritableCell}
-use Rattle.gos_netlist.specs.NetFaults.{IsNetText, IsRead, IsAbove, CountAbove, before_cells, before_ports, IsAboveLimit, IsOneNetlist, ReadHasNoFault, HasOneFault}
+use Rattle.gos_netlist.specs.NetFaults.{IsNetText, IsRead, CountAbove, before_cells, before_ports, IsAboveLimit, IsOneNetlist, ReadHasNoFault, HasOneFault}
+use Rattle.gos_lex.specs.ItemTexts.{IsAbove}
 use Rattle.gos_netlist.specs.inner.NetLines.{section_text}
-use Rattle.gos_netlist.proofs.SequenceLemmas.{slice_front, same_fronts}
-use Rattle.gos_netlist.proofs.NumberLemmas.{no_longer_number}
-use Rattle.gos_netlist.proofs.SectionLemmas.{number_under}
+use Rattle.gos_lex.proofs.SequenceLemmas.{slice_front, same_fronts}
+use Rattle.gos_lex.proofs.NumberTextLemmas.{no_longer_number, number_under}
 use Rattle.gos_netlist.proofs.WholeLemmas.{head, middle, foot, cells_text, ports_text, Spans, NoLimit, net_code, text_parts, ports_front, slice_whole, slice_take, no_limit_counts, word_behind, above_within}
 
 pub one_netlist : (text : List ℕ) → IsOneNetlist text

@@ -2,13 +2,9 @@ mod NetLemmas
 pub mod PassLemmas
 pub mod RepeatLemmas
 pub mod SettlingLemmas
-pub mod SequenceLemmas
-pub mod NumberLemmas
 pub mod PassedLemmas
-pub mod WordTableLemmas
 pub mod NetsLemmas
 pub mod WordLemmas
-pub mod NameLemmas
 pub mod LinesLemmas
 pub mod CellLemmas
 pub mod OperandsLemmas
@@ -20,3 +16,6 @@ pub mod WholeLemmas
 pub mod StageLemmas
 pub mod LawLemmas
 pub mod LengthLemmas
+pub mod RegionLemmas
+pub mod MarkLemmas
+pub mod MarkOrderLemmas

@@ -4,9 +4,9 @@ use Rattle.std.specs.List.{AllByRecursion, flat_map, slice_range}
 use Rattle.std.proofs.lemmas.Grind.{flat_map-append}
 use Rattle.gos_lex.specs.Items.{TextAt, Misses}
 use Rattle.gos_lex.proofs.PlaceLemmas.{slice_nothing}
-use Rattle.gos_netlist.specs.NetItems.{IsTextOf, Passed}
+use Rattle.gos_lex.specs.ItemTexts.{IsTextOf, Passed}
 use Rattle.gos_netlist.specs.inner.NetLines.{AreSo, IsLinesText}
-use Rattle.gos_netlist.proofs.SequenceLemmas.{Then, IsCode, misses_as, then_first, then_rest}
+use Rattle.gos_lex.proofs.SequenceLemmas.{Then, IsCode, misses_as, then_first, then_rest}
 use Rattle.gos_netlist.proofs.PassedLemmas.{passed_both, passed_as}
 
 -- a value as often as it is wanted

@@ -5,10 +5,10 @@ use Rattle.std.specs.List.{AllByRecursion, slice_range}
 use Rattle.gos_lex.specs.Items.{TextAt, Misses}
 use Rattle.gos_lex.proofs.PlaceLemmas.{slice_split, slice_nothing}
 use Rattle.gos_netlist.specs.Writable.{IsNumber}
-use Rattle.gos_netlist.specs.NetItems.{IsInRange, IsNumberText, Passed, ended}
+use Rattle.gos_lex.specs.ItemTexts.{IsInRange, IsNumberText, Passed, ended}
 use Rattle.gos_netlist.specs.inner.NetLines.{end_before, end_with, numbers_text, AreNets, IsNetsText}
-use Rattle.gos_netlist.proofs.SequenceLemmas.{Then, IsCode, misses_as, then_first, then_rest}
-use Rattle.gos_netlist.proofs.NumberLemmas.{number_code}
+use Rattle.gos_lex.proofs.SequenceLemmas.{Then, IsCode, misses_as, then_first, then_rest}
+use Rattle.gos_lex.proofs.NumberTextLemmas.{number_code}
 
 is_end : (left : ℕ) → (end_with left ≡ 10) ⊎ (end_with left ≡ 32)
 is_end zero = inl refl

@@ -9,9 +9,9 @@ use Rattle.gos_netlist.specs.declared.word.GateWord.TheVariants as gates
 use Rattle.gos_netlist.specs.Nets.{Function, Input, Const, Not, And, Or, Xor, Mux, Add, Sub, Eq, Less, Gate, Reg}
 use Rattle.gos_netlist.specs.NetText.{operands}
 use Rattle.gos_netlist.specs.Writable.{IsNumber, OperandsFit}
-use Rattle.gos_netlist.specs.NetItems.{IsNumberText, ended}
+use Rattle.gos_lex.specs.ItemTexts.{IsNumberText, ended}
 use Rattle.gos_netlist.specs.inner.NetLines.{numbers_text, AreNets, IsNetsText, word_for, pin_count, HasWord, IsOperandsText}
-use Rattle.gos_netlist.proofs.SequenceLemmas.{misses_as}
+use Rattle.gos_lex.proofs.SequenceLemmas.{misses_as}
 
 -- a function with the word of constants is one
 constant_of : (w : ℕ) (f : Function) → word_for f ≡ gates.Const → OperandsFit w f → (k : ℕ) × (k < 2 ^ w) × (f ≡ Const k)

@@ -3,7 +3,7 @@ use Rattle.std.proofs.Common.{◌≡◌, ℕ, ◌≤◌, List, ◌++◌, length,
 use Rattle.std.specs.List.{slice_range}
 use Rattle.gos_lex.specs.Items.{TextAt, Passes}
 use Rattle.gos_lex.proofs.PlaceLemmas.{slice_split}
-use Rattle.gos_netlist.specs.NetItems.{Passed}
+use Rattle.gos_lex.specs.ItemTexts.{Passed}
 
 pub passed_both : (old mid new : TextAt) (a b : List ℕ) → Passed old mid a → Passed mid new b → Passed old new (a ++ b)
 passed_both old mid new a b first second =

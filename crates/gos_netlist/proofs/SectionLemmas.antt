@@ -1,43 +1,16 @@
 -- A count and so many lines.
-use Rattle.std.proofs.Common.{◌≡◌, inl, ℕ, ◌≤◌, List, [], ◌∷◌, ◌++◌, length, refl, sym, ◌∙◌, ap, subst, arith, append_assoc}
+use Rattle.std.proofs.Common.{◌≡◌, inl, ℕ, ◌≤◌, List, ◌++◌, length, refl, sym, ◌∙◌, ap, subst, arith, append_assoc}
 use Rattle.std.specs.Fmt.{decimal}
-use Rattle.std.specs.List.{flat_map, slice_range}
-use Rattle.std.proofs.lemmas.Fmt.{decimal_injective}
-use Rattle.gos_lex.specs.Items.{IsJust, TextAt, Passes, Misses}
-use Rattle.gos_lex.specs.Decimals.{IsDecimalIn}
+use Rattle.std.specs.List.{flat_map}
+use Rattle.gos_lex.specs.Items.{TextAt, Misses}
 use Rattle.gos_netlist.specs.declared.fault.NetTextFault.{NetTextFault}
 use Rattle.gos_netlist.specs.declared.fault.NetTextFault.TheVariants as faults
-use Rattle.gos_netlist.specs.NetFaults.{IsAbove}
-use Rattle.gos_netlist.specs.NetItems.{IsInRange, Passed, ended}
+use Rattle.gos_lex.specs.ItemTexts.{IsAbove, IsInRange, Passed, ended}
 use Rattle.gos_netlist.specs.inner.NetLines.{BreaksOff, IsLinesText, CountFault, section_text, AreCounted, IsSectionText, SectionFault}
-use Rattle.gos_netlist.proofs.SequenceLemmas.{Then, IsCode, misses_as, then_first, then_rest}
+use Rattle.gos_lex.proofs.SequenceLemmas.{Then, IsCode, misses_as, then_first, then_rest}
 use Rattle.gos_netlist.proofs.PassedLemmas.{passed_both, passed_as}
-use Rattle.gos_netlist.proofs.NumberLemmas.{number_code, no_number, number_not_ended}
+use Rattle.gos_lex.proofs.NumberTextLemmas.{number_code}
 use Rattle.gos_netlist.proofs.LinesLemmas.{repeated, lines_code}
-
--- a count that is read as this number is not above a limit that this number is not above
-pub number_under : (limit n : ℕ) (text : List ℕ) (at end : ℕ) → n ≤ limit → n ≤ 4294967295 → slice_range text at end ≡ decimal n → Passes (IsDecimalIn 0 4294967295) text at end → IsAbove limit text at → ⊥
-number_under limit n text at end under small is passes above =
-    let same : above.end ≡ end =
-    omega (arith, passes.longest above.end above.passes.within above.passes.item, above.passes.longest end passes.within passes.item) in
-    let digits : decimal above.count ≡ decimal n = sym above.value ∙ (ap (slice_range text at) same ∙ is) in
-    let equal = decimal_injective above.count n (omega (arith, above.known)) (omega (arith, small)) digits in
-    omega (arith, equal, under, above.above)
-
--- no number stands
-pub count_misses : (limit : ℕ) (text : List ℕ) (at place : ℕ) → Misses (IsDecimalIn 0 4294967295) text at place → CountFault limit text at (faults.Form place)
-count_misses limit text at place misses = (
-  no_number 0 4294967295 10 text at place (omega arith) (inl refl) misses,
-  λ above. misses.none above.end above.passes.after above.passes.within above.passes.item,
-)
-
--- a number stands, but no line feed behind it
-pub count_not_ended : (limit n : ℕ) (old mid : TextAt) (place : ℕ) → n ≤ limit → n ≤ 4294967295 → mid.text ≡ old.text → slice_range old.text old.at mid.at ≡ decimal n
-    → Passes (IsDecimalIn 0 4294967295) old.text old.at mid.at → Misses (IsJust (10 ∷ [])) mid.text mid.at place → CountFault limit old.text old.at (faults.Form place)
-count_not_ended limit n old mid place under small text is passes misses = (
-  number_not_ended 0 4294967295 10 old.text old.at mid.at place n (omega arith) (inl refl) (omega arith) small is passes (subst (λ (source : List ℕ). Misses (IsJust (10 ∷ [])) source mid.at place) text misses),
-  number_under limit n old.text old.at mid.at under small is passes,
-)
 
 joined : (V : Type 0) (Is : V → Type 0) (text : V → List ℕ) (bytes : List ℕ)
     → Then ℕ (IsInRange 0 4294967295) (λ n. ended 10 (decimal n)) (λ n. IsLinesText V Is text n) bytes → IsSectionText V Is text bytes

@@ -9,10 +9,10 @@ use Rattle.gos_netlist.specs.declared.fault.NetTextFault.TheVariants as faults
 use Rattle.gos_netlist.specs.Nets.{Cell, NetPort, Netlist}
 use Rattle.gos_netlist.specs.NetText.{cell_text, port_text, text_of}
 use Rattle.gos_netlist.specs.Writable.{IsWritable, IsWritableCell, IsWritablePort}
-use Rattle.gos_netlist.specs.NetFaults.{IsNetText, IsAbove, HasFault, IsRead}
-use Rattle.gos_netlist.specs.NetItems.{IsFixed, Passed}
+use Rattle.gos_netlist.specs.NetFaults.{IsNetText, HasFault, IsRead}
+use Rattle.gos_lex.specs.ItemTexts.{IsAbove, IsFixed, Passed}
 use Rattle.gos_netlist.specs.inner.NetLines.{BreaksOff, IsSectionText, SectionFault}
-use Rattle.gos_netlist.proofs.SequenceLemmas.{no_item, then_first}
+use Rattle.gos_lex.proofs.SequenceLemmas.{no_item, then_first}
 use Rattle.gos_netlist.proofs.WholeLemmas.{head, middle, foot, cells_text, ports_text, AreCells, ArePorts, Middle, Ports, Spans, NoLimit, spans_of, slice_whole, slice_take, text_parts, ports_front, net_code, some_ports, some_middle, no_head, behind_head, behind_cells, behind_middle, behind_ports, no_limit_head, no_limit_by, no_limit_counts, word_behind}
 
 -- The stages. A cursor stands behind each part.

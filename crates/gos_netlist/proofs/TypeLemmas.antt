@@ -10,11 +10,11 @@ use Rattle.gos_netlist.specs.declared.word.TypeWord.{TypeWord}
 use Rattle.gos_netlist.specs.declared.word.TypeWord.TheVariants as types
 use Rattle.gos_netlist.specs.Writable.{IsPortType}
 use Rattle.gos_netlist.specs.Events.{net_count}
-use Rattle.gos_netlist.specs.NetItems.{IsNumberText, Passed, ended}
+use Rattle.gos_lex.specs.ItemTexts.{IsNumberText, Passed, ended}
 use Rattle.gos_netlist.specs.inner.NetLines.{numbers_text, AreNets, IsNetsText, type_word, tail_text, IsTypeWordText, IsTypeText, IsTailText}
-use Rattle.gos_netlist.proofs.SequenceLemmas.{Then, IsCode, misses_as, then_first, then_rest}
+use Rattle.gos_lex.proofs.SequenceLemmas.{Then, IsCode, misses_as, then_first, then_rest}
 use Rattle.gos_netlist.proofs.PassedLemmas.{passed_both}
-use Rattle.gos_netlist.proofs.NumberLemmas.{number_code}
+use Rattle.gos_lex.proofs.NumberTextLemmas.{number_code}
 use Rattle.gos_netlist.proofs.NetsLemmas.{zeros, nets_code}
 use Rattle.gos_netlist.proofs.WordLemmas.{type_code}
 

@@ -10,10 +10,10 @@ use Rattle.gos_lex.proofs.PlaceLemmas.{length_slice, rest_whole, slice_split}
 use Rattle.gos_netlist.specs.Nets.{Cell, NetPort, Netlist}
 use Rattle.gos_netlist.specs.NetText.{line, count_line, cell_text, port_text, text_of}
 use Rattle.gos_netlist.specs.Writable.{IsWritable, IsWritableCell, IsWritablePort}
-use Rattle.gos_netlist.specs.NetFaults.{IsNetText, IsAbove, before_ports, IsAboveLimit}
-use Rattle.gos_netlist.specs.NetItems.{IsFixed, Passed, ended}
+use Rattle.gos_netlist.specs.NetFaults.{IsNetText, before_ports, IsAboveLimit}
+use Rattle.gos_lex.specs.ItemTexts.{IsAbove, IsFixed, Passed, ended}
 use Rattle.gos_netlist.specs.inner.NetLines.{AreCounted, section_text}
-use Rattle.gos_netlist.proofs.SequenceLemmas.{Then, IsCode, no_item, misses_as, then_first, then_rest, same_fronts}
+use Rattle.gos_lex.proofs.SequenceLemmas.{Then, IsCode, no_item, misses_as, then_first, then_rest, same_fronts}
 use Rattle.gos_netlist.proofs.CellLemmas.{cell_code}
 use Rattle.gos_netlist.proofs.PortLemmas.{port_code}
 use Rattle.gos_netlist.proofs.SectionLemmas.{section_code}

@@ -12,9 +12,9 @@ use Rattle.gos_netlist.specs.declared.word.TypeWord.{TypeWord}
 use Rattle.gos_netlist.specs.declared.word.TypeWord.TheVariants as types
 use Rattle.gos_netlist.specs.Nets.{Side, Give, Take}
 use Rattle.gos_netlist.specs.NetText.{side_word}
-use Rattle.gos_netlist.specs.NetItems.{IsTextOf, IsAmong, ended}
+use Rattle.gos_lex.specs.ItemTexts.{IsTextOf, IsAmong, ended}
 use Rattle.gos_netlist.specs.inner.NetLines.{gate_text, type_word, IsGateText, IsSideText, IsTypeWordText}
-use Rattle.gos_netlist.proofs.SequenceLemmas.{Lacks, IsCode, misses_as, ended_code}
+use Rattle.gos_lex.proofs.SequenceLemmas.{Lacks, IsCode, misses_as, ended_code}
 
 -- a text of letters has no other byte
 pub letters_lack : (V : Type 0) (Is : V → Type 0) (text : V → List ℕ) (c : ℕ) → is_ascii_alphabetic c ≡ false → ((v : V) → list_all is_ascii_alphabetic (text v) ≡ true)

@@ -1,33 +1,12 @@
 -- The events of ports, and of a netlist.
 --
--- Read first: Nets. A handshake of a port begins with a request and ends with an answer; each of the two is an event.
--- What else is told of the nets of a port follows from its events: a net for the pulse of each, and one more behind it for
--- its number, where it has one.
-use Rattle.std.specs.Prelude.{ℕ, suc, Bool, true, false, List, [], ◌∷◌, ◌++◌, Option, Some, None}
-use Rattle.gos_types.specs.Types.{Type', Com, Exp, Var}
+-- Read first: Nets; Events of gos_types. What else is told of the nets of a port follows from its events: a net for the
+-- pulse of each, and one more behind it for its number, where it has one.
+use Rattle.std.specs.Prelude.{ℕ, suc, Bool, true, false, List, [], ◌∷◌, ◌++◌, Some, None}
+use Rattle.gos_types.specs.Types.{Type'}
 use Rattle.gos_netlist.specs.declared.event.Event as seen
 use Rattle.gos_netlist.specs.Nets.{Side, Give, Take, NetPort, Netlist}
-
--- whether an event begins a handshake or ends it
-pub data Direction : Type 0 where
-  Request Answer : Direction
-
--- an event: its direction, and the bits of its number, where it has one
-pub data Event : Type 0 where
-  Is : (way : Direction) (number : Option ℕ) → Event
-
--- the bits of a number; 0 where there is none
-abbrev pub bits_of : Option ℕ → ℕ
-bits_of None = 0
-bits_of (Some bits) = bits
-
--- The events of a port of this type, by number. `com`: run, done. `exp`: ask, ans. `var`: read, ans, write, done.
--- So requests have even numbers and answers odd ones.
-abbrev pub events : Type' → List Event
-events Com = Is Request None ∷ Is Answer None ∷ []
-events (Exp w) = Is Request None ∷ Is Answer (Some w) ∷ []
-events (Var w) = Is Request None ∷ Is Answer (Some w) ∷ Is Request (Some w) ∷ Is Answer None ∷ []
-events t = []
+use Rattle.gos_types.specs.Events.{Direction, Request, Answer, Event, Is, bits_of, events}
 
 -- how many nets a port with these events has
 abbrev pub nets_for : List Event → ℕ

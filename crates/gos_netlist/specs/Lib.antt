@@ -6,8 +6,9 @@ pub mod Cycles
 pub mod NetText
 pub mod Writable
 pub mod NetFaults
-pub mod NetItems
 pub mod Seen
 pub mod SmallNets
 pub mod Laws
+pub mod Pools
+pub mod Marks
 pub mod inner

@@ -2,15 +2,14 @@
 --
 -- Read first: Writable; Items and Decimals of gos_lex. Places count bytes from 0.
 use Rattle.std.specs.Prelude.{◌≡◌, ℕ, ◌<◌, ◌≤◌, ◌⊎◌, List, ◌++◌, length, codes, take}
-use Rattle.std.specs.List.{AllByRecursion, flat_map, slice_range}
-use Rattle.std.specs.Fmt.{decimal}
-use Rattle.gos_lex.specs.Items.{Passes, StopsAt}
-use Rattle.gos_lex.specs.Decimals.{IsDecimalIn}
+use Rattle.std.specs.List.{AllByRecursion, flat_map}
+use Rattle.gos_lex.specs.Items.{StopsAt}
 use Rattle.gos_netlist.specs.Nets.{Cell, Netlist}
 use Rattle.gos_netlist.specs.NetText.{line, count_line, cell_text, text_of}
 use Rattle.gos_netlist.specs.Writable.{IsWritable, IsWritableCell}
 use Rattle.gos_netlist.specs.declared.fault.NetTextFault.{NetTextFault}
 use Rattle.gos_netlist.specs.declared.fault.NetTextFault.TheVariants as faults
+use Rattle.gos_lex.specs.ItemTexts.{IsAbove}
 
 -- a text of the format
 abbrev pub IsNetText : List ℕ → Type 0
@@ -23,15 +22,6 @@ pub record IsRead (text : List ℕ) (net : Netlist) : Type 0 where
   pub writable : IsWritable net
   pub few_cells : length net.cells ≤ 5000000
   pub few_ports : length net.ports ≤ 65536
-
--- At `at` stands a count that is above its limit. The count is the longest number up to 4,294,967,295 there.
-pub record IsAbove (limit : ℕ) (text : List ℕ) (at : ℕ) : Type 0 where
-  pub count : ℕ
-  pub end : ℕ
-  pub passes : Passes (IsDecimalIn 0 4294967295) text at end
-  pub value : slice_range text at end ≡ decimal count
-  pub known : count ≤ 4294967295
-  pub above : limit < count
 
 -- such a count stands behind these bytes
 abbrev pub CountAbove : ℕ → List ℕ → List ℕ → ℕ → Type 0

@@ -2,3 +2,4 @@
 -- files above it.
 pub mod NetLines
 pub mod Passes
+pub mod Inside

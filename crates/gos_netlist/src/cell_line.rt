@@ -5,7 +5,7 @@ ghost use Rattle.gos_netlist.specs.Seen.{cell_of, function_of};
 ghost use Rattle.gos_netlist.specs.NetText.{cell_text, operands};
 ghost use Rattle.gos_netlist.specs.Writable.{IsWritableCell};
 ghost use Rattle.gos_types.specs.Widths.{IsWidth};
-ghost use Rattle.gos_netlist.specs.NetItems.{Passed};
+ghost use Rattle.gos_lex.specs.ItemTexts.{Passed};
 ghost use Rattle.gos_netlist.specs.inner.NetLines.{numbers_text, pin_count, word_for, HasWord, IsOperandsText, IsCellText};
 
 use crate::items::{few_nets, number};

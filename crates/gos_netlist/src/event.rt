@@ -1,8 +1,9 @@
 // The events of a netlist's ports.
 ghost use Rattle.std.specs.Prelude.{◌≡◌, ◌++◌, IfOk, OnOk};
 ghost use Rattle.gos_netlist.specs.Seen.{ground_type, side_of};
-ghost use Rattle.gos_netlist.specs.Events.{Request, Answer, is_input, port_events, events_of};
-ghost use Rattle.gos_netlist.specs.Events as table;
+ghost use Rattle.gos_netlist.specs.Events.{is_input, port_events, events_of};
+ghost use Rattle.gos_types.specs.Events.{Request, Answer};
+ghost use Rattle.gos_types.specs.Events as table;
 
 use crate::nets::{Ground, Netlist, Side};
 use gos_types::NoMemory;

@@ -6,7 +6,7 @@ ghost use Rattle.std.specs.Prelude.{◌≡◌, ◌<◌, ◌≤◌, ◌⊎◌, []
 ghost use Rattle.std.specs.Fmt.{decimal};
 ghost use Rattle.gos_lex.specs.Items.{Misses};
 ghost use Rattle.gos_netlist.specs.Seen.{number_of};
-ghost use Rattle.gos_netlist.specs.NetItems.{Passed, ended, IsInRange, IsNumberText};
+ghost use Rattle.gos_lex.specs.ItemTexts.{Passed, ended, IsInRange, IsNumberText};
 ghost use Rattle.gos_netlist.specs.inner.NetLines.{end_with, AreNets, IsNetsText, numbers_text};
 
 use crate::nets::NetId;

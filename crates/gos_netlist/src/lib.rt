@@ -9,6 +9,9 @@
 // and its lines), `cell_line.rt` and `port_line.rt` (one line), `word.rt`, `table.rt` and `items.rt` (what lines are
 // made of). `laws.rt` has the small theorems that show what the definitions say. `passes.rt` is a plain, slow program
 // over small netlists, which the faster ones of other crates are compared with.
+//
+// A netlist that is being made is a `NetPool` (`pool.rt`, `specs/Pools`): cells are placed in regions (`region.rt`), one
+// after another, and all behind a mark can be taken back.
 #![tactic(auto)]
 
 mod cell_line;
@@ -18,18 +21,20 @@ mod items;
 mod laws;
 mod nets;
 mod passes;
+mod pool;
 mod port_line;
 mod printing;
 mod reading;
+mod region;
 mod sections;
-mod table;
 mod word;
 
 pub use event::{Event, events};
 pub use fault::NetTextFault;
-pub use laws::{one_answer, reads_back, settlings, small_nets};
+pub use laws::{marks_stay, one_answer, reads_back, settlings, small_nets};
 pub use nets::{Cell, Gate, Ground, NetId, Netlist, Pins, Port, Side};
 pub use passes::{SettleFault, settle};
+pub use pool::NetPool;
 pub use printing::print_net;
 pub use reading::read_net;
-pub use table::one_of;
+pub use region::{Mark, Region};

@@ -1,6 +1,6 @@
 // Settling a small netlist by repeated passes over all its cells.
 ghost use Rattle.std.specs.Prelude.{◌≡◌, ◌<◌, ◌≤◌, ◌+◌, ◌-◌, ◌%◌, ◌^◌, All, IsErrOf, IfOk, map, length, nat_eq, if◌then◌else◌};
-ghost use Rattle.gos_netlist.specs.Seen.{cell_of, function_of, number_of};
+ghost use Rattle.gos_netlist.specs.Seen.{cell_of, function_of};
 ghost use Rattle.gos_netlist.specs.Settling.{Settling, at, shown};
 ghost use Rattle.gos_netlist.specs.Cycles.{HasCycle};
 ghost use Rattle.gos_netlist.specs.inner.Passes.{pass, after_passes};

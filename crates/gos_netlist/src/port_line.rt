@@ -7,8 +7,8 @@ ghost use Rattle.gos_netlist.specs.Seen.{ground_type, number_of};
 ghost use Rattle.gos_netlist.specs.NetText.{port_text};
 ghost use Rattle.gos_netlist.specs.Writable.{IsPortType, IsWritablePort};
 ghost use Rattle.gos_netlist.specs.Events.{net_count};
-ghost use Rattle.gos_netlist.specs.NetItems.{Passed, ended};
-ghost use Rattle.gos_netlist.specs.inner.NetLines.{BreaksOff, numbers_text, AreNets, tail_text, IsNameText, IsTypeText, IsTailText, IsPortText};
+ghost use Rattle.gos_lex.specs.ItemTexts.{Passed, ended};
+ghost use Rattle.gos_netlist.specs.inner.NetLines.{BreaksOff, AreNets, tail_text, IsNameText, IsTypeText, IsTailText, IsPortText};
 
 use crate::fault::NetTextFault;
 use crate::items::{LineNets, number, so_many_nets};

@@ -1,7 +1,7 @@
 // Reading a netlist from its text.
-ghost use Rattle.std.specs.Prelude.{◌≡◌, ◌≤◌, IfOk, IfErr, length};
+ghost use Rattle.std.specs.Prelude.{IfOk, IfErr};
 ghost use Rattle.gos_netlist.specs.NetFaults.{IsRead, HasFault};
-ghost use Rattle.gos_netlist.specs.NetItems.{Passed, IsFixed};
+ghost use Rattle.gos_lex.specs.ItemTexts.{Passed, IsFixed};
 ghost use Rattle.gos_netlist.specs.inner.NetLines.{BreaksOff};
 
 use crate::fault::NetTextFault;

@@ -5,8 +5,8 @@ ghost use Rattle.gos_netlist.specs.Nets.{Cell as NetCell, NetPort};
 ghost use Rattle.gos_netlist.specs.Seen.{cell_of};
 ghost use Rattle.gos_netlist.specs.NetText.{cell_text, port_text};
 ghost use Rattle.gos_netlist.specs.Writable.{IsWritableCell, IsWritablePort};
-ghost use Rattle.gos_netlist.specs.NetFaults.{IsAbove};
-ghost use Rattle.gos_netlist.specs.NetItems.{Passed, ended};
+ghost use Rattle.gos_lex.specs.ItemTexts.{IsAbove};
+ghost use Rattle.gos_lex.specs.ItemTexts.{Passed, ended};
 ghost use Rattle.gos_netlist.specs.inner.NetLines.{BreaksOff, CountFault, SectionFault, AreSo, AreCounted, IsLinesText, IsSectionText, section_text};
 ghost use Rattle.std.specs.List.{flat_map};
 

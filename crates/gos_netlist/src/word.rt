@@ -3,12 +3,11 @@ ghost use Rattle.std.specs.Prelude.{◌≡◌, IfOk, IfErr};
 ghost use Rattle.gos_lex.specs.Items.{Misses};
 ghost use Rattle.gos_netlist.specs.Seen.{side_of};
 ghost use Rattle.gos_netlist.specs.NetText.{side_word};
-ghost use Rattle.gos_netlist.specs.NetItems.{Passed, ended};
+ghost use Rattle.gos_lex.specs.ItemTexts.{Passed, ended};
 ghost use Rattle.gos_netlist.specs.inner.NetLines.{gate_text, type_word, pin_count, width_end, IsGateText, IsSideText, IsTypeWordText};
 
 use crate::nets::Side;
-use crate::table::one_of;
-use gos_lex::Cursor;
+use gos_lex::{Cursor, one_of};
 
 /// The word of a cell's line.
 #[derive(Debug, Clone, Copy)]

@@ -1,9 +1,9 @@
 // The worked ring, and a netlist for each fault. The expected answers are written by hand.
 ghost use Rattle.std.specs.Prelude.{◌<◌, ◌^◌, length};
 
+use crate::samples::{bit, latch, main_port, port};
 use gos_netcheck::{NetFault, accept, one_answer};
 use gos_netlist::{Cell, Gate, Ground, NetId, Netlist, Port, Side};
-use gos_samples::{bit, latch, main_port, port};
 use std::alloc::{AllocError, Global};
 use std::test::Fail;
 

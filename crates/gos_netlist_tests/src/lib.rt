@@ -1,4 +1,5 @@
-// Tests of netlists, of their texts and of lines by public calls alone.
+// Tests of netlists, of their texts and Verilog texts, of lines, and of simulation, pulse files and traces by public calls
+// alone.
 //
 // A crate with tests is proved twice, so crates that others wait for have none: theirs stand here, one file a subject.
 #![tactic(auto)]
@@ -6,6 +7,22 @@
 #[cfg(test)]
 mod acceptance;
 #[cfg(test)]
+mod bench;
+#[cfg(test)]
+mod drawn;
+#[cfg(test)]
+mod driving;
+#[cfg(test)]
 mod lines;
 #[cfg(test)]
 mod netlists;
+#[cfg(test)]
+mod plain;
+#[cfg(test)]
+mod pulse_files;
+#[cfg(test)]
+mod samples;
+#[cfg(test)]
+mod simulating;
+#[cfg(test)]
+mod verilog;

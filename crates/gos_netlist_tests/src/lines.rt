@@ -1,5 +1,5 @@
 // Lines with their numbers, and numbers at their limit.
-use gos_lines::{all_different, count_lines, is_among, next_line, number, place_of};
+use gos_lex::{all_different, count_lines, is_among, next_line, number, place_of};
 use std::test::Fail;
 
 const TEXT: &[u8] = b"# a comment\r\n\n \t # another\n at  5\tmain.run \r\nend";

@@ -1,9 +1,9 @@
 // The programs on the latch: a circuit that shows `done` from the cycle after `run` on.
+use crate::samples::{bit, latch};
 use gos_netlist::{
     Event, Gate, NetId, NetTextFault, Netlist, SettleFault, events, one_answer, print_net,
     read_net, settle, settlings, small_nets,
 };
-use gos_samples::{bit, latch};
 use std::alloc::Global;
 use std::test::Fail;
 

@@ -1,8 +1,7 @@
-// Nodes that run one child at a time realise their terms, where the children's plans realise theirs.
+// The plan of a node realises its term where the plans of its children realise theirs.
 //
-// Definitions and laws alone. Read `specs/Realised`, and then laws.rt.
+// Laws alone: each function does nothing, and its contract is the law. `laws.rt` has the chapters in reading order; the
+// definitions of a chapter stand in its folder of `specs`, and what it is about in README.md.
 #![tactic(auto)]
 
-mod laws;
-
-pub use laws::{nodes_realise, realisers_rest, small_nodes};
+pub mod laws;

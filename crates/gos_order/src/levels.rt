@@ -5,7 +5,7 @@
 // one on the way out among lower levels. Here a search on the way out that stays below a level and gives up comes
 // first, so that levels stay low where edges come in the order of a program; and no level is raised before it is known
 // that there is no ring.
-ghost use Rattle.std.specs.Prelude.{◌≡◌, ◌+◌, ◌∷◌, ◌<◌, ◌≤◌, [], length, IfSome, MatchOption, Bool, ◌≢◌};
+ghost use Rattle.std.specs.Prelude.{◌≡◌, ◌+◌, ◌∷◌, ◌<◌, [], length, IfSome, MatchOption, Bool, ◌≢◌};
 ghost use Rattle.gos_order.specs.Rings.{Leads};
 ghost use Rattle.gos_order.specs.inner.NodeLists.{IsIn, at};
 ghost use Rattle.gos_order.specs.inner.Levels.{AreBefore, AreBelow, AreRaised, AreRising, MakesRoom};

@@ -1,5 +1,8 @@
 -- In reading order: a file uses only files above it.
-pub mod Ports
-pub mod Keeping
-pub mod Quiet
-pub mod Ranks
+pub mod Flattening
+pub mod RunProtocol
+pub mod Pace
+pub mod SmallPace
+pub mod Cycles
+pub mod AnyOrder
+pub mod SmallCycles

@@ -1,18 +1,30 @@
-// What the definitions give. Each theorem is the contract of a function that does nothing.
-ghost use Rattle.gos_pace.specs.Keeping.{NetKeepsPace};
-ghost use Rattle.gos_pace.specs.Quiet.{SlimGrowsQuiet};
-ghost use Rattle.gos_pace.specs.Ranks.{RightRanksHold};
+// What the definitions say, in small, and of every plan. Each theorem is the contract of a function that does nothing.
+ghost use Rattle.gos_pace.specs.SmallPace.{LatchFlattens, SilentLags, SkipKeepsPace};
+ghost use Rattle.gos_pace.specs.AnyOrder.{OneOrderIsEnough};
+ghost use Rattle.gos_pace.specs.SmallCycles.{CallIsListed, EagerIsNotListed, SkipIsListed};
 
-/// A netlist that has the ports of a plan, and whose cycles are lists of it, keeps pace with the program that the
-/// plan realises, with the bound of the plan's weight.
-pub fn keeps_pace()
-    ensures { NetKeepsPace }
+/// The pulses of a latch are run in cycle 0, and done in all later ones.
+pub fn latch_pulses()
+    ensures { LatchFlattens }
 {}
 
-/// A plan that only fires, and in which no firing takes an answer and puts a request, has nothing left to fire
-/// within the bound of its weight. The reason is the ranks of its handshakes, of which there are no more than
-/// joints.
-pub fn grows_quiet()
-    ensures quiet { SlimGrowsQuiet }
-    ensures ranks { RightRanksHold }
+/// The circuit of `skip` keeps pace with it, for every list of inputs, and one that never answers does not.
+pub fn keeping_pace()
+    ensures keeps { SkipKeepsPace }
+    ensures silent { SilentLags }
+{}
+
+/// A cycle that is made with its pulses in the order of events is made with them in every order, where each has an
+/// end of its own.
+pub fn any_order()
+    ensures { OneOrderIsEnough }
+{}
+
+/// The cycles of the circuit that answers each run in the next cycle are lists of the plan of `skip`; those of a circuit
+/// that answers unasked are not. Cycles in which the circuit of `import c : com; c` is run, runs `c`, and is run again
+/// when it is done are lists of its plan.
+pub fn small_cycles()
+    ensures cycles { SkipIsListed }
+    ensures eager { EagerIsNotListed }
+    ensures listed { CallIsListed }
 {}

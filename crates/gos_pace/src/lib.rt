@@ -1,9 +1,13 @@
-// That the netlist of a plan keeps pace with the program that the plan realises.
+// What it means that a netlist keeps pace with a program, and that its cycles are lists of a plan.
 //
-// Read `specs/Ports` and `specs/Keeping`, and then `laws.rt`. `specs/Quiet` and `specs/Ranks` say why a program that
-// can go on does so in time.
+// Nearly all of this crate stands in `specs`: read it in the order of `specs/Lib.antt`. `Flattening` has the pulses of a run
+// as labels, `RunProtocol` the inputs that a run may have, and `Pace` the sentence that the headline speaks: each flattening
+// is a trace of the program, which moves at least once in so many cycles unless it can only wait. `Cycles` says the like of
+// a plan: each cycle is outputs, inputs and firings of its parts.
+//
+// `laws.rt` has the small theorems that show what the definitions say.
 #![tactic(auto)]
 
 mod laws;
 
-pub use laws::{grows_quiet, keeps_pace};
+pub use laws::{any_order, keeping_pace, latch_pulses, small_cycles};

@@ -4,13 +4,13 @@
 -- another.
 use Rattle.std.specs.Prelude.{Option, None}
 use Rattle.std.proofs.Common.{◌≡◌, ℕ, ◌+◌, Bool, true, false, List, [], ◌∷◌, ◌++◌, Some, slice_get, refl, sym, ◌∙◌, ap, subst, arith, nat_eq, if◌then◌else◌}
-use Rattle.gos_netlist.specs.Events.{Direction, Request, Answer}
+use Rattle.gos_types.specs.Events.{Direction, Request, Answer}
 use Rattle.gos_plan.specs.Kinds.{Part, Contact}
 use Rattle.gos_plan.specs.Firing.{State, Slot, Token, Row, firing}
 use Rattle.gos_plan.specs.Plans.{End, PartEnd, ImportEnd, ResultEnd, Joint, Plan, IsRight, contacts_of_part, contact_at}
 use Rattle.gos_plan.specs.Tokens.{Tokens, Element, Fire, Out, In, shake_of, way_of, end_of, way_taken, way_put, firing_of, fired, Passes, Does}
 use Rattle.gos_plan.specs.Orderly.{Open, none_open, ComesInOrder, OrderlyFrom}
-use Rattle.gos_plan.specs.Law.{Asked, Fires}
+use Rattle.gos_plan.specs.Firings.{Asked, Fires}
 use Rattle.gos_plan.specs.Projection.{firings_of, asked_by, TakesValues}
 use Rattle.gos_plan.specs.Accounts.{AddsUp, PartsPut, HeldTokens, PartsFillPlaces}
 use Rattle.gos_plan.proofs.JointLemmas.{IsIn, contained}

@@ -6,7 +6,7 @@ use Rattle.std.specs.Prelude.{not, ◌||◌, Option, None}
 use Rattle.std.proofs.Common.{◌≡◌, ℕ, Bool, true, false, [], Some, refl, sym, ◌∙◌, ap, subst, arith, if◌then◌else◌}
 use Rattle.gos_types.specs.declared.shakes.Role.{Role}
 use Rattle.gos_types.specs.declared.shakes.Role.TheVariants.{Serve, Ask}
-use Rattle.gos_netlist.specs.Events.{Direction, Request, Answer}
+use Rattle.gos_types.specs.Events.{Direction, Request, Answer}
 use Rattle.gos_plan.specs.Kinds.{Contact}
 use Rattle.gos_plan.specs.Plans.{End, Joint, Plan, contact_at, same_end, stands_in, Fits, IsRight}
 use Rattle.gos_plan.specs.Tokens.{Tokens, with_place, held_at, with_held, token_at, with_token, places_of, way_taken, way_put}

@@ -1,12 +1,11 @@
 -- What an end takes and is given in a list, element by element, and that it is what Accounts counts.
 use Rattle.std.specs.Prelude.{Option, None, ◌&&◌}
 use Rattle.std.proofs.Common.{◌≡◌, ℕ, suc, ◌+◌, ◌*◌, Bool, true, false, List, [], ◌∷◌, ◌++◌, Some, refl, sym, ◌∙◌, ap, subst, arith, nat_eq, if◌then◌else◌}
-use Rattle.gos_netlist.specs.Events.{Direction, Request, Answer}
+use Rattle.gos_types.specs.Events.{Direction, Request, Answer}
 use Rattle.gos_plan.specs.Firing.{Slot, Req, Ans, Token, same_slot}
 use Rattle.gos_plan.specs.Plans.{End, PartEnd, ImportEnd, ResultEnd, same_end}
 use Rattle.gos_plan.specs.Tokens.{Element, Fire, Out, In, shake_of, way_of, end_of, IsPortEnd}
-use Rattle.gos_plan.specs.Gates.{due, value_due}
-use Rattle.gos_plan.specs.Law.{times}
+use Rattle.gos_plan.specs.Firings.{due, value_due, times}
 use Rattle.gos_plan.specs.Projection.{firings_of}
 use Rattle.gos_plan.specs.Accounts.{count, number, outs_at, outs_sum, ins_at, ins_sum, slot_at, taken_at, sum_taken, put_at, sum_put}
 use Rattle.gos_plan.proofs.PlaceLemmas.{worth, put_here}

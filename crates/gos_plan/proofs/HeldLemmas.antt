@@ -3,7 +3,7 @@
 -- By the name of a joint: where its handshake is closed both its places are empty, and where it is open one of them is.
 use Rattle.std.specs.Prelude.{Option, None}
 use Rattle.std.proofs.Common.{◌≡◌, inl, inr, ◌⊎◌, ℕ, Bool, true, false, List, [], ◌∷◌, Some, slice_get, refl, sym, ◌∙◌, ap, subst, if◌then◌else◌}
-use Rattle.gos_netlist.specs.Events.{Direction, Request, Answer}
+use Rattle.gos_types.specs.Events.{Direction, Request, Answer}
 use Rattle.gos_plan.specs.Kinds.{Part, Contact}
 use Rattle.gos_plan.specs.Firing.{State, Slot, Token, Row, rows, row_for}
 use Rattle.gos_plan.specs.Plans.{End, Plan, contact_at, same_end}

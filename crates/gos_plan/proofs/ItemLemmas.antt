@@ -8,10 +8,10 @@ use Rattle.gos_lex.specs.Items.{TextAt, IsJust, Begins, Passes, StopsAt, Misses}
 use Rattle.gos_lex.specs.Decimals.{IsDecimalIn}
 use Rattle.gos_lex.specs.Names.{IsNameOrWord}
 use Rattle.gos_lex.proofs.DecimalLemmas.{begins_wider, digit_within}
-use Rattle.gos_netlist.specs.NetItems.{IsTextOf, IsInRange, ended}
-use Rattle.gos_netlist.proofs.SequenceLemmas.{Lacks, IsCode, ended_misses, ended_code}
-use Rattle.gos_netlist.proofs.NumberLemmas.{number_stops, byte_missed}
-use Rattle.gos_netlist.proofs.NameLemmas.{name_code}
+use Rattle.gos_lex.specs.ItemTexts.{IsTextOf, IsInRange, ended}
+use Rattle.gos_lex.proofs.SequenceLemmas.{Lacks, IsCode, ended_misses, ended_code}
+use Rattle.gos_lex.proofs.NumberTextLemmas.{number_stops, byte_missed}
+use Rattle.gos_lex.proofs.NameTextLemmas.{name_code}
 use Rattle.gos_plan.specs.declared.fault.ObjectFault.TheVariants as faults
 use Rattle.gos_plan.specs.TextItems.{Spans, Fails, number_in, any_name}
 use Rattle.gos_plan.proofs.TextLemmas.{Lawful, lawful_plain, span_both}

@@ -2,7 +2,7 @@
 use Rattle.std.specs.Prelude.{IsTrue, Option, None}
 use Rattle.std.proofs.Common.{◌≡◌, ℕ, zero, suc, ap, Contains, Bool, true, false, List, [], ◌∷◌, ◌⊎◌, Some, refl, sym, ◌∙◌, subst, inl, inr, arith}
 use Rattle.gos_types.specs.declared.shakes.Role.TheVariants.{Serve, Ask}
-use Rattle.gos_netlist.specs.Events.{Direction, Request, Answer}
+use Rattle.gos_types.specs.Events.{Direction, Request, Answer}
 use Rattle.gos_plan.specs.Kinds.{Contact, asks, serves}
 use Rattle.gos_plan.specs.Plans.{End, PartEnd, ImportEnd, ResultEnd, Joint, Plan, contact_at, same_end, stands_in, is_free, Fits, AreRight, IsRight}
 use Rattle.gos_plan.specs.Tokens.{asking_in, places_of, bits_of}

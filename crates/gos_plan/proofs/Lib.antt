@@ -14,15 +14,11 @@ mod CountLemmas
 pub mod AccountLemmas
 mod StayLemmas
 mod JoiningLemmas
-pub mod OrderLemmas
-mod SmallPlanLemmas
-mod SmallCycleLemmas
-mod CallLemmas
+pub mod SmallPlanLemmas
+pub mod CallLemmas
 mod SeatLemmas
 mod MakeLemmas
 pub mod SideLemmas
-pub mod GatesLemmas
-pub mod PathLemmas
 pub mod TextLemmas
 pub mod ItemLemmas
 pub mod TableLemmas

@@ -18,7 +18,7 @@ use Rattle.gos_plan.specs.Kinds.{Part, Skip, Lit, Seq, Par, If, While, Op, Not, 
 use Rattle.gos_model.specs.Terms.{Op as Operation, Add, Sub, And, Or, Xor, Eq, Less}
 use Rattle.gos_plan.specs.Seen.{operation_of}
 use Rattle.gos_types.specs.Widths.{IsWidth}
-use Rattle.gos_netlist.specs.NetItems.{IsInRange}
+use Rattle.gos_lex.specs.ItemTexts.{IsInRange}
 use Rattle.gos_plan.specs.TextItems.{Reads, both, exactly, words, number_in}
 use Rattle.gos_plan.specs.ObjectText.{number_text, word_text, operator_for, word_of, bits_text, body_text, operands_text, IsWritablePart}
 use Rattle.gos_plan.specs.ObjectItems.{body_word_text, body, body_word_of, body_operand, literal_numbers, local_numbers, typed, bare_part, sized_part, part_operands, part_line}

@@ -6,7 +6,7 @@ use Rattle.std.specs.Prelude.{Option, None, ◌&&◌}
 use Rattle.std.proofs.Common.{◌≡◌, ℕ, ◌+◌, Bool, true, false, List, [], ◌∷◌, Some, slice_get, refl, sym, ◌∙◌, ap, subst, arith, if◌then◌else◌}
 use Rattle.gos_types.specs.declared.shakes.Role.{Role}
 use Rattle.gos_types.specs.declared.shakes.Role.TheVariants.{Serve, Ask}
-use Rattle.gos_netlist.specs.Events.{Direction, Request, Answer}
+use Rattle.gos_types.specs.Events.{Direction, Request, Answer}
 use Rattle.gos_plan.specs.Kinds.{Part, Contact}
 use Rattle.gos_plan.specs.Firing.{Slot, Token, Row, firing}
 use Rattle.gos_plan.specs.Plans.{End, Joint, Plan, IsRight, contacts_of_part, contact_at, same_end, stands_in}

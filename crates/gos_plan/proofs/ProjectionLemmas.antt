@@ -11,8 +11,8 @@ use Rattle.gos_plan.specs.Firing.{State, Slot, Req, Ans, Token, put, firing}
 use Rattle.gos_plan.specs.Plans.{End, PartEnd, ImportEnd, ResultEnd, Plan, IsRight, contacts_of_part, contact_at, same_end}
 use Rattle.gos_plan.specs.Tokens.{Tokens, Element, Fire, Out, In, places_of, token_at, way_of, way_taken, way_put, end_of, firing_of, IsPortEnd, Passes, Does, shake_of}
 use Rattle.gos_plan.specs.Orderly.{named_by, handshake_at, Open, with_open, after_taken, after_put, ComesWell, AllComeWell, after_puts, ComesInOrder, OrderlyFrom}
-use Rattle.gos_plan.specs.Law.{Asked, with_asked, after_taking, after_putting, Fires}
-use Rattle.gos_plan.specs.Law as law
+use Rattle.gos_plan.specs.Firings.{Asked, with_asked, after_taking, after_putting, Fires}
+use Rattle.gos_plan.specs.Firings as law
 use Rattle.gos_plan.specs.Projection.{firings_of, asked_by, TakesValues, PartsFire}
 use Rattle.gos_plan.proofs.JointLemmas.{same_is, fits, Found, found}
 use Rattle.gos_plan.proofs.AskingLemmas.{NotServing, TakesAsking, RequestAsks, PutsAsking, row_asks}

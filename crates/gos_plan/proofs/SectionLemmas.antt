@@ -4,8 +4,7 @@ use Rattle.std.specs.Fmt.{decimal}
 use Rattle.std.specs.List.{slice_range}
 use Rattle.gos_lex.specs.Items.{TextAt, IsJust, Passes, Misses}
 use Rattle.gos_lex.specs.Decimals.{IsDecimalIn}
-use Rattle.gos_netlist.proofs.NumberLemmas.{no_longer_number}
-use Rattle.gos_netlist.proofs.SectionLemmas.{number_under, count_misses, count_not_ended}
+use Rattle.gos_lex.proofs.NumberTextLemmas.{no_longer_number, count_misses, count_not_ended, number_under}
 use Rattle.gos_plan.specs.declared.fault.ObjectFault.{ObjectFault}
 use Rattle.gos_plan.specs.declared.fault.ObjectFault.TheVariants as faults
 use Rattle.gos_plan.specs.TextItems.{Item, Reads, Fails, both, exactly, count_up_to, lines, section}

@@ -1,7 +1,7 @@
 -- The plan of `skip`: orderly lists of it, and the cycles of its circuit.
 use Rattle.std.specs.Prelude.{None}
 use Rattle.std.proofs.Common.{◌≡◌, ℕ, zero, suc, true, false, Some, refl, sym, ◌∙◌, ap, subst, arith}
-use Rattle.gos_netlist.specs.Events.{Request, Answer}
+use Rattle.gos_types.specs.Events.{Request, Answer}
 use Rattle.gos_plan.specs.Kinds.{Contact, asks}
 use Rattle.gos_plan.specs.Firing.{Rest, Req, Ans, Row, row, at, put}
 use Rattle.gos_plan.specs.Plans.{PartEnd, ResultEnd}

@@ -5,13 +5,13 @@
 use Rattle.std.specs.Prelude.{Option, None, ◌<◌, ◌≤◌}
 use Rattle.std.proofs.Common.{◌≡◌, ℕ, suc, ◌+◌, Bool, true, false, List, [], ◌∷◌, Some, slice_get, refl, sym, ◌∙◌, ap, subst, arith, nat_eq, if◌then◌else◌}
 use Rattle.gos_types.specs.declared.shakes.Role.TheVariants.{Serve, Ask}
-use Rattle.gos_netlist.specs.Events.{Direction, Request, Answer}
+use Rattle.gos_types.specs.Events.{Direction, Request, Answer}
 use Rattle.gos_plan.specs.Kinds.{Part, Contact}
 use Rattle.gos_plan.specs.Firing.{Slot, Token, same_slot, firing}
 use Rattle.gos_plan.specs.Plans.{End, PartEnd, Joint, Plan, IsRight, contact_at, same_end}
 use Rattle.gos_plan.specs.Tokens.{Tokens, Element, Fire, Out, In, places_of, held_at, token_at, shake_of, way_of, end_of, way_taken, way_put, firing_of, Passes, Does}
 use Rattle.gos_plan.specs.Orderly.{Open, ComesInOrder, OrderlyFrom}
-use Rattle.gos_plan.specs.Law.{times}
+use Rattle.gos_plan.specs.Firings.{times}
 use Rattle.gos_plan.specs.Projection.{firings_of, TakesValue, TakesValues}
 use Rattle.gos_plan.specs.Accounts.{count, number, slot_at, taken_at}
 use Rattle.gos_plan.specs.Staying.{TokensStay, number_for, numbers_for, PartsTakeWhatLay}

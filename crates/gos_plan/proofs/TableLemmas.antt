@@ -5,8 +5,8 @@ use Rattle.std.specs.List.{list_all}
 use Rattle.std.proofs.Math.Dec.{eqb}
 use Rattle.std.proofs.lemmas.Bool.{eqb-false, and_parts, cases_lt}
 use Rattle.gos_lex.specs.Items.{Misses}
-use Rattle.gos_netlist.specs.NetItems.{IsTextOf, IsAmong}
-use Rattle.gos_netlist.proofs.SequenceLemmas.{IsCode, misses_as, same_fronts}
+use Rattle.gos_lex.specs.ItemTexts.{IsTextOf, IsAmong}
+use Rattle.gos_lex.proofs.SequenceLemmas.{IsCode, misses_as, same_fronts}
 use Rattle.gos_plan.specs.declared.fault.ObjectFault.TheVariants as faults
 use Rattle.gos_plan.specs.TextItems.{Fails, words}
 use Rattle.gos_plan.proofs.TextLemmas.{Lawful, lawful_plain}

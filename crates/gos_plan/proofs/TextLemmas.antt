@@ -5,7 +5,7 @@ use Rattle.std.proofs.lemmas.Grind.{flat_map-append}
 use Rattle.std.proofs.lemmas.List.{append_cancel_left, map-append}
 use Rattle.gos_lex.specs.Items.{TextAt}
 use Rattle.gos_lex.proofs.PlaceLemmas.{length_slice, slice_nothing, slice_split}
-use Rattle.gos_netlist.proofs.SequenceLemmas.{Then, IsCode, misses_as, then_first, then_rest, slice_front, same_fronts}
+use Rattle.gos_lex.proofs.SequenceLemmas.{Then, IsCode, misses_as, then_first, then_rest, slice_front, same_fronts}
 use Rattle.gos_plan.specs.declared.fault.ObjectFault.{ObjectFault}
 use Rattle.gos_plan.specs.declared.fault.ObjectFault.TheVariants as faults
 use Rattle.gos_plan.specs.TextItems.{Item, Spans, IsItem, Reads, Fails, Behind, both, plain, exactly, lines}

@@ -3,7 +3,7 @@ use Rattle.std.proofs.Common.{◌≡◌, inl, inr, ℕ, ◌+◌, ◌*◌, ◌≤
 use Rattle.std.proofs.lemmas.List.{length-map}
 use Rattle.std.specs.Char.{is_ascii_digit}
 use Rattle.gos_types.specs.Types.{Type', Com, Exp, Var, Pair, Fun, size}
-use Rattle.gos_netlist.proofs.SequenceLemmas.{IsCode}
+use Rattle.gos_lex.proofs.SequenceLemmas.{IsCode}
 use Rattle.gos_plan.specs.declared.fault.ObjectFault.{ObjectFault}
 use Rattle.gos_plan.specs.declared.fault.ObjectFault.TheVariants as faults
 use Rattle.gos_plan.specs.declared.word.TypeWord.{TypeWord}

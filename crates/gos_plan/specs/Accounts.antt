@@ -4,14 +4,13 @@
 -- where the joint asks and taken where it serves, and answers the other way round. What is put at an end without a
 -- joint is lost.
 use Rattle.std.specs.Prelude.{◌≡◌, ℕ, suc, ◌+◌, ◌*◌, List, [], ◌∷◌, Option, None, Some, Contains, slice_get, if◌then◌else◌}
-use Rattle.gos_netlist.specs.Events.{Direction, Request, Answer}
+use Rattle.gos_types.specs.Events.{Direction, Request, Answer}
 use Rattle.gos_plan.specs.Kinds.{Part}
 use Rattle.gos_plan.specs.Firing.{Slot, Req, Ans, Token}
 use Rattle.gos_plan.specs.Plans.{End, PartEnd, Joint, Plan, IsRight, same_end}
 use Rattle.gos_plan.specs.Tokens.{Tokens, Element, Fire, Out, In, IsIdle}
 use Rattle.gos_plan.specs.Orderly.{Open, none_open, OrderlyFrom}
-use Rattle.gos_plan.specs.Gates.{due, value_due}
-use Rattle.gos_plan.specs.Law.{Fires, times}
+use Rattle.gos_plan.specs.Firings.{due, value_due, Fires, times}
 use Rattle.gos_plan.specs.Projection.{firings_of, asked_by, TakesValues}
 
 -- how many tokens lie in a place, and the number of what lies there

@@ -8,7 +8,7 @@ use Rattle.std.specs.Fmt.{decimal}
 use Rattle.gos_lex.specs.Names.{IsNameOrWord}
 use Rattle.gos_types.specs.Types.{Type', Com, Exp, Var, Pair, Fun}
 use Rattle.gos_types.specs.Handshakes.{handshakes_of}
-use Rattle.gos_netlist.specs.NetItems.{ended}
+use Rattle.gos_lex.specs.ItemTexts.{ended}
 use Rattle.gos_plan.specs.declared.kinds.Op2.TheVariants as ops
 use Rattle.gos_plan.specs.declared.word.BareWord.{BareWord}
 use Rattle.gos_plan.specs.declared.word.BareWord.TheVariants as bare

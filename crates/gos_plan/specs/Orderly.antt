@@ -3,7 +3,7 @@
 -- Read first: Tokens. A handshake is named by the end that asks; where an end stands in no joint, by that end itself. It
 -- is open from the putting of its request to the taking of its answer.
 use Rattle.std.specs.Prelude.{◌≡◌, ℕ, Bool, true, false, List, [], ◌∷◌, Option, Some, None, slice_get, if◌then◌else◌}
-use Rattle.gos_netlist.specs.Events.{Direction, Request, Answer}
+use Rattle.gos_types.specs.Events.{Direction, Request, Answer}
 use Rattle.gos_plan.specs.Kinds.{Contact}
 use Rattle.gos_plan.specs.Firing.{Slot, Token, Row}
 use Rattle.gos_plan.specs.Plans.{End, Plan, contact_at, same_end}

@@ -7,7 +7,7 @@ use Rattle.gos_plan.specs.Firing.{Slot, Token}
 use Rattle.gos_plan.specs.Plans.{PartEnd, Plan, IsRight}
 use Rattle.gos_plan.specs.Tokens.{Tokens, Element, Fire, Out, In, shake_of, way_of, end_of, token_at, Does}
 use Rattle.gos_plan.specs.Orderly.{Open, OrderlyFrom}
-use Rattle.gos_plan.specs.Law.{Asked, Fires}
+use Rattle.gos_plan.specs.Firings.{Asked, Fires}
 
 -- the slots by which part i fires in a list
 abbrev pub firings_of : ℕ → List Element → List Slot

@@ -1,20 +1,14 @@
--- The plan of `skip`: lists of it that are orderly and not, netlists whose cycles are lists of it and not, and a joining.
+-- The plan of `skip`: lists of it that are orderly and not, and a joining.
 --
--- Read first: Cycles, Joining; SmallPace of gos_model. They show that these definitions can be met and can be missed.
-use Rattle.std.specs.Prelude.{List, [], ◌∷◌, None, codes}
+-- Read first: Joining. They show that these definitions can be met and can be missed.
+use Rattle.std.specs.Prelude.{List, [], ◌∷◌, None}
 use Rattle.gos_types.specs.Types.{Com, Fun}
-use Rattle.gos_netlist.specs.Nets.{Netlist, Input, Const, Give}
-use Rattle.gos_netlist.specs.Settling.{Numbers, IsRun}
-use Rattle.gos_netlist.specs.SmallNets.{bit}
-use Rattle.gos_model.specs.Protocol.{InputsInRange}
-use Rattle.gos_model.specs.SmallPace.{skip_circuit}
 use Rattle.gos_plan.specs.Kinds.{Skip}
 use Rattle.gos_plan.specs.Firing.{Rest, Req, at}
 use Rattle.gos_plan.specs.Plans.{PartEnd, ResultEnd, Plan}
 use Rattle.gos_plan.specs.Tokens.{Tokens, Element, Fire, Out, In}
 use Rattle.gos_plan.specs.Orderly.{IsOrderly}
 use Rattle.gos_plan.specs.Joining.{Wiring, place, IsJoining}
-use Rattle.gos_plan.specs.Cycles.{CyclesAreLists}
 
 -- one Skip, whose handshake is the result
 abbrev pub skip_plan : Plan
@@ -44,22 +38,6 @@ SkipRunsInOrder = IsOrderly skip_plan once at_first
 
 abbrev pub HasteIsNoOrder : Type 0
 HasteIsNoOrder = IsOrderly skip_plan hasty at_first → ⊥
-
--- the cycles of the circuit that answers each run with done in the next cycle are lists of the plan, whatever comes in
-abbrev pub SkipIsListed : Type 0
-SkipIsListed = (ins vs : List Numbers) → InputsInRange skip_circuit ins → IsRun skip_circuit.cells ins vs → CyclesAreLists skip_plan skip_circuit vs
-
--- a circuit that shows done in every cycle
-abbrev pub eager_circuit : Netlist
-eager_circuit =
-    record {
-      cells = bit Input ∷ bit (Const 1) ∷ [];
-      ports = record { name = codes "main"; side = Give; ty = Com; nets = 0 ∷ 1 ∷ [] } ∷ [];
-    }
-
--- its cycles are no lists of the plan
-abbrev pub EagerIsNotListed : Type 0
-EagerIsNotListed = CyclesAreLists skip_plan eager_circuit ((0 ∷ 1 ∷ []) ∷ []) → ⊥
 
 -- `fun a . a`: what the result asks its argument for is what is asked of it
 abbrev pub same_plan : Plan

@@ -4,7 +4,7 @@
 -- Read first: Projection, Accounts. So it is in a cycle of a netlist with a register in each direction of each joint:
 -- what is put in a cycle is taken in a later one.
 use Rattle.std.specs.Prelude.{◌≡◌, ℕ, ◌≤◌, List, Option, None, Some, Contains}
-use Rattle.gos_netlist.specs.Events.{Request, Answer}
+use Rattle.gos_types.specs.Events.{Request, Answer}
 use Rattle.gos_plan.specs.Kinds.{Contact}
 use Rattle.gos_plan.specs.Plans.{End, PartEnd, Joint, Plan, IsRight, contact_at}
 use Rattle.gos_plan.specs.Tokens.{Tokens, Element, token_at, way_taken, IsIdle}

@@ -1,13 +1,12 @@
 -- Texts of fixed form, from items: what an item is, how items stand one behind the other, and where a text breaks off.
 --
--- Read first: NetItems of gos_netlist, Items of gos_lex. Places count bytes from 0.
+-- Read first: ItemTexts of gos_lex, Items of gos_lex. Places count bytes from 0.
 use Rattle.std.specs.Prelude.{◌≡◌, ℕ, zero, suc, ◌≤◌, ◌⊎◌, List, ◌++◌, length}
 use Rattle.std.specs.List.{AllByRecursion, flat_map, slice_range}
 use Rattle.std.specs.Fmt.{decimal}
 use Rattle.gos_lex.specs.Items.{TextAt, Misses}
 use Rattle.gos_lex.specs.Names.{IsNameOrWord}
-use Rattle.gos_netlist.specs.NetFaults.{IsAbove}
-use Rattle.gos_netlist.specs.NetItems.{IsTextOf, ended, IsInRange}
+use Rattle.gos_lex.specs.ItemTexts.{IsAbove, IsTextOf, ended, IsInRange}
 use Rattle.gos_plan.specs.declared.fault.ObjectFault.{ObjectFault}
 use Rattle.gos_plan.specs.declared.fault.ObjectFault.TheVariants as faults
 

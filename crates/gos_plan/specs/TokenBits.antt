@@ -2,7 +2,7 @@
 --
 -- Read first: Tokens, Ranges. So a token without bits is 0.
 use Rattle.std.specs.Prelude.{◌≡◌, ℕ, ◌^◌, ◌<◌, List, Some, All, slice_get, map}
-use Rattle.gos_netlist.specs.Events.{Direction}
+use Rattle.gos_types.specs.Events.{Direction}
 use Rattle.gos_plan.specs.declared.kinds.Kind.{Kind}
 use Rattle.gos_plan.specs.Kinds.{Part, Lit, If, Op, Local, Contact}
 use Rattle.gos_plan.specs.Firing.{Branch, Right, Active, State}

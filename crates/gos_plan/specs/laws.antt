@@ -1,6 +1,3 @@
 -- Proofs of the laws that a trait asks of this crate's types, and what they stand on. In reading order: a file uses only
 -- files above it.
 pub mod Inversion
-pub mod Passing
-pub mod SkipKept
-pub mod SkipPaths

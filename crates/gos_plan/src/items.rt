@@ -1,8 +1,6 @@
 // The items that lines are made of: fixed bytes, numbers with the byte that ends them, and names.
-ghost use Rattle.std.specs.Prelude.{◌≡◌, ◌<◌, ◌≤◌, ◌⊎◌, [], false, IfOk, IfErr, length, map, get_or};
+ghost use Rattle.std.specs.Prelude.{◌≡◌, ◌<◌, ◌≤◌, false, IfOk, IfErr};
 ghost use Rattle.std.specs.Char.{is_ascii_digit};
-ghost use Rattle.gos_lex.specs.Items.{Misses};
-ghost use Rattle.gos_netlist.specs.NetItems.{Passed, IsAmong};
 ghost use Rattle.gos_plan.specs.TextItems.{Reads, Fails, exactly, number_in, any_name};
 
 use crate::fault::ObjectFault;

@@ -10,11 +10,8 @@ ghost use Rattle.gos_plan.specs.Accounts.{HeldTokens, PartsFillPlaces};
 ghost use Rattle.gos_plan.specs.Staying.{TokensStay, PartsTakeWhatLay};
 ghost use Rattle.gos_plan.specs.TokenBits.{AllStayFit, IdleFits, LiteralsFit};
 ghost use Rattle.gos_plan.specs.Joining.{JoiningIsOne};
-ghost use Rattle.gos_plan.specs.AnyOrder.{OneOrderIsEnough};
-ghost use Rattle.gos_plan.specs.SmallPlans.{SkipRunsInOrder, HasteIsNoOrder, SkipIsListed, EagerIsNotListed, SkipIsJoined};
-ghost use Rattle.gos_plan.specs.SmallGates.{SkipGates, SharedGates};
-ghost use Rattle.gos_plan.specs.SmallPaths.{SkipPaths, SkipIsNoDeadEnd, SharedAnswersPass, SharedRequestsWait, SharedAnswersAreNotLate, CountingIsNotNamed};
-ghost use Rattle.gos_plan.specs.SmallCycles.{CallIsListed, CallRunsInOrder, UnaskedIsNoOrder};
+ghost use Rattle.gos_plan.specs.SmallPlans.{SkipRunsInOrder, HasteIsNoOrder, SkipIsJoined};
+ghost use Rattle.gos_plan.specs.SmallCalls.{CallRunsInOrder, UnaskedIsNoOrder};
 ghost use Rattle.gos_plan.specs.ObjectFaults.{IsOnePlan, ReadHasNoFault, HasOneFault};
 
 /// The handshakes of a product and of a function are those of their sides, one behind the other and none lost, where
@@ -77,26 +74,16 @@ pub fn one_joining()
     ensures { JoiningIsOne }
 {}
 
-/// A cycle that is made with its pulses in the order of events is made with them in every order, where each has an
-/// end of its own.
-pub fn any_order()
-    ensures { OneOrderIsEnough }
-{}
-
-/// The plan of `skip` has orderly lists and others. The cycles of the circuit that answers each run in the next cycle
-/// are lists of it; those of a circuit that answers unasked are not. Joined to the plan of `fun a . a` it is itself.
+/// The plan of `skip` has orderly lists and others. Joined to the plan of `fun a . a` it is itself.
 pub fn small_plans()
     ensures order { SkipRunsInOrder }
     ensures haste { HasteIsNoOrder }
-    ensures cycles { SkipIsListed }
-    ensures eager { EagerIsNotListed }
     ensures joined { SkipIsJoined }
 {}
 
-/// The plan of `import c : com; c` has a joint and no part. Cycles in which its circuit is run, runs `c`, and is run
-/// again when it is done are lists of it, and orderly. A list that begins with the answer of `c` is not.
-pub fn small_cycles()
-    ensures listed { CallIsListed }
+/// The plan of `import c : com; c` has a joint and no part. The list in which it is run, runs `c`, and is run again when it
+/// is done is orderly. A list that begins with the answer of `c` is not.
+pub fn small_calls()
     ensures order { CallRunsInOrder }
     ensures unasked { UnaskedIsNoOrder }
 {}
@@ -107,21 +94,4 @@ pub fn one_answer()
     ensures plan { (text : List ℕ) → IsOnePlan text }
     ensures read { (text : List ℕ) → ReadHasNoFault text }
     ensures fault { (text : List ℕ) → HasOneFault text }
-{}
-
-/// The gates of Skip keep the law, and so do those of a Share of a command.
-pub fn small_gates()
-    ensures skip { SkipGates }
-    ensures share { SharedGates }
-{}
-
-/// The request of Skip goes on as its answer, and one can't say that it doesn't. A Share of a command passes on the answer
-/// of its source within the cycle, and no request, so that this answer isn't late. A cell that shows the number of a net doesn't know it by name alone.
-pub fn small_paths()
-    ensures skip { SkipPaths }
-    ensures no_dead_end { SkipIsNoDeadEnd }
-    ensures answers { SharedAnswersPass }
-    ensures requests { SharedRequestsWait }
-    ensures late { SharedAnswersAreNotLate }
-    ensures counting { CountingIsNotNamed }
 {}

@@ -10,15 +10,12 @@
 //
 // `contacts.rt` has the handshakes of parts and of types; `specs/Size` bounds the cells of a plan's netlist.
 //
-// `gates.rt` has the trait for crates that lay parts out as cells: `specs/Gates`, `specs/Law`. `firing.rt` is a plain,
-// slow program that says what a part does with a token.
+// `firing.rt` is a plain, slow program that says what a part does with a token.
 #![tactic(auto)]
 
-pub mod cells;
 mod contacts;
 mod fault;
 mod firing;
-mod gates;
 mod import_line;
 mod items;
 mod joint_line;
@@ -36,12 +33,10 @@ mod word;
 pub use contacts::{Contact, part_contacts, type_contacts, user_contacts};
 pub use fault::ObjectFault;
 pub use firing::{Firing, Phase, Puts, Slot, State, Token, fire};
-pub use gates::{Macro, Wire};
 pub use kinds::{Kind, Op2};
 pub use laws::{
-    any_order, held_tokens, one_answer, one_joining, one_token_each, orderly_holds_one,
-    orderly_is_decided, parts_fire, sides, small_cycles, small_gates, small_paths, small_plans,
-    tokens_fit, tokens_stay,
+    held_tokens, one_answer, one_joining, one_token_each, orderly_holds_one, orderly_is_decided,
+    parts_fire, sides, small_calls, small_plans, tokens_fit, tokens_stay,
 };
 pub use plan::{End, Joint, Plan, PlanImport, make};
 pub use printing::print_object;

@@ -1,5 +1,5 @@
 // Reading a plan from its text.
-ghost use Rattle.std.specs.Prelude.{◌≡◌, ℕ, ◌≤◌, All, IfOk, IfErr, length, map};
+ghost use Rattle.std.specs.Prelude.{◌≡◌, All, IfOk, IfErr};
 ghost use Rattle.gos_types.specs.Types.{type_of};
 ghost use Rattle.gos_plan.specs.Ranges.{IsInRange, AreInRange};
 ghost use Rattle.gos_plan.specs.Seen.{plan_of};

@@ -1,13 +1,12 @@
 // The words of a plan's text, by tables.
-ghost use Rattle.std.specs.Prelude.{◌≡◌, ◌+◌, ◌≤◌, IfOk, IfErr};
+ghost use Rattle.std.specs.Prelude.{IfOk, IfErr};
 ghost use Rattle.gos_plan.specs.TextItems.{Reads, Fails, words};
 ghost use Rattle.gos_plan.specs.ObjectText.{word_text};
 ghost use Rattle.gos_plan.specs.ObjectItems.{letters, body_word_text, end_word_text};
 
 use crate::fault::ObjectFault;
 use crate::kinds::Op2;
-use gos_lex::Cursor;
-use gos_netlist::one_of;
+use gos_lex::{Cursor, one_of};
 
 /// The word of a part whose line ends with it.
 #[derive(Clone, Copy)]

@@ -10,7 +10,7 @@ use Rattle.gos_netlist.specs.Settling.{Numbers, Settling}
 use Rattle.gos_netlist.proofs.SettlingLemmas.{acyclic_settles}
 use Rattle.gos_netcheck.specs.Accepted.{IsAccepted}
 use Rattle.gos_model.specs.Labels.{Label}
-use Rattle.gos_model.specs.Flattening.{AnyOrder, inputs, outputs}
+use Rattle.gos_pace.specs.Flattening.{AnyOrder, inputs, outputs}
 use Rattle.gos_sim.specs.declared.event_nets.EventNets.{EventNets}
 use Rattle.gos_sim.specs.declared.pulse.Pulse.{Pulse}
 use Rattle.gos_sim.specs.EventNets.{input_events, output_events}

@@ -8,7 +8,7 @@ use Rattle.std.proofs.Math.Seq.{get_or-append_seam, take-append_seam, drop-appen
 use Rattle.std.proofs.Math.ListN.{get_or-append}
 use Rattle.gos_lex.specs.Bytes.{begins_name, continues_name}
 use Rattle.gos_lex.specs.Names.{spells_name, IsNameOrWord}
-use Rattle.gos_lines.specs.Lines.{Word}
+use Rattle.gos_lex.specs.Lines.{Word}
 use Rattle.gos_pulse.specs.Entries.{IsDotted}
 use Rattle.gos_pulse.specs.inner.EntryLine.{HasNames, IsFirstDot}
 

@@ -4,7 +4,7 @@ use Rattle.std.specs.List.{AllByRecursion}
 use Rattle.std.proofs.lemmas.List.Elements.{All-from_recursion}
 use Rattle.gos_netlist.specs.Nets.{Netlist}
 use Rattle.std.specs.Str.Lines.{lines}
-use Rattle.gos_lines.specs.Lines.{Words, Statement, statements_of}
+use Rattle.gos_lex.specs.Lines.{Words, Statement, statements_of}
 use Rattle.gos_pulse.specs.Entries.{IsEntry, IsValue, SaysCycles, IsRunLength}
 use Rattle.gos_pulse.specs.Driving.{GivesInput}
 use Rattle.gos_pulse.specs.PulseFile.{ReadsEntries, Names, IsWrongEntry, HasFirstWrong, IsRefused}

@@ -5,12 +5,13 @@ use Rattle.std.specs.List.{flat_map}
 use Rattle.gos_types.specs.Types.{Type', Com, Exp, Var, Pair, Fun}
 use Rattle.gos_netlist.specs.declared.event.Event as seen
 use Rattle.gos_netlist.specs.Nets.{Cell, Side, Give, Take, NetPort, Netlist}
-use Rattle.gos_netlist.specs.Events.{Direction, Event, Is, events, is_input, port_events, events_from, events_of}
+use Rattle.gos_netlist.specs.Events.{is_input, port_events, events_from, events_of}
+use Rattle.gos_types.specs.Events.{Direction, Event, Is, events}
 use Rattle.gos_netlist.specs.Settling.{Numbers, at}
 use Rattle.gos_netcheck.specs.PortRules.{AllFit, Fits, inputs_among, place, places}
 use Rattle.gos_netcheck.specs.Accepted.{IsAccepted}
 use Rattle.gos_model.specs.Labels.{Port, Label, is_answer, is_output_at}
-use Rattle.gos_model.specs.Flattening.{port_of, pulses_from, port_pulses, pulses}
+use Rattle.gos_pace.specs.Flattening.{port_of, pulses_from, port_pulses, pulses}
 use Rattle.gos_sim.specs.declared.event_nets.EventNets.{EventNets}
 use Rattle.gos_sim.specs.EventNets as table
 use Rattle.gos_sim.specs.Cycle.{pulse_shown}

@@ -5,10 +5,12 @@ use Rattle.std.proofs.lemmas.Option.{slice_get_within, slice_get-get_or, slice_g
 use Rattle.std.proofs.lemmas.List.{reverse-append, length-map, length-set}
 use Rattle.gos_netlist.specs.declared.event.Event.{Event}
 use Rattle.gos_netlist.specs.Nets.{Side, Give, Take, NetPort, Netlist}
-use Rattle.gos_netlist.specs.Events.{Direction, is_input, events_of}
+use Rattle.gos_netlist.specs.Events.{is_input, events_of}
+use Rattle.gos_types.specs.Events.{Direction}
 use Rattle.gos_model.specs.Labels.{Port, Given, Taken, Label, is_answer}
-use Rattle.gos_model.specs.Flattening.{port_of, AnyOrder}
-use Rattle.gos_model.specs.Protocol.{Allowed, taken_by, is_open, same_port, shake_of}
+use Rattle.gos_pace.specs.Flattening.{port_of, AnyOrder}
+use Rattle.gos_model.specs.Protocol.{Allowed, is_open, same_port, shake_of}
+use Rattle.gos_pace.specs.RunProtocol.{taken_by}
 use Rattle.gos_sim.specs.declared.pulse.Pulse.{Pulse}
 use Rattle.gos_pulse.specs.declared.board.Board.{Board}
 use Rattle.gos_pulse.specs.declared.entries.Entry.{Entry}

@@ -9,11 +9,13 @@ use Rattle.std.proofs.lemmas.Slice.Eq.{bytes_eq-Decides}
 use Rattle.gos_types.specs.Types.{Type', Com, Exp, Var, Pair, Fun, IsDone}
 use Rattle.gos_netlist.specs.declared.event.Event as seen
 use Rattle.gos_netlist.specs.Nets.{Side, Give, Take, NetPort, Netlist}
-use Rattle.gos_netlist.specs.Events.{Direction, Request, Answer, Event, Is, bits_of, events, is_input, port_events, events_from, events_of}
+use Rattle.gos_netlist.specs.Events.{is_input, port_events, events_from, events_of}
+use Rattle.gos_types.specs.Events.{Direction, Request, Answer, Event, Is, bits_of, events}
 use Rattle.gos_model.specs.Typing.{import_type}
 use Rattle.gos_model.specs.Labels.{Port, Given, Taken, Label, is_answer}
-use Rattle.gos_model.specs.Flattening.{port_of}
-use Rattle.gos_model.specs.Protocol.{shake_of, same_port, is_open, event_of, FitsAnswer, Allowed, with_side, taken_by}
+use Rattle.gos_pace.specs.Flattening.{port_of}
+use Rattle.gos_model.specs.Protocol.{shake_of, same_port, is_open, event_of, FitsAnswer, Allowed}
+use Rattle.gos_pace.specs.RunProtocol.{with_side, taken_by}
 use Rattle.gos_pulse.specs.Guarding.{goes, events_way, halves_of, half_of, is_second, PortsDiffer, HasPorts, IsLabel, IsValueOf, Guards}
 use Rattle.gos_pulse.specs.declared.guard.Half.{Half}
 use Rattle.gos_pulse.specs.declared.guard.Guard.{Guard}

@@ -8,7 +8,8 @@ use Rattle.std.proofs.lemmas.Option.{slice_get-map}
 use Rattle.std.proofs.lemmas.List.Elements.{All-contains, All-from_recursion}
 use Rattle.gos_netlist.specs.declared.event.Event as seen
 use Rattle.gos_netlist.specs.Nets.{Function, Input, Const, Not, And, Or, Xor, Mux, Add, Sub, Eq, Less, Gate, Reg, Cell, Side, NetPort, Netlist}
-use Rattle.gos_netlist.specs.Events.{Event, Is, events, is_input, events_of}
+use Rattle.gos_netlist.specs.Events.{is_input, events_of}
+use Rattle.gos_types.specs.Events.{Event, Is, events}
 use Rattle.gos_netlist.specs.Settling.{Numbers, at, Settling, shown}
 use Rattle.gos_netlist.proofs.RepeatLemmas.{same_or_not}
 use Rattle.gos_netlist.proofs.SettlingLemmas.{acyclic_settles_once}
@@ -16,8 +17,8 @@ use Rattle.gos_netcheck.specs.PortRules as rules
 use Rattle.gos_netcheck.specs.PortRules.{Fits, IsEnd, all_inputs, place}
 use Rattle.gos_netcheck.specs.Accepted.{IsAccepted}
 use Rattle.gos_model.specs.Labels.{Port, Label, is_output_at}
-use Rattle.gos_model.specs.Flattening.{port_of, pulses, inputs, outputs, AnyOrder}
-use Rattle.gos_model.specs.Protocol.{IsInRange, IsQuiet, IsQuietFrom}
+use Rattle.gos_pace.specs.Flattening.{port_of, pulses, inputs, outputs, AnyOrder}
+use Rattle.gos_pace.specs.RunProtocol.{IsInRange, IsQuiet, IsQuietFrom}
 use Rattle.gos_sim.specs.declared.event_nets.EventNets.{EventNets}
 use Rattle.gos_sim.specs.declared.pulse.Pulse.{Pulse}
 use Rattle.gos_sim.specs.EventNets as table

@@ -7,11 +7,12 @@ use Rattle.std.proofs.lemmas.Bool.{and_parts}
 use Rattle.gos_types.specs.Types.{Type', Com, Exp, Var, Pair, Fun}
 use Rattle.gos_netlist.specs.declared.event.Event as seen
 use Rattle.gos_netlist.specs.Nets.{Side, NetPort, Netlist}
-use Rattle.gos_netlist.specs.Events.{Direction, Event, Is, bits_of, events, is_input, port_events, events_from, events_of}
+use Rattle.gos_netlist.specs.Events.{is_input, port_events, events_from, events_of}
+use Rattle.gos_types.specs.Events.{Direction, Event, Is, bits_of, events}
 use Rattle.gos_netcheck.specs.Accepted.{IsAccepted}
-use Rattle.gos_lines.specs.Lines.{Word}
+use Rattle.gos_lex.specs.Lines.{Word}
 use Rattle.gos_model.specs.Labels.{Label}
-use Rattle.gos_model.specs.Flattening.{port_of}
+use Rattle.gos_pace.specs.Flattening.{port_of}
 use Rattle.gos_pulse.specs.EventNames.{event_word, dotted, name_of, name_at, IsInput}
 use Rattle.gos_pulse.specs.inner.Slots.{label_of, port_at}
 use Rattle.gos_pulse.proofs.GuardLemmas.{IsEventOf, event_from, no_event}

@@ -5,8 +5,8 @@ use Rattle.gos_netlist.specs.declared.event.Event.{Event}
 use Rattle.gos_netlist.specs.Nets.{Netlist}
 use Rattle.gos_netcheck.specs.Accepted.{IsAccepted}
 use Rattle.gos_lex.specs.Numerals.{value_of}
-use Rattle.gos_lines.specs.Lines.{Word, Words, Statement, statements_of}
-use Rattle.gos_lines.specs.Numbers.{IsNumber}
+use Rattle.gos_lex.specs.Lines.{Word, Words, Statement, statements_of}
+use Rattle.gos_lex.specs.LineNumbers.{IsNumber}
 use Rattle.gos_pulse.specs.EventNames.{IsInput}
 use Rattle.gos_pulse.specs.Entries.{SaysCycles, IsRunLength, Written, keyword, last_word, WritesValue, SaysEntry, IsWithin, IsValue, IsEntry}
 use Rattle.gos_pulse.specs.PulseFile.{Names, IsWrongHead, IsWrongEntry, ReadsEntries, SaysPulses, HasFirstWrong}

@@ -5,8 +5,8 @@ use Rattle.gos_netlist.specs.Nets.{Netlist}
 use Rattle.gos_netlist.specs.Settling.{Numbers, RunFrom, Settling, next_registers}
 use Rattle.gos_netcheck.specs.Accepted.{IsAccepted}
 use Rattle.gos_model.specs.Labels.{Label}
-use Rattle.gos_model.specs.Flattening.{outputs, inputs, AnyOrder}
-use Rattle.gos_model.specs.Protocol.{IsInRange, InputsInRange}
+use Rattle.gos_pace.specs.Flattening.{outputs, inputs, AnyOrder}
+use Rattle.gos_pace.specs.RunProtocol.{IsInRange, InputsInRange}
 use Rattle.gos_pulse.specs.declared.entries.Entry.{Entry}
 use Rattle.gos_pulse.specs.Driving.{TakesAll, BreaksAt, GivesIn, GoesBy, DrivesFrom, BreaksFrom, at_entries, next_entries}
 use Rattle.gos_pulse.specs.OneAnswer.{HasOneRun, DrivenIsNotBroken, BreaksOnce}

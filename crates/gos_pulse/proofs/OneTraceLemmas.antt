@@ -4,7 +4,7 @@ use Rattle.gos_netlist.specs.Nets.{Netlist}
 use Rattle.gos_netlist.specs.Settling.{Numbers}
 use Rattle.gos_netcheck.specs.Accepted.{IsAccepted}
 use Rattle.gos_model.specs.Labels.{Label}
-use Rattle.gos_model.specs.Flattening.{outputs, inputs}
+use Rattle.gos_pace.specs.Flattening.{outputs, inputs}
 use Rattle.gos_pulse.specs.inner.Slots.{label_of, port_at}
 use Rattle.gos_pulse.specs.Driving.{IsPulse}
 use Rattle.gos_pulse.specs.Traced.{AreLines, LinesFrom}

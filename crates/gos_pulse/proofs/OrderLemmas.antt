@@ -4,7 +4,7 @@ use Rattle.std.specs.Prelude.{slice_get}
 use Rattle.gos_netlist.specs.declared.event.Event.{Event}
 use Rattle.gos_netlist.specs.Nets.{NetPort}
 use Rattle.gos_model.specs.Labels.{Label}
-use Rattle.gos_model.specs.Flattening.{AnyOrder}
+use Rattle.gos_pace.specs.Flattening.{AnyOrder}
 use Rattle.gos_sim.specs.declared.pulse.Pulse.{Pulse}
 use Rattle.gos_pulse.specs.inner.Slots.{label_if, label_of, labels_of}
 

@@ -6,7 +6,7 @@ use Rattle.gos_netlist.specs.Nets.{Side, Give, Take, NetPort, Netlist}
 use Rattle.gos_netcheck.specs.PortRules.{HasSide}
 use Rattle.gos_netcheck.specs.Accepted.{IsAccepted}
 use Rattle.gos_model.specs.Labels.{Given, Taken}
-use Rattle.gos_model.specs.Flattening.{port_of}
+use Rattle.gos_pace.specs.Flattening.{port_of}
 use Rattle.gos_pulse.specs.Guarding.{PortsDiffer, HasPorts}
 
 -- all but the first port are taken

@@ -5,7 +5,7 @@ use Rattle.std.proofs.lemmas.List.{append-nil, length-append}
 use Rattle.gos_netlist.specs.Nets.{Function, Input, Const, Not, And, Or, Xor, Mux, Add, Sub, Eq, Less, Gate, Reg, Cell, Netlist}
 use Rattle.gos_netlist.specs.Settling.{Numbers, Settling, at, shown}
 use Rattle.gos_model.specs.Labels.{Label}
-use Rattle.gos_model.specs.Flattening.{AnyOrder, inputs, outputs}
+use Rattle.gos_pace.specs.Flattening.{AnyOrder, inputs, outputs}
 use Rattle.gos_sim.specs.Cycle.{Simulator}
 use Rattle.gos_sim.specs.Repeats.{Repeats}
 use Rattle.gos_pulse.specs.declared.board.Board.{Board}

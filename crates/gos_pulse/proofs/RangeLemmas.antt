@@ -6,14 +6,15 @@ use Rattle.std.proofs.lemmas.Bool.{cases_lt}
 use Rattle.std.proofs.lemmas.List.Elements.{All-contains, All-from_recursion}
 use Rattle.gos_netlist.specs.declared.event.Event as seen
 use Rattle.gos_netlist.specs.Nets.{Input, Cell, Side, NetPort, Netlist}
-use Rattle.gos_netlist.specs.Events.{Direction, Event, Is, is_input, events, port_events, events_from, events_of}
+use Rattle.gos_netlist.specs.Events.{is_input, port_events, events_from, events_of}
+use Rattle.gos_types.specs.Events.{Direction, Event, Is, events}
 use Rattle.gos_netlist.specs.Settling.{Numbers, at}
 use Rattle.gos_netcheck.specs.PortRules.{all_inputs, place}
 use Rattle.gos_netcheck.specs.PortRules as rules
 use Rattle.gos_netcheck.specs.Accepted.{IsAccepted}
 use Rattle.gos_model.specs.Labels.{Port, is_output_at}
-use Rattle.gos_model.specs.Flattening.{port_of}
-use Rattle.gos_model.specs.Protocol.{IsInRange, IsQuiet, IsQuietFrom}
+use Rattle.gos_pace.specs.Flattening.{port_of}
+use Rattle.gos_pace.specs.RunProtocol.{IsInRange, IsQuiet, IsQuietFrom}
 use Rattle.gos_sim.specs.declared.event_nets.EventNets.{EventNets}
 use Rattle.gos_sim.specs.declared.pulse.Pulse.{Pulse}
 use Rattle.gos_sim.specs.EventNets as table

@@ -8,8 +8,8 @@ use Rattle.gos_netlist.specs.Nets.{Netlist}
 use Rattle.gos_netlist.specs.Events.{events_of}
 use Rattle.gos_netlist.specs.Settling.{Numbers, RunFrom}
 use Rattle.gos_model.specs.Labels.{Label}
-use Rattle.gos_model.specs.Flattening.{inputs, outputs}
-use Rattle.gos_model.specs.Protocol.{InputsInRange}
+use Rattle.gos_pace.specs.Flattening.{inputs, outputs}
+use Rattle.gos_pace.specs.RunProtocol.{InputsInRange}
 use Rattle.gos_sim.specs.Cycle.{Simulator, at_reset}
 use Rattle.gos_pulse.specs.declared.board.Board.{Board}
 use Rattle.gos_pulse.specs.declared.entries.Entry.{Entry}

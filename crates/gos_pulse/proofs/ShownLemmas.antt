@@ -10,7 +10,7 @@ use Rattle.gos_netlist.specs.Settling.{Numbers, at, Settling, shown}
 use Rattle.gos_netcheck.specs.PortRules.{IsEnd}
 use Rattle.gos_netcheck.specs.Accepted.{IsAccepted}
 use Rattle.gos_model.specs.Labels.{Label, is_output, is_output_at}
-use Rattle.gos_model.specs.Flattening.{outputs, inputs}
+use Rattle.gos_pace.specs.Flattening.{outputs, inputs}
 use Rattle.gos_sim.specs.declared.event_nets.EventNets.{EventNets}
 use Rattle.gos_sim.specs.declared.pulse.Pulse.{Pulse}
 use Rattle.gos_sim.specs.EventNets.{all_events, comes_in, input_events, output_events}

@@ -8,8 +8,9 @@ use Rattle.std.proofs.lemmas.Slice.Eq.{bytes_eq-Decides}
 use Rattle.std.proofs.lemmas.List.Elements.{All-append}
 use Rattle.gos_netlist.specs.declared.event.Event as seen
 use Rattle.gos_netlist.specs.Nets.{Side, NetPort, Netlist}
-use Rattle.gos_netlist.specs.Events.{Event, Is, events, port_events, events_from, events_of}
-use Rattle.gos_lines.specs.Lines.{Word}
+use Rattle.gos_netlist.specs.Events.{port_events, events_from, events_of}
+use Rattle.gos_types.specs.Events.{Event, Is, events}
+use Rattle.gos_lex.specs.Lines.{Word}
 use Rattle.gos_pulse.specs.EventNames.{name_of, IsInputOf}
 use Rattle.gos_lex.specs.NameTables.{number_at, added}
 use Rattle.gos_pulse.specs.inner.EventTable.{HasPorts, IsTableOf}

@@ -1,6 +1,6 @@
 -- A run of a netlist under a pulse file.
 --
--- Read first: Entries; Flattening and Protocol of gos_model. In each cycle the outputs are seen first. Then all `at`
+-- Read first: Entries; Flattening and RunProtocol of gos_pace. In each cycle the outputs are seen first. Then all `at`
 -- entries of the cycle are taken, in the file's order: the run ends at the first of them that the protocol doesn't
 -- allow. Then the first `next` entry that is not given yet is looked at. It is given in this cycle where its distance
 -- has passed since the cycle of the `next` entry given before it, or since cycle 0, and where the protocol allows it.
@@ -11,8 +11,9 @@ use Rattle.gos_netlist.specs.Nets.{NetPort, Netlist}
 use Rattle.gos_netlist.specs.Events.{events_of}
 use Rattle.gos_netlist.specs.Settling.{Numbers, IsRun}
 use Rattle.gos_model.specs.Labels.{Label}
-use Rattle.gos_model.specs.Flattening.{port_of, outputs, inputs, AnyOrder}
-use Rattle.gos_model.specs.Protocol.{Allowed, taken_by, InputsInRange}
+use Rattle.gos_pace.specs.Flattening.{port_of, outputs, inputs, AnyOrder}
+use Rattle.gos_model.specs.Protocol.{Allowed}
+use Rattle.gos_pace.specs.RunProtocol.{taken_by, InputsInRange}
 use Rattle.gos_pulse.specs.declared.entries.Entry.{Entry}
 use Rattle.gos_pulse.specs.declared.fault.PulseFault.{PulseFault}
 use Rattle.gos_pulse.specs.declared.fault.PulseFault.TheVariants as faults

@@ -1,12 +1,12 @@
 -- The lines of a pulse file: `cycles N`, and then entries.
 --
--- Read first: EventNames; Lines and Numbers of gos_lines.
+-- Read first: EventNames; Lines and LineNumbers of gos_lex.
 use Rattle.std.specs.Prelude.{◌≡◌, ◌≤◌, ◌<◌, ◌^◌, ℕ, zero, suc, Bool, true, false, [], ◌∷◌, Option, Some, None, codes}
 use Rattle.gos_lex.specs.Names.{IsNameOrWord}
 use Rattle.gos_netlist.specs.Nets.{Netlist}
 use Rattle.gos_netlist.specs.declared.event.Event.{Event}
-use Rattle.gos_lines.specs.Lines.{Word, Words}
-use Rattle.gos_lines.specs.Numbers.{IsNumber}
+use Rattle.gos_lex.specs.Lines.{Word, Words}
+use Rattle.gos_lex.specs.LineNumbers.{IsNumber}
 use Rattle.gos_pulse.specs.EventNames.{dotted, IsInput}
 use Rattle.gos_pulse.specs.declared.entries.Entry.{Entry}
 

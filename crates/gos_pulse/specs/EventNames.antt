@@ -7,7 +7,7 @@ use Rattle.gos_types.specs.Types.{Type', Com, Exp, Var}
 use Rattle.gos_netlist.specs.declared.event.Event.{Event}
 use Rattle.gos_netlist.specs.Nets.{NetPort, Netlist}
 use Rattle.gos_netlist.specs.Events.{events_of}
-use Rattle.gos_lines.specs.Lines.{Word}
+use Rattle.gos_lex.specs.Lines.{Word}
 
 -- the names of the events of a port of this type, by place
 abbrev pub event_words : Type' → List Word

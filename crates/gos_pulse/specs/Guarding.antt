@@ -9,7 +9,7 @@ use Rattle.gos_types.specs.Types.{IsDone}
 use Rattle.gos_netlist.specs.Nets.{Give, NetPort, Netlist}
 use Rattle.gos_netlist.specs.Events.{events_of}
 use Rattle.gos_model.specs.Labels.{Label, is_answer}
-use Rattle.gos_model.specs.Flattening.{port_of}
+use Rattle.gos_pace.specs.Flattening.{port_of}
 use Rattle.gos_model.specs.Protocol.{is_open}
 use Rattle.gos_pulse.specs.declared.guard.Half.{Half}
 use Rattle.gos_pulse.specs.declared.guard.Guard.{Guard}

@@ -7,7 +7,7 @@ use Rattle.std.specs.Prelude.{◌≡◌, ◌≤◌, ◌<◌, ◌+◌, ◌⊎◌,
 use Rattle.std.specs.Str.Lines.{lines}
 use Rattle.gos_netlist.specs.Nets.{Netlist}
 use Rattle.gos_netlist.specs.declared.event.Event.{Event}
-use Rattle.gos_lines.specs.Lines.{Words, Statement, statements_of}
+use Rattle.gos_lex.specs.Lines.{Words, Statement, statements_of}
 use Rattle.gos_pulse.specs.EventNames.{IsInput}
 use Rattle.gos_pulse.specs.Entries.{SaysCycles, IsRunLength, Written, SaysEntry, IsWithin, IsValue, IsEntry}
 use Rattle.gos_pulse.specs.declared.entries.Entry.{Entry}

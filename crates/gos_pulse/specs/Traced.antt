@@ -1,11 +1,11 @@
 -- The trace of a driven run.
 --
--- Read first: Driving, Flattening of gos_model.
+-- Read first: Driving; Flattening of gos_pace.
 use Rattle.std.specs.Prelude.{◌≡◌, ℕ, suc, List, [], ◌∷◌, ◌++◌}
 use Rattle.gos_netlist.specs.Nets.{Netlist}
 use Rattle.gos_netlist.specs.Settling.{Numbers}
 use Rattle.gos_model.specs.Labels.{Label}
-use Rattle.gos_model.specs.Flattening.{outputs, inputs}
+use Rattle.gos_pace.specs.Flattening.{outputs, inputs}
 use Rattle.gos_pulse.specs.Driving.{IsPulse, IsDriven}
 use Rattle.gos_pulse.specs.declared.entries.Entry.{Entry}
 use Rattle.gos_pulse.specs.declared.trace.Trace.{Trace}

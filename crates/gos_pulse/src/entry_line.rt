@@ -2,12 +2,11 @@
 
 ghost use Rattle.std.specs.Prelude.{◌≡◌, ◌<◌, ◌∷◌, [], ℕ, Bool, Option, Some, None, map, length, MatchOption, IsTrue, ◌↔◌, ◌==◌};
 ghost use Rattle.std.specs.Option.{option_map};
-ghost use Rattle.gos_lines.specs.Lines.{Word};
+ghost use Rattle.gos_lex.specs.Lines.{Word};
 ghost use Rattle.gos_pulse.specs.Entries.{SaysCycles, SaysEntry, Written as Said, WritesValue, IsDotted, keyword, last_word};
 ghost use Rattle.gos_pulse.specs.inner.EntryLine.{said, HasNames, IsFirstDot};
 
-use gos_lex::is_name_or_word;
-use gos_lines::number;
+use gos_lex::{is_name_or_word, number};
 
 /// What an entry's line writes.
 #[derive(Clone, Copy)]

@@ -3,7 +3,8 @@
 ghost use Rattle.std.specs.Prelude.{◌≡◌, ◌<◌, ◌∷◌, ◌↔◌, [], List, not, false, length, get_or, set, replicate, if◌then◌else◌, IfOk, IsTrue};
 ghost use Rattle.gos_netlist.specs.Nets.{Netlist as Circuit};
 ghost use Rattle.gos_model.specs.Labels.{Label, is_answer};
-ghost use Rattle.gos_model.specs.Protocol.{Allowed, taken_by};
+ghost use Rattle.gos_model.specs.Protocol.{Allowed};
+ghost use Rattle.gos_pace.specs.RunProtocol.{taken_by};
 ghost use Rattle.gos_pulse.specs.Guarding.{inputs_of, outputs_of, IsLabel, IsValueOf, HasPorts, Guards, half_of, halves_of, goes, is_second};
 
 use gos_netlist::{Event, Netlist, events};

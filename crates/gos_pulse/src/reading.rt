@@ -2,7 +2,7 @@
 
 ghost use Rattle.std.specs.Prelude.{◌≢◌, ◌<◌, ◌+◌, ◌^◌, ℕ, Some, None, All, map, length, IfOk, IfErr, MatchOption, IsTrue, ◌↔◌};
 ghost use Rattle.std.specs.Str.Lines.{lines};
-ghost use Rattle.gos_lines.specs.Lines.{statements_from};
+ghost use Rattle.gos_lex.specs.Lines.{statements_from};
 ghost use Rattle.gos_pulse.specs.Entries.{SaysCycles, IsRunLength, IsInTime, IsValue, IsEntry};
 ghost use Rattle.gos_pulse.specs.PulseFile.{IsPulseFile, IsRefused, IsWrongHead, IsWrongEntry, ReadsEntries, Names};
 ghost use Rattle.gos_pulse.specs.inner.Reading.{IsEntriesFault};
@@ -13,7 +13,7 @@ use crate::entries::{Entry, Pulses};
 use crate::entry_line::{Written, cycles_of, written_in};
 use crate::event_table::EventTable;
 use crate::fault::PulseFault;
-use gos_lines::{count_lines, next_line};
+use gos_lex::{count_lines, next_line};
 use gos_netlist::Netlist;
 use std::alloc::Global;
 

@@ -1,12 +1,7 @@
-// What it means that a plan realises a program.
+// What it means that a plan realises a program; that links which fit have a joining; and when a plan grows quiet.
 //
-// Definitions alone: the functions do nothing, and their contracts are the laws. Read the files of `specs` in the order
-// of `specs/Lib.antt`; the definition that all lead to is `RealisesModule`, in `specs/Modules`. Then read laws.rt.
+// Laws alone: each function does nothing, and its contract is the law. `laws.rt` has the chapters in reading order; the
+// definitions of a chapter stand in its folder of `specs`, and what it is about in README.md.
 #![tactic(auto)]
 
-mod laws;
-
-pub use laws::{
-    alone, functions, inputs, links, lists_are_traces, others_are_refused, renumbering, slim,
-    small_links, small_realisers, turns,
-};
+pub mod laws;

@@ -1,11 +1,9 @@
-pub mod SeenIdleLemmas
-pub mod SeenPlaceLemmas
-pub mod SeenTokenLemmas
-pub mod SeenFillLemmas
-pub mod SeenFireLemmas
-pub mod ShareRowLemmas
-pub mod SeenKeptLemmas
-pub mod SeenElementLemmas
-pub mod SeenRunLemmas
-pub mod SeenQuietLemmas
-mod SmallSharingLemmas
+pub mod sharing
+pub mod buffers
+pub mod ground_types
+pub mod behind
+pub mod loyal
+pub mod cores
+pub mod function_types
+pub mod parts_of_types
+pub mod pair_types

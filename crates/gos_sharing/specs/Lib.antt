@@ -1,3 +1,10 @@
--- In reading order: a file uses only files above it.
-pub mod Sharing
-pub mod SmallSharing
+-- In reading order: a chapter uses only chapters above it.
+pub mod sharing
+pub mod buffers
+pub mod ground_types
+pub mod behind
+pub mod loyal
+pub mod cores
+pub mod function_types
+pub mod parts_of_types
+pub mod pair_types

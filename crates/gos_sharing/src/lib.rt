@@ -1,8 +1,7 @@
-// Seeing through a Share: where a list uses it for one caller alone, plain joints in its place have the list too.
+// One source and two callers: a plan behind a Share realises what it realises without, at every type.
 //
-// Definitions and laws alone. Read `specs/Sharing`, and then laws.rt.
+// Laws alone: each function does nothing, and its contract is the law. `laws.rt` has the chapters in reading order; the
+// definitions of a chapter stand in its folder of `specs`, and what it is about in README.md.
 #![tactic(auto)]
 
-mod laws;
-
-pub use laws::{lists_are_seen, small_sharing};
+pub mod laws;

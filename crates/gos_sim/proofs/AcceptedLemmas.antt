@@ -8,7 +8,8 @@ use Rattle.std.proofs.lemmas.List.{append-nil, append_assoc}
 use Rattle.std.proofs.lemmas.List.Elements.{All-append, All-cons, All-nil, All-filter, All-from_recursion, Contains-append_left, Contains-append_right, Contains-push, filter-append, filter_passes}
 use Rattle.gos_types.specs.Types.{Type', Com, Exp, Var, Pair, Fun}
 use Rattle.gos_netlist.specs.Nets.{Function, Input, Const, Not, And, Or, Xor, Mux, Add, Sub, Eq, Less, Gate, Reg, Cell, pins, Side, Give, Take, NetPort, Netlist}
-use Rattle.gos_netlist.specs.Events.{Direction, Request, Answer, is_input, net_count}
+use Rattle.gos_netlist.specs.Events.{is_input, net_count}
+use Rattle.gos_types.specs.Events.{Direction, Request, Answer}
 use Rattle.gos_netcheck.specs.CellRules.{HasRightWidths, NetsExist, OperandsFit, WidthsFit, widths_of}
 use Rattle.gos_netcheck.specs.PortRules.{AllFit, AreNew, Fits, IsEnd, all_inputs, inputs_among, inputs_of, place, places}
 use Rattle.gos_netcheck.specs.Accepted.{IsAccepted}

@@ -6,7 +6,8 @@ use Rattle.std.specs.List.{flat_map}
 use Rattle.std.specs.Bool.{beq}
 use Rattle.gos_types.specs.Types.{Type'}
 use Rattle.gos_netlist.specs.Nets.{Side, NetPort, Netlist}
-use Rattle.gos_netlist.specs.Events.{Direction, Event, Is, events, is_input}
+use Rattle.gos_netlist.specs.Events.{is_input}
+use Rattle.gos_types.specs.Events.{Direction, Event, Is, events}
 use Rattle.gos_sim.specs.declared.event_nets.EventNets.{EventNets}
 
 -- an event of this direction, with the net of its pulse and, where it has one, that of its number

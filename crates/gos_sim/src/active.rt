@@ -1,15 +1,15 @@
 // A cycle in which little changes: only what hangs on the changes is evaluated.
-ghost use Rattle.std.specs.Prelude.{◌≡◌, ◌≢◌, ℕ, ◌+◌, ◌<◌, ◌≤◌, ◌/◌, ◌^◌, ◌⊎◌, ◌++◌, ◌∷◌, [], All, IfOk, IsFalse, IsTrue, List, length, set};
-ghost use Rattle.gos_netlist.specs.Settling.{Numbers, at};
+ghost use Rattle.std.specs.Prelude.{◌≡◌, ℕ, ◌+◌, ◌<◌, ◌/◌, ◌⊎◌, ◌++◌, ◌∷◌, [], All, IfOk, IsFalse, IsTrue, length, set};
+ghost use Rattle.gos_netlist.specs.Settling.{at};
 ghost use Rattle.gos_sim.specs.Cycle.{GivesAll, IsWord};
-ghost use Rattle.gos_sim.specs.inner.Program.{HasLatch, IsLatchWithin, IsStepWithin};
+ghost use Rattle.gos_sim.specs.inner.Program.{IsLatchWithin, IsStepWithin};
 ghost use Rattle.gos_sim.specs.inner.Running.{AreShown, AreTaken};
 ghost use Rattle.gos_sim.specs.inner.Marks.{AreUnmarked};
 ghost use Rattle.gos_sim.specs.inner.Readers.{ReadAll};
 ghost use Rattle.gos_sim.specs.inner.Active.{Follows, HasSettled, HasSwept, IsAwake, IsReadyToSettle, IsSettled, IsWake, KeepsAwake, Lacks, Stand, StandBut, SweepsOn};
 ghost use Rattle.gos_sim.specs.inner.Spots.{IsEvaluated};
 ghost use Rattle.gos_sim.specs.inner.Past.{is_all, is_few, is_rest};
-ghost use Rattle.gos_sim.specs.inner.Machine.{HasBegun, IsRunnable, IsStill, RunsThrough, Settles, plan_of};
+ghost use Rattle.gos_sim.specs.inner.Machine.{HasBegun, IsRunnable, IsStill, RunsThrough, plan_of};
 
 use crate::course::Course;
 use crate::evaluation::Program;

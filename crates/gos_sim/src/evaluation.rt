@@ -9,7 +9,7 @@ ghost use Rattle.gos_sim.specs.inner.Drafts.{AddsSteps, IsDraft};
 ghost use Rattle.gos_sim.specs.inner.Places.{AreStepsMoved};
 ghost use Rattle.gos_sim.specs.inner.Running.{AreShown, KeepsOtherSteps};
 ghost use Rattle.gos_sim.specs.inner.Spots.{HasGate, IsEvaluated, IsGate, IsNumbered, IsSpot, Tells};
-ghost use Rattle.gos_sim.specs.inner.Evaluation.{AreFitting, AreRunsMore, Fits, GoesOn, IsAdded, after, part, steps_from, steps_of};
+ghost use Rattle.gos_sim.specs.inner.Evaluation.{AreRunsMore, Fits, GoesOn, IsAdded, after, part, steps_from, steps_of};
 
 use crate::operations::{
     Add, And, Constant, Equal, Less, Mux, Not, Operation, Or, Pair, Pass, Sub, Triple, Xor,

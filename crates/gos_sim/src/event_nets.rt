@@ -2,7 +2,8 @@
 ghost use Rattle.std.specs.Prelude.{◌≡◌, ◌<◌, ◌≤◌, ◌++◌, ◌∷◌, [], All, IfOk, OnOk, filter, length, map};
 ghost use Rattle.std.specs.List.{flat_map};
 ghost use Rattle.gos_netlist.specs.Seen.{ground_type, number_of, side_of};
-ghost use Rattle.gos_netlist.specs.Events.{Request, Answer, net_count};
+ghost use Rattle.gos_netlist.specs.Events.{net_count};
+ghost use Rattle.gos_types.specs.Events.{Request, Answer};
 ghost use Rattle.gos_sim.specs.EventNets as table;
 
 use gos_netlist::{Ground, NetId, Netlist, Port, Side};

@@ -1,5 +1,5 @@
 // Marks of items: a bit for each, 64 of them a word.
-ghost use Rattle.std.specs.Prelude.{◌≡◌, ◌≢◌, ℕ, ◌+◌, ◌<◌, ◌≤◌, ◌/◌, ◌^◌, IfOk, MatchOption, length, replicate};
+ghost use Rattle.std.specs.Prelude.{◌≡◌, ◌≢◌, ℕ, ◌+◌, ◌<◌, ◌≤◌, ◌/◌, ◌^◌, IfOk, MatchOption, length};
 ghost use Rattle.gos_netlist.specs.Settling.{at};
 ghost use Rattle.gos_sim.specs.inner.Marks.{AreUnmarked, IsUnmarked, KeepsMarks};
 

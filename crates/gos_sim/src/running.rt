@@ -1,10 +1,9 @@
 // The parts of a cycle: what the values of the nets are, and what the registers are after it.
-ghost use Rattle.std.specs.Prelude.{◌≡◌, ◌+◌, ◌-◌, ◌<◌, ◌≤◌, ◌^◌, ◌%◌, All, IsTrue, length, map, nat_eq, set, if◌then◌else◌};
-ghost use Rattle.gos_netlist.specs.Seen.{function_of};
-ghost use Rattle.gos_netlist.specs.Settling.{at, shown};
+ghost use Rattle.std.specs.Prelude.{◌≡◌, ◌-◌, ◌<◌, All, IsTrue, length, map, set};
+ghost use Rattle.gos_netlist.specs.Settling.{at};
 ghost use Rattle.gos_sim.specs.Cycle.{Gives, GivesAll, IsWord, pulse_shown};
-ghost use Rattle.gos_sim.specs.inner.Program.{HaveOneCell, IsLatchWithin, IsStepWithin, SparesEarlier};
-ghost use Rattle.gos_sim.specs.inner.Running.{AreLoaded, AreShown, AreTaken, HaveOnePin, KeepsOtherNets, KeepsOtherSteps, KeepsOthers};
+ghost use Rattle.gos_sim.specs.inner.Program.{IsLatchWithin};
+ghost use Rattle.gos_sim.specs.inner.Running.{AreLoaded, AreTaken, HaveOnePin, KeepsOtherNets, KeepsOthers};
 ghost use Rattle.gos_sim.specs.EventNets.{OnNets};
 ghost use Rattle.gos_sim.specs.inner.Ready.{AreApart, AreTwo};
 

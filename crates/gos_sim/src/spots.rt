@@ -1,5 +1,5 @@
 // Where single steps stand among runs: for one in so many steps its run is noted, and the others aren't far from it.
-ghost use Rattle.std.specs.Prelude.{◌≡◌, ℕ, ◌+◌, ◌<◌, ◌≤◌, All, IfOk, IsTrue, List, OnOk};
+ghost use Rattle.std.specs.Prelude.{◌≡◌, ◌+◌, ◌<◌, ◌≤◌, All, IfOk, List, OnOk};
 ghost use Rattle.gos_sim.specs.declared.evaluation.Run.{Run};
 ghost use Rattle.gos_sim.specs.inner.Spots.{IsAlone, IsNumbered, IsSpot, one_of, steps_in};
 

@@ -1,6 +1,6 @@
 // Where the tokens of a text pass a limit.
 
-ghost use Rattle.std.specs.Prelude.{ℕ, ◌<◌, ◌≤◌, IfOk, MatchOption};
+ghost use Rattle.std.specs.Prelude.{◌<◌, IfOk, MatchOption};
 ghost use Rattle.gos_syntax.specs.Firsts.{IsFirstDeep, IsFirstExtra, NoneIsDeep, NoneIsExtra, IsLimit};
 
 use crate::nesting::Nesting;

@@ -1,8 +1,8 @@
 // The parser: from tokens to a module.
 
-ghost use Rattle.std.specs.Prelude.{◌≡◌, ℕ, ◌+◌, ◌<◌, ◌≤◌, [], ◌∷◌, map, length, All, IfOk, IfErr};
+ghost use Rattle.std.specs.Prelude.{◌+◌, ◌<◌, ◌≤◌, [], ◌∷◌, map, length, All, IfOk, IfErr};
 ghost use Rattle.gos_lex.specs.Tokens.{StandsIn};
-ghost use Rattle.gos_syntax.specs.Items.{items_of, seen, Stands};
+ghost use Rattle.gos_syntax.specs.Items.{seen, Stands};
 ghost use Rattle.gos_syntax.specs.Grammar.{HasWord};
 ghost use Rattle.gos_lex.specs.declared.word.Word.TheVariants as words;
 ghost use Rattle.gos_syntax.specs.ModuleTrees.{import_tree, module_tree};

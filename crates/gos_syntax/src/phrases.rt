@@ -6,7 +6,7 @@
 //
 // The ways of a rule are compiled into the rule's function, so that deep nesting takes no more of the stack for them.
 
-ghost use Rattle.std.specs.Prelude.{◌≡◌, ℕ, ◌<◌, ◌≤◌, length};
+ghost use Rattle.std.specs.Prelude.{◌<◌, ◌≤◌, length};
 ghost use Rattle.gos_lex.specs.declared.word.Word.TheVariants as words;
 ghost use Rattle.gos_lex.specs.declared.sign.Sign.TheVariants as signs;
 ghost use Rattle.gos_syntax.specs.Items.{seen, Stands, reading_at};

@@ -1,6 +1,6 @@
 // The tokens of a text, as the parser asks for them.
 
-ghost use Rattle.std.specs.Prelude.{◌≡◌, ◌≢◌, ℕ, ◌+◌, ◌-◌, ◌<◌, ◌≤◌, ◌↔◌, [], ◌∷◌, length, IsTrue, IfOk, IfErr, MatchOption, None};
+ghost use Rattle.std.specs.Prelude.{◌≡◌, ◌+◌, ◌-◌, ◌<◌, ◌≤◌, ◌↔◌, [], ◌∷◌, length, IsTrue, IfOk, IfErr, MatchOption, None};
 ghost use Rattle.gos_syntax.specs.Items.{seen, Stands, reading_at, span_of, place_of};
 ghost use Rattle.gos_syntax.specs.Grammar.{HasWord, HasSign, HasName, HasNumber};
 ghost use Rattle.gos_syntax.specs.Symbols as wanted;

@@ -1,8 +1,7 @@
-// Terms: each typed term's plan realises it, at every type, and so does the plan of each checked module.
+// The plan of a checked module realises its program: the induction on typed terms.
 //
-// Definitions and laws alone. Read `specs/Terms`, `specs/Modules`, and then laws.rt.
+// Laws alone: each function does nothing, and its contract is the law. `laws.rt` has the chapters in reading order; the
+// definitions of a chapter stand in its folder of `specs`, and what it is about in README.md.
 #![tactic(auto)]
 
-mod laws;
-
-pub use laws::{modules, wired_terms};
+pub mod laws;

@@ -11,9 +11,8 @@ use Rattle.gos_ties.specs.declared.points.Place.{Place}
 use Rattle.gos_ties.specs.declared.points.Place.TheVariants as places
 use Rattle.gos_ties.specs.declared.points.Point.{Point}
 use Rattle.gos_ties.specs.declared.points.Tie.{Tie}
-use Rattle.gos_ties.specs.Ties.{at, point, Meet, Path, here, along, Connects, joint, Has}
+use Rattle.gos_ties.specs.Ties.{at, point, Meet, Path, here, along, Connects, joint, Has, end_of_place, end_at}
 use Rattle.gos_ties.specs.inner.Joined.{touches, AreFar, far_at}
-use Rattle.gos_ties.specs.Ties.{end_of_place, end_at}
 use Rattle.gos_ties.specs.inner.Found.{code, bond_of, IsTied, asks_there, serves_there, do_fit, found_from, found, all_found, far_point, AreNumbered}
 use Rattle.gos_ties.proofs.CodeLemmas.{codes_tell, path_leads, leads_path}
 

@@ -11,9 +11,8 @@ use Rattle.gos_plan.specs.Seen.{SeenPlan, joint_of, plan_of}
 use Rattle.gos_ties.specs.declared.points.Point.{Point}
 use Rattle.gos_ties.specs.declared.points.Tie.{Tie}
 use Rattle.gos_ties.specs.declared.joints.Tables.{Tables}
-use Rattle.gos_ties.specs.Ties.{at, Meet, Path, here, along, Connects, joint, Has}
+use Rattle.gos_ties.specs.Ties.{at, Meet, Path, here, along, Connects, joint, Has, end_at}
 use Rattle.gos_ties.specs.inner.Joined.{far_at}
-use Rattle.gos_ties.specs.Ties.{end_at}
 use Rattle.gos_ties.specs.inner.Found.{bare, code, IsTied, do_fit, found_from, found, all_found, far_by, AreTables}
 use Rattle.gos_ties.specs.Counted.{once, meetings, IsThin}
 use Rattle.gos_ties.proofs.CodeLemmas.{codes_tell, path_leads}

@@ -1,6 +1,6 @@
 // Numbers of points, by which tables are kept: points are numbered in the order in which they first stand in ties.
 
-ghost use Rattle.std.specs.Prelude.{◌≡◌, ℕ, length, map, IfOk, OnOk};
+ghost use Rattle.std.specs.Prelude.{◌≡◌, length, map, IfOk, OnOk};
 ghost use Rattle.gos_ties.specs.Ties.{end_at};
 ghost use Rattle.gos_ties.specs.inner.Joined.{AreBelow};
 ghost use Rattle.gos_ties.specs.inner.Found.{code, bond_of, end_seen, far_point, AreNumbered, IsNumbered};

@@ -2,7 +2,7 @@
 use Rattle.std.proofs.Common.{◌≡◌, ◌⊎◌, inl, inr, refl, List, ℕ, Option, Some, Result, Ok, Err, subst}
 use Rattle.std.specs.Prelude.{IfErr}
 use Rattle.gos_outside.specs.Files.{Files}
-use Rattle.gos_lines.specs.Lines.{Word}
+use Rattle.gos_lex.specs.Lines.{Word}
 use Rattle.gos_command.specs.Ends.{IfStopped}
 use Rattle.gos_command.specs.Finish.{Finishes}
 use Rattle.gos_command.specs.declared.report.Report.{Report}
@@ -10,10 +10,10 @@ use Rattle.gos_command.specs.declared.status.Status.{Status}
 use Rattle.gos_command.specs.declared.status.Status.TheVariants as statuses
 use Rattle.gos_command.specs.declared.stop.Stop.{Stop}
 use Rattle.gos_command.specs.declared.stop.Stop.TheVariants as stops
-use Rattle.gos_objects.specs.Complete.{AcceptedIsNotRejected}
-use Rattle.gos_circuits.specs.Complete.{LinkIsNotRejected}
-use Rattle.gos_simulate.specs.Complete.{SimIsNotRejected}
-use Rattle.gos_build.specs.Complete.{BuildIsNotRejected}
+use Rattle.gos_tool.specs.objects.Complete.{AcceptedIsNotRejected}
+use Rattle.gos_tool.specs.circuits.Complete.{LinkIsNotRejected}
+use Rattle.gos_tool.specs.simulate.Complete.{SimIsNotRejected}
+use Rattle.gos_tool.specs.build.Complete.{BuildIsNotRejected}
 use Rattle.gos_tool.specs.Command.{Command, Check, Compile, Link, Sim, Build, Demo, Means}
 use Rattle.gos_tool.specs.Run.{IsRejected}
 use Rattle.gos_tool.specs.Complete.{AreRight, RightIsNotRejected}

@@ -2,7 +2,7 @@
 use Rattle.std.proofs.Common.{◌≡◌, ◌∙◌, ◌⊎◌, inl, inr, refl, List, [], ◌∷◌, ℕ, Option, Some, None, Result, Ok, Err, nat_eq, if◌then◌else◌, ap, sym, subst}
 use Rattle.std.specs.Prelude.{IfOk, IfErr, IfSome}
 use Rattle.gos_outside.specs.Files.{Files}
-use Rattle.gos_lines.specs.Lines.{Word}
+use Rattle.gos_lex.specs.Lines.{Word}
 use Rattle.gos_command.specs.Ends.{IfStopped, IfRejected, IsTold}
 use Rattle.gos_command.specs.Finish.{Finishes}
 use Rattle.gos_command.specs.declared.report.Report.{Report}
@@ -11,11 +11,11 @@ use Rattle.gos_command.specs.declared.status.Status.{Status}
 use Rattle.gos_command.specs.declared.status.Status.TheVariants as statuses
 use Rattle.gos_command.specs.declared.stop.Stop.{Stop}
 use Rattle.gos_command.specs.declared.stop.Stop.TheVariants as stops
-use Rattle.gos_objects.specs.Checked.{IsSourceFault}
-use Rattle.gos_circuits.specs.Linked.{RejectsLink}
-use Rattle.gos_simulate.specs.Sim.{IsSimFault}
-use Rattle.gos_build.specs.Headline.{Headline}
-use Rattle.gos_build.specs.Paced.{HeadlineHolds}
+use Rattle.gos_tool.specs.objects.Checked.{IsSourceFault}
+use Rattle.gos_tool.specs.circuits.Linked.{RejectsLink}
+use Rattle.gos_tool.specs.simulate.Sim.{IsSimFault}
+use Rattle.gos_tool.specs.build.Headline.{Headline}
+use Rattle.gos_tool.specs.build.Paced.{HeadlineHolds}
 use Rattle.gos_tool.specs.Command.{Command, Check, Compile, Link, Sim, Build, Demo, Means}
 use Rattle.gos_tool.proofs.WordLemmas.{levels_in, levels_back}
 use Rattle.gos_tool.specs.Run.{IsDone, IsRejected, IsCutShort, KeepsOthers, EndsDone, EndsRejected, IsUnsaid, IsUntold}

@@ -1,3 +1,4 @@
+pub mod lemmas
 mod WordLemmas
 mod EndLemmas
 mod CompleteLemmas

@@ -2,8 +2,8 @@
 use Rattle.std.proofs.Common.{◌≡◌, ◌≤◌, ◌<◌, List, [], ◌∷◌, length, get_or, String, Global, arith, sym, refl, ◌∙◌, ap, ℕ, zero, suc, ◌-◌}
 use Rattle.std.specs.Prelude.{string_bytes}
 use Rattle.std.specs.Fmt.{decimal}
-use Rattle.gos_lines.specs.Lines.{Word}
-use Rattle.gos_demo.proofs.PlainLemmas.{digits_of, same_digits}
+use Rattle.gos_lex.specs.Lines.{Word}
+use Rattle.gos_tool.proofs.lemmas.demo.PlainLemmas.{digits_of, same_digits}
 use Rattle.gos_tool.specs.Command.{texts}
 
 four : (words : List (String Global)) (d e f h : String Global) → 4 ≤ length words → length words < 5 → words ≡ get_or words 0 d ∷ get_or words 1 e ∷ get_or words 2 f ∷ get_or words 3 h ∷ []

@@ -3,8 +3,8 @@ use Rattle.std.specs.Prelude.{String, string_bytes, ◌≡◌, ◌≢◌, ◌++�
 use Rattle.std.specs.Global.{Global}
 use Rattle.std.specs.Fmt.{decimal}
 use Rattle.gos_outside.specs.FileName.{IsFileName}
-use Rattle.gos_lines.specs.Lines.{Word}
-use Rattle.gos_demo.specs.DemoFiles.{IsLevelCount}
+use Rattle.gos_lex.specs.Lines.{Word}
+use Rattle.gos_tool.specs.demo.DemoFiles.{IsLevelCount}
 
 -- a command, with the files that its words name, or the number
 pub data Command : Type 0 where

@@ -1,14 +1,14 @@
 -- Which files are right for a command. It is done then, where no call fails and memory suffices.
 --
--- Read first: Command, Run; Complete of gos_circuits, of gos_simulate and of gos_build.
+-- Read first: Command, Run; Complete of circuits, of simulate and of build.
 use Rattle.std.specs.Prelude.{ℕ, List, Option, Some}
 use Rattle.gos_outside.specs.Files.{Files, bytes_at}
 use Rattle.gos_syntax.specs.Modules.{SeenModule}
 use Rattle.gos_command.specs.declared.status.Fault.{Fault}
-use Rattle.gos_objects.specs.Checked.{SaysModule}
-use Rattle.gos_circuits.specs.Complete.{AreRightToLink}
-use Rattle.gos_simulate.specs.Complete.{AreRightToRun}
-use Rattle.gos_build.specs.Complete.{AreRightToBuild}
+use Rattle.gos_tool.specs.objects.Checked.{SaysModule}
+use Rattle.gos_tool.specs.circuits.Complete.{AreRightToLink}
+use Rattle.gos_tool.specs.simulate.Complete.{AreRightToRun}
+use Rattle.gos_tool.specs.build.Complete.{AreRightToBuild}
 use Rattle.gos_tool.specs.Command.{Command, Check, Compile, Link, Sim, Build, Demo}
 use Rattle.gos_tool.specs.Run.{IsRejected}
 

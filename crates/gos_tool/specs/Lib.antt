@@ -1,4 +1,9 @@
--- In reading order: a file uses only files above it.
+-- In reading order: a file or chapter uses only those above it.
+pub mod objects
+pub mod circuits
+pub mod simulate
+pub mod build
+pub mod demo
 pub mod Command
 pub mod Run
 pub mod Complete

@@ -1,26 +1,26 @@
 -- How the tool's commands end.
 --
--- Read first: Command; Checked and Compiled of gos_objects; Linked of gos_circuits; Sim of gos_simulate; Built of gos_build; Demo of gos_demo; Lines
+-- Read first: Command; Checked and Compiled of objects; Linked of circuits; Sim of simulate; Built of build; Demo of demo; Lines
 -- of gos_command. `old` and `new` are the files of the store before and after, `written` and `printed` the bytes of the sink.
 use Rattle.std.specs.Prelude.{◌≡◌, ◌⊎◌, ℕ, List, Option, None, IfSome}
 use Rattle.gos_outside.specs.Files.{Files, SameBut}
 use Rattle.gos_outside.specs.OtherFiles.{OthersSame}
 use Rattle.gos_outside.specs.Faults.{LastFault, ReadFault}
 use Rattle.gos_outside.specs.Written.{appended, AppendsPrefix}
-use Rattle.gos_lines.specs.Lines.{Word}
+use Rattle.gos_lex.specs.Lines.{Word}
 use Rattle.gos_command.specs.Lines.{report_line}
 use Rattle.gos_command.specs.Ends.{IsTold}
 use Rattle.gos_command.specs.declared.report.Report.{Report}
 use Rattle.gos_command.specs.declared.status.Fault.{Fault}
-use Rattle.gos_objects.specs.Checked.{IsChecked, IsSourceFault}
-use Rattle.gos_objects.specs.Compiled.{IsCompiled, IsCompileCall}
-use Rattle.gos_circuits.specs.Linked as linking
-use Rattle.gos_circuits.specs.Linked.{IsLinkDone, RejectsLink, IsLinkCall, IsLinkCutShort}
-use Rattle.gos_simulate.specs.Sim.{IsSimDone, IsSimFault, IsSimCall}
-use Rattle.gos_build.specs.Built as building
-use Rattle.gos_build.specs.Built.{IsBuilt, RejectsBuild, IsBuildCall, IsBuildCutShort}
-use Rattle.gos_demo.specs.Demo as showing
-use Rattle.gos_demo.specs.Demo.{IsDemoDone, IsDemoCall, IsDemoCutShort}
+use Rattle.gos_tool.specs.objects.Checked.{IsChecked, IsSourceFault}
+use Rattle.gos_tool.specs.objects.Compiled.{IsCompiled, IsCompileCall}
+use Rattle.gos_tool.specs.circuits.Linked as linking
+use Rattle.gos_tool.specs.circuits.Linked.{IsLinkDone, RejectsLink, IsLinkCall, IsLinkCutShort}
+use Rattle.gos_tool.specs.simulate.Sim.{IsSimDone, IsSimFault, IsSimCall}
+use Rattle.gos_tool.specs.build.Built as building
+use Rattle.gos_tool.specs.build.Built.{IsBuilt, RejectsBuild, IsBuildCall, IsBuildCutShort}
+use Rattle.gos_tool.specs.demo.Demo as showing
+use Rattle.gos_tool.specs.demo.Demo.{IsDemoDone, IsDemoCall, IsDemoCutShort}
 use Rattle.gos_tool.specs.Command.{Command, Check, Compile, Link, Sim, Build, Demo, Means}
 
 -- all that the command is to do is done, with this report

@@ -7,13 +7,13 @@ ghost use Rattle.gos_tool.specs.Command.{texts, Means, MeanNothing};
 ghost use Rattle.gos_tool.specs.inner.CommandSeen.{meant, HasFileNames};
 ghost use Rattle.gos_tool.specs.Run.{IsDone, IsRejected, IsCall, IsCutShort, KeepsOthers};
 
-use gos_build::build;
-use gos_circuits::link_build;
+use crate::build::build;
+use crate::circuits::link_build;
+use crate::demo::{demo, levels_of};
+use crate::objects::{check_source, compile_source};
+use crate::simulate::sim;
 use gos_command::{Report, Stop};
-use gos_demo::{demo, levels_of};
-use gos_objects::{check_source, compile_source};
 use gos_outside::{Store, is_file_name};
-use gos_simulate::sim;
 use std::alloc::Global;
 
 /// A command, with the files that its words name, or the number.

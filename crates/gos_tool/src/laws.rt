@@ -2,10 +2,10 @@
 
 ghost use Rattle.gos_tool.specs.Complete.{RightIsNotRejected};
 
-use gos_build::right_builds;
-use gos_circuits::right_links;
-use gos_objects::accepted_sources;
-use gos_simulate::right_runs;
+use crate::build::right_builds;
+use crate::circuits::right_links;
+use crate::objects::accepted_sources;
+use crate::simulate::right_runs;
 
 /// A command rejects no file where the files are right for it.
 pub fn right_commands()

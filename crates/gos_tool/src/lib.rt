@@ -1,8 +1,8 @@
 // The tool: from the words of a command to its files, its line and its status.
 //
 // `run` is the top call. It knows the outside only as a store of files and a sink of bytes. What it promises is said in
-// specs/: Command (the words), Run (how each command ends), Complete (which files are right for it). The commands are crates of
-// their own: `check` and `compile` gos_objects, `link` gos_circuits, `sim` gos_simulate, `build` gos_build, `demo` gos_demo.
+// specs/: Command (the words), Run (how each command ends), Complete (which files are right for it). Each command has a
+// folder: `check` and `compile` objects, `link` circuits, `sim` simulate, `build` build, `demo` demo.
 #![tactic(auto)]
 
 ghost use Rattle.std.specs.Prelude.{◌≡◌, ◌≢◌, ◌⊎◌, Some, IfSome};
@@ -10,17 +10,22 @@ ghost use Rattle.gos_outside.specs.Files.{Files};
 ghost use Rattle.gos_outside.specs.Faults.{Rose};
 ghost use Rattle.gos_outside.specs.Written.{appended, AppendsPrefix};
 ghost use Rattle.gos_command.specs.Ends.{IfRejected, IsSaid};
-ghost use Rattle.gos_lines.specs.Lines.{Word};
-ghost use Rattle.gos_build.specs.Headline.{Headline};
+ghost use Rattle.gos_lex.specs.Lines.{Word};
+ghost use Rattle.gos_tool.specs.build.Headline.{Headline};
 ghost use Rattle.gos_tool.specs.Command.{Command as Meaning, Build, texts, Means, MeanNothing, usage_line};
 ghost use Rattle.gos_tool.specs.Complete.{AreRight};
 ghost use Rattle.gos_tool.specs.Run.{IsCall, KeepsOthers, EndsDone, EndsRejected, IsUnsaid, IsUntold};
 
+pub mod build;
+pub mod circuits;
 mod command;
+pub mod demo;
 mod laws;
+pub mod objects;
+pub mod simulate;
 
+use crate::build::headlines;
 use command::{command_of, run_command};
-use gos_build::headlines;
 pub use gos_command::{Cause, Fault, Status};
 use gos_command::{finish, say};
 pub use gos_link::FileName;

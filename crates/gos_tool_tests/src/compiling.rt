@@ -1,8 +1,8 @@
 // Sources that are compiled, some that are refused, and stores that fail.
 use crate::running::{Held, held, told_line, told_weight};
 use gos_command::{Report, Stop};
-use gos_objects::{check_source, compile_source};
 use gos_outside::{MemoryStore, SureStore};
+use gos_tool::objects::{check_source, compile_source};
 use std::alloc::{AllocError, Global};
 use std::test::Fail;
 

@@ -1,9 +1,9 @@
 // Builds that are linked, and some that are refused.
 use crate::running::{Held, held, told_line, told_weight};
 use crate::texts::{ONE, SKIP_OBJECT, TWO};
-use gos_circuits::link_build;
 use gos_command::Stop;
 use gos_outside::{MemoryStore, SureStore};
+use gos_tool::circuits::link_build;
 use std::alloc::{AllocError, Global};
 use std::test::Fail;
 

@@ -1,3 +1,4 @@
+pub mod Events
 pub mod Types
 pub mod Widths
 pub mod Handshakes

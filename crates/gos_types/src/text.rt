@@ -1,5 +1,5 @@
 // The source text of a type.
-ghost use Rattle.std.specs.Prelude.{◌≡◌, ◌++◌, List, [], if◌then◌else◌, IfOk, OnOk};
+ghost use Rattle.std.specs.Prelude.{◌≡◌, ◌++◌, [], if◌then◌else◌, IfOk, OnOk};
 ghost use Rattle.std.specs.String.{string_bytes};
 ghost use Rattle.gos_types.specs.Types.{type_of};
 ghost use Rattle.gos_types.specs.TypeText.{type_text, text_at, brackets_product, brackets_function};

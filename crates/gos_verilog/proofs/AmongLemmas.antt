@@ -4,7 +4,7 @@ use Rattle.std.specs.List.{slice_range}
 use Rattle.std.proofs.lemmas.Bool.{cases_lt}
 use Rattle.gos_lex.specs.Items.{Misses}
 use Rattle.gos_lex.proofs.PlaceLemmas.{slice_split}
-use Rattle.gos_netlist.proofs.SequenceLemmas.{misses_as}
+use Rattle.gos_lex.proofs.SequenceLemmas.{misses_as}
 use Rattle.gos_verilog.specs.inner.Breaks.{Left, Either, Among, AllMiss}
 
 -- of two items the one that breaks off further

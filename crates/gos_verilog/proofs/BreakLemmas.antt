@@ -5,9 +5,9 @@ use Rattle.std.proofs.Math.Seq.{take-append_seam}
 use Rattle.std.proofs.lemmas.List.{take-append-drop}
 use Rattle.gos_lex.specs.Items.{TextAt, Begins, StopsAt, Misses}
 use Rattle.gos_lex.proofs.PlaceLemmas.{rest_whole, length_slice, slice_snoc}
-use Rattle.gos_netlist.specs.NetItems.{Passed, IsTextOf}
+use Rattle.gos_lex.specs.ItemTexts.{Passed, IsTextOf}
 use Rattle.gos_netlist.proofs.PassedLemmas.{passed_both}
-use Rattle.gos_netlist.proofs.SequenceLemmas.{IsCode, fronts, none_left, then_first}
+use Rattle.gos_lex.proofs.SequenceLemmas.{IsCode, fronts, none_left, then_first}
 use Rattle.gos_verilog.specs.declared.fault.VFault.{VFault}
 use Rattle.gos_verilog.specs.declared.fault.VFault.TheVariants as faults
 use Rattle.gos_verilog.specs.inner.Breaks.{Left, Item, Either, BreaksAfter, BreaksFrom, FaultFrom, Leads, LeadsOn}

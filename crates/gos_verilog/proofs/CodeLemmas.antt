@@ -8,8 +8,8 @@ use Rattle.gos_lex.specs.Bytes.{continues_name}
 use Rattle.gos_lex.specs.Items.{Begins}
 use Rattle.gos_lex.specs.Decimals.{IsDecimalIn}
 use Rattle.gos_lex.proofs.DecimalLemmas.{digit_within}
-use Rattle.gos_netlist.proofs.NameLemmas.{none_inside}
-use Rattle.gos_netlist.proofs.SequenceLemmas.{fronts}
+use Rattle.gos_lex.proofs.NameTextLemmas.{none_inside}
+use Rattle.gos_lex.proofs.SequenceLemmas.{fronts}
 pub use Rattle.gos_verilog.specs.inner.Stages.{AreNameBytes}
 
 -- the digits of a number have no other byte

@@ -11,10 +11,10 @@ use Rattle.gos_lex.specs.Bytes.{continues_name}
 use Rattle.gos_lex.specs.Names.{IsNameOrWord}
 use Rattle.gos_lex.specs.Items.{TextAt, IsJust, Begins, StopsAt, Misses}
 use Rattle.gos_netlist.specs.Nets.{Give}
-use Rattle.gos_netlist.specs.NetItems.{IsTextOf, IsFixed, Passed, ended}
+use Rattle.gos_lex.specs.ItemTexts.{IsTextOf, IsFixed, Passed, ended}
 use Rattle.gos_netlist.specs.Writable.{IsNumber}
 use Rattle.gos_netlist.proofs.PassedLemmas.{passed_as, passed_both}
-use Rattle.gos_netlist.proofs.SequenceLemmas.{Then, Lacks, IsCode, ended_code, ended_misses, misses_as, then_first, then_rest}
+use Rattle.gos_lex.proofs.SequenceLemmas.{Then, Lacks, IsCode, ended_code, ended_misses, misses_as, then_first, then_rest}
 use Rattle.gos_lex.specs.declared.table.NameTable.{NameTable}
 use Rattle.gos_verilog.specs.declared.port_net.Role.{Role}
 use Rattle.gos_verilog.specs.declared.port_net.Role.TheVariants.{Run, Ask, Read}
@@ -23,8 +23,7 @@ use Rattle.gos_lex.specs.NameTables.{number_at, added}
 use Rattle.gos_verilog.specs.inner.Stages.{AreNameBytes}
 use Rattle.gos_verilog.specs.inner.Breaks.{Left, Either, Among, AllMiss, Leads, LeadsOn, BreaksFrom}
 use Rattle.gos_verilog.specs.inner.Left.{is_first, LeftNets}
-use Rattle.gos_verilog.specs.inner.Faces.{Face', port_text, first_text, behind_text, IsFreeFace, IsFirstName, IsFirstNet, IsFreePort, IsOther, AreKnown, IsNewFace, AreNewFaces, IsNewPort, IsFaceOf, IsPortOf, IsNoName, LeftFirst}
-use Rattle.gos_verilog.specs.inner.Faces.{named_faces, head_end, LeftFaces, LeftFace, LeftEnd, NoFace}
+use Rattle.gos_verilog.specs.inner.Faces.{Face', port_text, first_text, behind_text, IsFreeFace, IsFirstName, IsFirstNet, IsFreePort, IsOther, AreKnown, IsNewFace, AreNewFaces, IsNewPort, IsFaceOf, IsPortOf, IsNoName, LeftFirst, named_faces, head_end, LeftFaces, LeftFace, LeftEnd, NoFace}
 use Rattle.gos_verilog.proofs.CodeLemmas as codes_of
 use Rattle.gos_verilog.proofs.SuffixLemmas.{suffix_code}
 use Rattle.gos_verilog.proofs.PortLemmas.{net_name}

@@ -6,7 +6,8 @@ use Rattle.std.proofs.lemmas.List.{drop-drop}
 use Rattle.gos_types.specs.Types.{Type', Com, Exp, Var, Pair, Fun}
 use Rattle.gos_types.specs.Widths.{IsWidth}
 use Rattle.gos_netlist.specs.Nets.{Side, Give, Take, NetPort}
-use Rattle.gos_netlist.specs.Events.{Request, is_input, net_count}
+use Rattle.gos_netlist.specs.Events.{is_input, net_count}
+use Rattle.gos_types.specs.Events.{Request}
 use Rattle.gos_netlist.specs.Writable.{IsNumber, IsPortType, IsWritablePort}
 use Rattle.gos_verilog.specs.declared.port_net.Role.{Role}
 use Rattle.gos_verilog.specs.declared.port_net.Role.TheVariants.{Run, Ask, AnsValue, Read, WriteValue}

@@ -10,7 +10,7 @@ use Rattle.gos_lex.specs.Bytes.{begins_name, continues_name}
 use Rattle.gos_lex.specs.Names.{spells_name, IsNameOrWord}
 use Rattle.gos_lex.specs.Items.{Begins, StopsAt}
 use Rattle.gos_netcheck.specs.Rules.{Kept}
-use Rattle.gos_netlist.proofs.SequenceLemmas.{fronts}
+use Rattle.gos_lex.proofs.SequenceLemmas.{fronts}
 use Rattle.std.proofs.Math.Seq.{take-append_seam}
 use Rattle.gos_lex.specs.declared.table.NameTable.{NameTable}
 use Rattle.gos_verilog.specs.declared.port_net.Role.{Role}
@@ -18,7 +18,7 @@ use Rattle.gos_verilog.specs.declared.port_net.Role.TheVariants.{Run, Done, Ask,
 use Rattle.gos_verilog.specs.PortNets.{suffix}
 use Rattle.gos_verilog.specs.inner.Left.{is_first}
 use Rattle.gos_verilog.specs.inner.Faces.{Face', first_text, IsFree, IsFreeFace, IsFirstName, IsOther, AreKnown, Grows, IsNoEnd, IsNoName, IsNameBefore}
-use Rattle.gos_netlist.proofs.NameLemmas.{front_spelled}
+use Rattle.gos_lex.proofs.NameTextLemmas.{front_spelled}
 
 pub contrary : {t : Bool} → t ≡ true → t ≡ false → ⊥
 contrary is not = let both : true ≡ false = sym is ∙ not in cc both

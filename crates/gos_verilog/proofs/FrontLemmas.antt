@@ -7,7 +7,7 @@ use Rattle.gos_lex.specs.Items.{TextAt, Begins}
 use Rattle.gos_lex.proofs.PlaceLemmas.{rest_whole}
 use Rattle.gos_netlist.specs.Nets.{Give, NetPort}
 use Rattle.gos_netlist.specs.Writable.{IsWritablePort}
-use Rattle.gos_netlist.specs.NetItems.{Passed}
+use Rattle.gos_lex.specs.ItemTexts.{Passed}
 use Rattle.gos_verilog.specs.declared.declared.Shape.{Shape}
 use Rattle.gos_verilog.specs.declared.fault.VFault.{VFault}
 use Rattle.gos_verilog.specs.declared.fault.VFault.TheVariants as faults

@@ -2,7 +2,7 @@
 use Rattle.std.proofs.Common.{◌≡◌, ℕ, List, [], ◌∷◌, ◌++◌, map, Some, refl, sym, ◌∙◌, ap, arith, slice_get, append_assoc, append-nil, codes, Bor}
 use Rattle.std.proofs.lemmas.Option.{same_Some}
 use Rattle.gos_lex.specs.Items.{TextAt, IsJust, Passes}
-use Rattle.gos_netlist.specs.NetItems.{Passed}
+use Rattle.gos_lex.specs.ItemTexts.{Passed}
 use Rattle.gos_netlist.proofs.PassedLemmas.{passed_item}
 use Rattle.gos_verilog.specs.PortNets.{PortNet}
 use Rattle.gos_verilog.specs.inner.Stages.{Rest, AreNameBytes, HaveNames, AreNamesOf, listed}

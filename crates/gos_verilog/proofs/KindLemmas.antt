@@ -2,7 +2,7 @@
 use Rattle.std.proofs.Common.{◌≡◌, ℕ, ◌-◌, ◌^◌, ◌<◌, ◌≤◌, List, [], ◌∷◌, ◌++◌, refl, sym, ◌∙◌, ap, subst, arith, codes}
 use Rattle.std.proofs.Math.Nat.{one-le-pow}
 use Rattle.gos_lex.specs.Items.{Misses}
-use Rattle.gos_netlist.proofs.SequenceLemmas.{misses_as}
+use Rattle.gos_lex.proofs.SequenceLemmas.{misses_as}
 use Rattle.gos_netlist.specs.Nets.{Function, Const, Not, And, Or, Xor, Mux, Add, Sub, Eq, Less, Gate, Reg}
 use Rattle.gos_verilog.specs.declared.cell_line.Kind.{Kind}
 use Rattle.gos_verilog.specs.declared.cell_line.Kind.TheVariants as kinds

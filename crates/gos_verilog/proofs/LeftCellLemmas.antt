@@ -6,9 +6,9 @@ use Rattle.gos_lex.specs.Items.{TextAt, Misses}
 use Rattle.gos_types.specs.Widths.{IsWidth}
 use Rattle.gos_netlist.specs.Nets.{Cell}
 use Rattle.gos_netlist.specs.Writable.{IsNumber}
-use Rattle.gos_netlist.specs.NetItems.{Passed, IsTextOf, ended}
+use Rattle.gos_lex.specs.ItemTexts.{Passed, IsTextOf, ended}
 use Rattle.gos_netlist.proofs.PassedLemmas.{passed_as, passed_both}
-use Rattle.gos_netlist.proofs.SequenceLemmas.{IsCode, misses_as}
+use Rattle.gos_lex.proofs.SequenceLemmas.{IsCode, misses_as}
 use Rattle.gos_verilog.specs.declared.declared.Shape.{Shape}
 use Rattle.gos_verilog.specs.PortNets.{PortNet}
 use Rattle.gos_verilog.specs.Lines.{cell_net, cell_declaration, cell_declarations}

@@ -1,17 +1,16 @@
 -- The declarations of nets of ports, as lines of one slot, and what may be left behind each.
-use Rattle.std.proofs.Common.{◌≡◌, ◌⊎◌, inl, inr, ℕ, zero, suc, ◌+◌, ◌-◌, ◌≤◌, Bool, true, false, List, [], ◌∷◌, ◌++◌, map, drop, get_or, refl, sym, ◌∙◌, ap, subst, arith, append_assoc, append-nil, codes}
+use Rattle.std.proofs.Common.{◌≡◌, ◌⊎◌, inl, inr, ℕ, zero, suc, ◌+◌, ◌-◌, ◌≤◌, Bool, true, false, List, [], ◌∷◌, ◌++◌, map, drop, get_or, refl, sym, ◌∙◌, ap, subst, arith, append_assoc, append-nil, codes, Bor, Result, Ok, Err}
 use Rattle.std.specs.Fmt.{decimal}
 use Rattle.gos_lex.specs.Items.{TextAt, Misses}
 use Rattle.gos_netlist.specs.Nets.{Side, Give}
 use Rattle.gos_netlist.specs.Events.{is_input}
-use Rattle.gos_netlist.specs.NetItems.{Passed, IsInRange, ended}
+use Rattle.gos_lex.specs.ItemTexts.{Passed, IsInRange, ended}
 use Rattle.gos_netlist.proofs.PassedLemmas.{passed_as, passed_both}
-use Rattle.gos_netlist.proofs.SequenceLemmas.{IsCode, misses_as}
+use Rattle.gos_lex.proofs.SequenceLemmas.{IsCode, misses_as}
 use Rattle.gos_verilog.specs.declared.port_net.Role.{Role}
 use Rattle.gos_verilog.specs.declared.port_net.Role.TheVariants.{AnsValue, WriteValue}
 use Rattle.gos_verilog.specs.PortNets.{PortNet, suffix, direction}
 use Rattle.gos_verilog.specs.Lines.{port_declaration}
-use Rattle.std.proofs.Common.{Bor, Result, Ok, Err}
 use Rattle.std.specs.Prelude.{IfOk}
 use Rattle.gos_verilog.proofs.SuffixLemmas.{suffix_code}
 use Rattle.std.specs.List.{flat_map, AllByRecursion}

@@ -4,9 +4,9 @@ use Rattle.std.specs.Fmt.{decimal}
 use Rattle.std.proofs.lemmas.List.{append_cancel_left}
 use Rattle.gos_lex.specs.Items.{TextAt, IsJust, Misses}
 use Rattle.gos_netlist.specs.Writable.{IsNumber}
-use Rattle.gos_netlist.specs.NetItems.{Passed, IsTextOf, ended}
+use Rattle.gos_lex.specs.ItemTexts.{Passed, IsTextOf, ended}
 use Rattle.gos_netlist.proofs.PassedLemmas.{passed_as}
-use Rattle.gos_netlist.proofs.SequenceLemmas.{IsCode, misses_as}
+use Rattle.gos_lex.proofs.SequenceLemmas.{IsCode, misses_as}
 use Rattle.gos_verilog.specs.PortNets.{PortNet}
 use Rattle.gos_verilog.specs.Lines.{cell_net, assignment}
 use Rattle.gos_verilog.specs.inner.Slots.{Slot', FitSlots, line_text, IsLine}

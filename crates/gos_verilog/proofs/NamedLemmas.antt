@@ -3,10 +3,11 @@ use Rattle.std.proofs.Common.{◌≡◌, ℕ, suc, ◌+◌, ◌-◌, Bool, true,
 use Rattle.std.specs.List.{AllByRecursion, flat_map}
 use Rattle.gos_types.specs.Types.{Type', Com, Exp, Var, Pair, Fun}
 use Rattle.gos_types.specs.Widths.{IsWidth}
-use Rattle.gos_netlist.specs.Events.{Request, is_input, net_count}
+use Rattle.gos_netlist.specs.Events.{is_input, net_count}
+use Rattle.gos_types.specs.Events.{Request}
 use Rattle.gos_netlist.specs.Nets.{Side, Give, Take, NetPort}
 use Rattle.gos_netlist.specs.Writable.{IsNumber, IsPortType, IsWritablePort}
-use Rattle.gos_netlist.specs.NetItems.{IsInRange}
+use Rattle.gos_lex.specs.ItemTexts.{IsInRange}
 use Rattle.gos_verilog.specs.declared.port_net.Role.{Role}
 use Rattle.gos_verilog.specs.declared.port_net.Role.TheVariants.{Run, Done, Ask, Ans, AnsValue, Read, Write, WriteValue}
 use Rattle.gos_verilog.specs.PortNets.{PortNet, suffix, direction, bits, roles, number_bits, net_in_role, nets_in_roles, nets_of_port, port_nets}

@@ -7,9 +7,9 @@ use Rattle.std.proofs.lemmas.Fmt.{decimal_injective}
 use Rattle.gos_lex.specs.Items.{IsJust, Begins, Passes, StopsAt, Misses}
 use Rattle.gos_lex.specs.Decimals.{IsDecimalIn}
 use Rattle.gos_lex.proofs.DecimalLemmas.{begins_wider, digit_within}
-use Rattle.gos_netlist.specs.NetItems.{IsTextOf, IsInRange, IsNumberText, ended}
-use Rattle.gos_netlist.proofs.NumberLemmas.{number_stops, byte_missed}
-use Rattle.gos_netlist.proofs.SequenceLemmas.{Lacks, IsCode, ended_misses, ended_code}
+use Rattle.gos_lex.specs.ItemTexts.{IsTextOf, IsInRange, IsNumberText, ended}
+use Rattle.gos_lex.proofs.NumberTextLemmas.{number_stops, byte_missed}
+use Rattle.gos_lex.proofs.SequenceLemmas.{Lacks, IsCode, ended_misses, ended_code}
 
 as_decimal : (low high : ℕ) (bytes : List ℕ) → IsTextOf ℕ (IsInRange low high) decimal bytes → IsDecimalIn low high bytes
 as_decimal low high bytes item = (item.0, item.1.0, item.1.1, item.2)

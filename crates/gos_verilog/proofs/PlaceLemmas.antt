@@ -8,8 +8,8 @@ use Rattle.gos_lex.proofs.ItemLemmas.{breaks_off_once, word_misses}
 use Rattle.gos_types.specs.Types.{Com}
 use Rattle.gos_netlist.specs.Nets.{Input, Cell, Take, NetPort, Netlist}
 use Rattle.gos_netlist.specs.Writable.{IsWritablePort}
-use Rattle.gos_netlist.specs.NetItems.{ended}
-use Rattle.gos_netlist.proofs.SequenceLemmas.{Then, misses_as, then_first}
+use Rattle.gos_lex.specs.ItemTexts.{ended}
+use Rattle.gos_lex.proofs.SequenceLemmas.{Then, misses_as, then_first}
 use Rattle.gos_netcheck.specs.Rules.{Kept}
 use Rattle.gos_verilog.specs.PortNets.{PortNet, port_nets}
 use Rattle.gos_verilog.specs.VerilogText.{first_name, declarations, outputs, AreDrivers, IsItsNet}

@@ -7,8 +7,8 @@ use Rattle.gos_types.specs.Types.{Type', Com, Exp, Var, Pair, Fun}
 use Rattle.gos_lex.specs.Bytes.{begins_name, continues_name}
 use Rattle.gos_lex.specs.Names.{IsNameOrWord}
 use Rattle.gos_netlist.specs.Nets.{Side, Give, Take, Cell, NetPort, Input}
-use Rattle.gos_netlist.specs.Events.{Request, is_input}
-use Rattle.gos_netlist.specs.Events.{net_count}
+use Rattle.gos_netlist.specs.Events.{is_input, net_count}
+use Rattle.gos_types.specs.Events.{Request}
 use Rattle.gos_netlist.specs.Writable.{IsNumber, IsPortType, IsWritablePort}
 use Rattle.gos_netcheck.specs.PortRules.{place, places, IsEnd, FitsAt, AllFit}
 use Rattle.gos_netcheck.specs.Rules.{Kept}

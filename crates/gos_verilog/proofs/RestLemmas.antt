@@ -8,7 +8,7 @@ use Rattle.std.proofs.lemmas.Bool.{and_parts}
 use Rattle.std.proofs.lemmas.List.{append_cancel_left, take-append-drop, drop-drop}
 use Rattle.gos_lex.specs.Bytes.{continues_name}
 use Rattle.gos_lex.specs.Items.{TextAt, IsJust, Misses}
-use Rattle.gos_netlist.specs.NetItems.{IsInRange, IsNumberText, Passed, ended}
+use Rattle.gos_lex.specs.ItemTexts.{IsInRange, IsNumberText, Passed, ended}
 use Rattle.gos_verilog.specs.inner.Stages.{Rest, AreNameBytes}
 use Rattle.gos_verilog.proofs.NumberLemmas.{number_code}
 

@@ -3,8 +3,8 @@ use Rattle.std.proofs.Common.{◌≡◌, ℕ, ◌≤◌, List, [], ◌∷◌, �
 use Rattle.std.specs.List.{AllByRecursion, slice_range}
 use Rattle.gos_lex.specs.Items.{TextAt, Misses}
 use Rattle.gos_lex.proofs.PlaceLemmas.{slice_nothing, slice_split}
-use Rattle.gos_netlist.specs.NetItems.{IsTextOf, Passed}
-use Rattle.gos_netlist.proofs.SequenceLemmas.{Then, IsCode, misses_as, then_first, then_rest}
+use Rattle.gos_lex.specs.ItemTexts.{IsTextOf, Passed}
+use Rattle.gos_lex.proofs.SequenceLemmas.{Then, IsCode, misses_as, then_first, then_rest}
 use Rattle.gos_verilog.specs.inner.Runs.{Fit, run_text, IsRun}
 
 -- each context has a value

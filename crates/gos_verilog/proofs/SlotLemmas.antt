@@ -4,8 +4,8 @@ use Rattle.std.specs.Fmt.{decimal}
 use Rattle.std.specs.List.{slice_range}
 use Rattle.std.proofs.lemmas.List.{append_cancel_left}
 use Rattle.gos_lex.specs.Items.{IsJust, Misses}
-use Rattle.gos_netlist.specs.NetItems.{IsTextOf, IsFixed, IsNumberText, ended}
-use Rattle.gos_netlist.proofs.SequenceLemmas.{Then, IsCode, misses_as, then_first, then_rest}
+use Rattle.gos_lex.specs.ItemTexts.{IsTextOf, IsFixed, IsNumberText, ended}
+use Rattle.gos_lex.proofs.SequenceLemmas.{Then, IsCode, misses_as, then_first, then_rest}
 use Rattle.gos_verilog.specs.inner.Runs.{IsRun, run_text}
 use Rattle.gos_verilog.specs.inner.Slots.{Slot', IsSlot, IsRightSlot, AreSlots, FitSlots, slot_text, IsLine}
 use Rattle.gos_verilog.proofs.NumberLemmas.{number_code}

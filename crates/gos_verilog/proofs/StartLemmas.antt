@@ -2,9 +2,9 @@
 use Rattle.std.proofs.Common.{◌≡◌, ℕ, List, ◌++◌, drop, refl, sym, ◌∙◌, ap, subst, arith, append_assoc, codes}
 use Rattle.gos_lex.specs.Names.{IsNameOrWord}
 use Rattle.gos_lex.specs.Items.{TextAt, IsJust, Misses}
-use Rattle.gos_netlist.specs.NetItems.{IsFixed, Passed, ended}
-use Rattle.gos_netlist.proofs.NameLemmas.{name_code}
-use Rattle.gos_netlist.proofs.SequenceLemmas.{Then, misses_as, then_first, then_rest}
+use Rattle.gos_lex.specs.ItemTexts.{IsFixed, Passed, ended}
+use Rattle.gos_lex.proofs.NameTextLemmas.{name_code}
+use Rattle.gos_lex.proofs.SequenceLemmas.{Then, misses_as, then_first, then_rest}
 use Rattle.gos_verilog.specs.declared.fault.VFault.{VFault}
 use Rattle.gos_verilog.specs.declared.fault.VFault.TheVariants as faults
 use Rattle.gos_verilog.specs.inner.Stages.{Rest, IsModuleName, IsStart, HasStart, BreaksAt}

@@ -1,5 +1,5 @@
 -- A text of a netlist, from stage to stage of the reader; and that such a netlist has one text at most.
-use Rattle.std.proofs.Common.{◌≡◌, ℕ, zero, suc, ◌+◌, ◌<◌, true, List, [], ◌∷◌, ◌++◌, length, map, Some, refl, sym, ◌∙◌, ap, subst, arith, slice_get}
+use Rattle.std.proofs.Common.{◌≡◌, ℕ, zero, suc, ◌+◌, ◌<◌, true, List, [], ◌∷◌, ◌++◌, length, map, Some, refl, sym, ◌∙◌, ap, subst, arith, slice_get, append_assoc}
 use Rattle.std.specs.List.{AllByRecursion}
 use Rattle.std.proofs.lemmas.Option.{slice_get_within}
 use Rattle.gos_lex.specs.Names.{IsNameOrWord}
@@ -17,7 +17,6 @@ use Rattle.gos_verilog.specs.inner.Noted.{HasPlaces, AreRight}
 use Rattle.gos_verilog.specs.inner.Parts.{Parts, front_of}
 use Rattle.gos_verilog.specs.Lines.{cell_declarations}
 use Rattle.gos_verilog.specs.Place.{ArePorts}
-use Rattle.std.proofs.Common.{append_assoc}
 use Rattle.gos_verilog.proofs.SuffixLemmas as names
 use Rattle.gos_verilog.proofs.PortLemmas.{IsRightNet, right_nets}
 use Rattle.gos_verilog.proofs.FoundLemmas.{wide_nets, number_nets}

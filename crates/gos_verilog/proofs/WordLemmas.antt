@@ -2,8 +2,8 @@
 use Rattle.std.proofs.Common.{◌≡◌, ℕ, ◌+◌, ◌-◌, List, ◌++◌, length, take, drop, refl, sym, ◌∙◌, ap, subst, arith}
 use Rattle.std.specs.List.{slice_range}
 use Rattle.gos_lex.specs.Items.{TextAt, IsJust, Misses}
-use Rattle.gos_netlist.specs.NetItems.{Passed, IsFixed}
-use Rattle.gos_netlist.proofs.SequenceLemmas.{Then, misses_as, then_first, then_rest}
+use Rattle.gos_lex.specs.ItemTexts.{Passed, IsFixed}
+use Rattle.gos_lex.proofs.SequenceLemmas.{Then, misses_as, then_first, then_rest}
 use Rattle.gos_verilog.specs.inner.Breaks.{Left, BreaksFrom}
 use Rattle.gos_verilog.proofs.SlotLemmas.{no_word, fixed_code}
 

@@ -6,7 +6,8 @@ use Rattle.std.specs.Prelude.{ℕ, Bool, List, [], ◌∷◌, ◌++◌, codes}
 use Rattle.std.specs.List.{flat_map}
 use Rattle.gos_types.specs.Types.{Type', Com, Exp, Var}
 use Rattle.gos_netlist.specs.Nets.{Side, NetPort}
-use Rattle.gos_netlist.specs.Events.{Direction, Request, Answer, is_input}
+use Rattle.gos_netlist.specs.Events.{is_input}
+use Rattle.gos_types.specs.Events.{Direction, Request, Answer}
 use Rattle.gos_verilog.specs.declared.port_net.Role.{Role}
 use Rattle.gos_verilog.specs.declared.port_net.Role.TheVariants.{Run, Done, Ask, Ans, AnsValue, Read, Write, WriteValue}
 

@@ -4,7 +4,7 @@ ghost use Rattle.std.specs.Prelude.{◌≡◌, ◌≤◌, ◌^◌, ◌-◌, [], 
 ghost use Rattle.gos_lex.specs.Items.{Misses};
 ghost use Rattle.gos_netlist.specs.Seen.{function_of};
 ghost use Rattle.gos_types.specs.Widths.{IsWidth};
-ghost use Rattle.gos_netlist.specs.NetItems.{Passed};
+ghost use Rattle.gos_lex.specs.ItemTexts.{Passed};
 ghost use Rattle.gos_verilog.specs.Lines.{driver_of};
 ghost use Rattle.gos_verilog.specs.inner.Slots.{FitSlots, line_text, IsLine};
 ghost use Rattle.gos_verilog.specs.inner.CellLines as lines;

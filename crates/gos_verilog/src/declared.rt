@@ -3,7 +3,7 @@ ghost use Rattle.std.specs.Prelude.{◌≡◌, ◌⊎◌, ◌≤◌, ◌++◌, [
 ghost use Rattle.std.specs.List.{AllByRecursion, flat_map};
 ghost use Rattle.gos_lex.specs.Items.{Misses};
 ghost use Rattle.gos_netlist.specs.Nets.{Give};
-ghost use Rattle.gos_netlist.specs.NetItems.{IsInRange};
+ghost use Rattle.gos_lex.specs.ItemTexts.{IsInRange};
 ghost use Rattle.gos_netlist.specs.Seen.{side_of};
 ghost use Rattle.gos_verilog.specs.declared.port_net.Role.{Role as Role'};
 ghost use Rattle.gos_verilog.specs.PortNets.{suffix};

@@ -1,5 +1,5 @@
 // The lines that drive the nets of cells.
-ghost use Rattle.std.specs.Prelude.{◌≡◌, ◌≤◌, ◌<◌, ◌++◌, [], ℕ, List, false, true, IfOk, IfErr, IfSome, MatchResult, length, map, drop};
+ghost use Rattle.std.specs.Prelude.{◌≡◌, ◌≤◌, ◌<◌, [], ℕ, List, false, true, IfOk, IfErr, IfSome, MatchResult, length, map, drop};
 ghost use Rattle.std.specs.List.{AllByRecursion};
 ghost use Rattle.gos_types.specs.Widths.{IsWidth};
 ghost use Rattle.gos_netlist.specs.Nets.{Function, Input, Cell as NetCell};

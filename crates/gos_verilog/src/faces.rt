@@ -1,7 +1,7 @@
 // Ports by the names of their nets in the head of a module. Places count from the start of what is read.
 ghost use Rattle.std.specs.Prelude.{◌≡◌, ◌≤◌, ◌<◌, ◌↔◌, ◌++◌, ◌∷◌, [], ℕ, List, false, IfOk, IfErr, IsTrue, MatchOption, drop, length};
 ghost use Rattle.gos_lex.specs.Items.{Begins, IsJust, Misses, StopsAt};
-ghost use Rattle.gos_netlist.specs.NetItems.{ended};
+ghost use Rattle.gos_lex.specs.ItemTexts.{ended};
 ghost use Rattle.gos_verilog.specs.declared.port_net.Role.TheVariants.{Run, Ask, Read};
 ghost use Rattle.gos_verilog.specs.PortNets.{suffix as suffix_of};
 ghost use Rattle.gos_verilog.specs.inner.Stages.{BreaksAt};

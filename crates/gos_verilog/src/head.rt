@@ -4,7 +4,7 @@ ghost use Rattle.std.specs.List.{prefix_len};
 ghost use Rattle.gos_lex.specs.Bytes.{continues_name};
 ghost use Rattle.gos_lex.specs.Names.{IsNameOrWord};
 ghost use Rattle.gos_lex.specs.Items.{IsJust};
-ghost use Rattle.gos_netlist.specs.NetItems.{Passed, ended};
+ghost use Rattle.gos_lex.specs.ItemTexts.{Passed, ended};
 ghost use Rattle.gos_verilog.specs.PortNets.{PortNet};
 ghost use Rattle.gos_verilog.specs.inner.Stages.{Rest, BreaksAt, HasStart, IsStart, IsModuleName, IsWant, AreNameBytes, HaveNames, AreNamesOf, listed};
 

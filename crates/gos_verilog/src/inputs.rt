@@ -1,9 +1,8 @@
 // The inputs of a module, by name, and the cells that read them.
-ghost use Rattle.std.specs.Prelude.{◌≡◌, ◌<◌, ℕ, List, Some, None, true, IsTrue, IfOk, OnOk, get_or, length, set, slice_get};
-ghost use Rattle.std.specs.List.{AllByRecursion};
+ghost use Rattle.std.specs.Prelude.{◌≡◌, ◌<◌, ℕ, Some, None, true, IsTrue, IfOk, get_or, length, set, slice_get};
 ghost use Rattle.gos_verilog.specs.PortNets.{PortNet as Net};
 ghost use Rattle.gos_verilog.specs.inner.Stages.{HaveOwnNames};
-ghost use Rattle.gos_lex.specs.NameTables.{number_at, added};
+ghost use Rattle.gos_lex.specs.NameTables.{number_at};
 ghost use Rattle.gos_verilog.specs.inner.Noted.{HasPlaces};
 ghost use Rattle.gos_verilog.specs.inner.Left.{IsSource};
 

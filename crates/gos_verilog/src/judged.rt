@@ -1,5 +1,5 @@
 // The head of a module, judged: whether it names the nets of ports, and where it breaks off.
-ghost use Rattle.std.specs.Prelude.{◌≡◌, ◌≤◌, ◌++◌, ◌∷◌, [], List, IfOk, IfErr, OnOk, drop, length};
+ghost use Rattle.std.specs.Prelude.{◌≡◌, ◌≤◌, ◌++◌, ◌∷◌, [], IfOk, IfErr, OnOk, drop, length};
 ghost use Rattle.gos_lex.specs.Names.{IsNameOrWord};
 ghost use Rattle.gos_verilog.specs.Place.{HasHead, IsFormedText};
 ghost use Rattle.gos_verilog.specs.inner.Stages.{IsWant};

@@ -4,7 +4,7 @@ ghost use Rattle.std.specs.List.{AllByRecursion, flat_map};
 ghost use Rattle.gos_netlist.specs.Writable.{IsNumber};
 ghost use Rattle.gos_verilog.specs.PortNets.{PortNet as Net};
 ghost use Rattle.gos_verilog.specs.Lines.{output_assignment, assignment, cell_net};
-ghost use Rattle.gos_netlist.specs.NetItems.{Passed, IsTextOf};
+ghost use Rattle.gos_lex.specs.ItemTexts.{Passed, IsTextOf};
 ghost use Rattle.gos_verilog.specs.inner.Stages.{Rest, BreaksAt, IsWant, declared_net};
 ghost use Rattle.gos_verilog.specs.inner.Breaks.{FaultFrom};
 ghost use Rattle.gos_verilog.specs.inner.Left.{LeftOutputs};

@@ -1,7 +1,7 @@
 // The nets of ports in a module.
-ghost use Rattle.std.specs.Prelude.{◌≡◌, ◌++◌, ◌<◌, IfOk, OnOk, length, map};
-ghost use Rattle.gos_netlist.specs.Events.{Request, Answer, is_input};
-ghost use Rattle.gos_netlist.specs.Seen.{ground_type, number_of, side_of};
+ghost use Rattle.std.specs.Prelude.{◌≡◌, ◌++◌, ◌<◌, IfOk, OnOk};
+ghost use Rattle.gos_netlist.specs.Events.{is_input};
+ghost use Rattle.gos_netlist.specs.Seen.{ground_type, side_of};
 ghost use Rattle.gos_verilog.specs.PortNets as nets;
 
 use gos_netlist::{Ground, NetId, Port, Side};

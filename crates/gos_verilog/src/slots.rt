@@ -3,7 +3,7 @@ ghost use Rattle.std.specs.Prelude.{◌≡◌, ◌≤◌, ◌++◌, ◌∷◌, �
 ghost use Rattle.std.specs.Char.{is_ascii_digit};
 ghost use Rattle.std.specs.Fmt.{decimal};
 ghost use Rattle.gos_lex.specs.Items.{Misses, IsJust};
-ghost use Rattle.gos_netlist.specs.NetItems.{Passed, IsTextOf, IsInRange, IsNumberText, ended};
+ghost use Rattle.gos_lex.specs.ItemTexts.{Passed, IsTextOf, IsInRange, IsNumberText, ended};
 ghost use Rattle.gos_verilog.specs.inner.Runs.{IsRun, run_text};
 ghost use Rattle.gos_verilog.specs.inner.Stages.{Rest};
 ghost use Rattle.gos_verilog.specs.inner.Slots.{IsSlot, IsRightSlot, AreSlots, FitSlots, slot_text, line_text, IsLine, Slot'};

@@ -10,7 +10,7 @@ use Rattle.gos_check.specs.declared.linear.Split.{Split}
 use Rattle.gos_check.specs.declared.linear.Node.{Node}
 use Rattle.gos_check.specs.Nodes.{Numbered, Closed, Use, Under, One, Two, If, node_seen}
 use Rattle.gos_compile.specs.declared.wires.Wires.{Wires}
-use Rattle.gos_realises.specs.Regular.{count}
+use Rattle.gos_realises.specs.realises.Regular.{count}
 use Rattle.gos_compile.specs.Wiring.{Types, type_of_node}
 use Rattle.gos_compile.specs.inner.Tables.{types_at}
 

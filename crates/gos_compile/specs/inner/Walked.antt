@@ -20,7 +20,7 @@ use Rattle.gos_ties.specs.declared.points.Place.TheVariants as places
 use Rattle.gos_ties.specs.declared.points.Point.{Point}
 use Rattle.gos_ties.specs.declared.points.Tie.{Tie}
 use Rattle.gos_compile.specs.declared.wires.Wires.{Wires}
-use Rattle.gos_realises.specs.Regular.{count}
+use Rattle.gos_realises.specs.realises.Regular.{count}
 use Rattle.gos_compile.specs.inner.Tables.{types_at}
 use Rattle.gos_ties.specs.Ties.{point}
 use Rattle.gos_compile.specs.Wiring.{Types, led, share_ties, type_of_node, answer_bits, closed_part, binder_part, one_part, two_part, binder_ties, one_ties, two_ties, binder_out, one_out, first_out, second_out}

@@ -3,7 +3,7 @@
 -- Read first: Rings; Rings of gos_order. Of n directions, direction d arrives at node d and leaves at node n + d. What arrives
 -- at a part leads to what leaves it, where it passes; what leaves by a direction without registers leads to where it arrives.
 use Rattle.std.specs.Prelude.{◌≡◌, ◌+◌, ◌<◌, ℕ, false, true, length, Some, slice_get}
-use Rattle.gos_netlist.specs.Events.{Direction}
+use Rattle.gos_types.specs.Events.{Direction}
 use Rattle.gos_plan.specs.Kinds.{Part, part_contacts}
 use Rattle.gos_plan.specs.Plans.{End, PartEnd, Joint, Plan}
 use Rattle.gos_expand.specs.Gates.{passing_of}

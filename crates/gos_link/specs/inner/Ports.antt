@@ -1,6 +1,6 @@
 -- Ports, and the table of their names, as the program keeps them.
 use Rattle.std.specs.Prelude.{◌≡◌, ◌<◌, ℕ, List, Some, None, length, slice_get}
-use Rattle.gos_lines.specs.Lines.{Word}
+use Rattle.gos_lex.specs.Lines.{Word}
 use Rattle.gos_link.specs.declared.whole.Port as declared_port
 use Rattle.gos_lex.specs.NameTables.{number_at}
 use Rattle.gos_lex.specs.declared.table.NameTable.{NameTable}

@@ -19,8 +19,7 @@ use Rattle.gos_netlist.specs.Nets.{Function, Input, Const, Not, And, Or, Xor, Mu
 use Rattle.gos_netlist.specs.NetText.{operands, cell_text, port_text, side_word}
 use Rattle.gos_netlist.specs.Writable.{IsNumber, OperandsFit, IsWritableCell, IsPortType, IsWritablePort}
 use Rattle.gos_netlist.specs.Events.{net_count}
-use Rattle.gos_netlist.specs.NetFaults.{IsAbove}
-use Rattle.gos_netlist.specs.NetItems.{IsTextOf, ended, IsNumberText}
+use Rattle.gos_lex.specs.ItemTexts.{IsAbove, IsTextOf, ended, IsNumberText}
 
 -- no item of this kind stands at the place, and what begins like one breaks off where the fault says
 abbrev pub BreaksOff : (List ℕ → Type 0) → List ℕ → ℕ → NetTextFault → Type 0

@@ -6,7 +6,7 @@ use Rattle.std.specs.Prelude.{bit_or}
 use Rattle.gos_plan.specs.Kinds.{Part}
 use Rattle.gos_plan.specs.Firing.{Rest, State, Slot, Req, Ans, Token, Row, rows, at, same_slot, row_for}
 use Rattle.gos_plan.specs.Tokens.{shake_of}
-use Rattle.gos_plan.specs.Law.{Asked, after_taking, after_putting, PutsWell, Fires}
+use Rattle.gos_plan.specs.Firings.{Asked, after_taking, after_putting, PutsWell, Fires}
 
 pub same : (a b : Slot) → same_slot a b ≡ true → a ≡ b
 same (Req h) (Req j) e = grind (arith, e)

@@ -6,7 +6,7 @@ use Rattle.gos_netlist.specs.declared.event.Event.{Event}
 use Rattle.gos_netlist.specs.Nets.{NetPort, Netlist}
 use Rattle.gos_netlist.specs.Events.{events_of}
 use Rattle.gos_model.specs.Labels.{Label, is_answer}
-use Rattle.gos_model.specs.Flattening.{port_of, AnyOrder}
+use Rattle.gos_pace.specs.Flattening.{port_of, AnyOrder}
 use Rattle.gos_model.specs.Protocol.{shake_of, is_open}
 use Rattle.gos_sim.specs.declared.pulse.Pulse.{Pulse}
 use Rattle.gos_sim.specs.Cycle.{Simulator, IsNextOutput}

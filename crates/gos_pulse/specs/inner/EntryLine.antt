@@ -1,7 +1,7 @@
 -- How the definitions see what an entry's line writes, and where a name's dot stands.
 use Rattle.std.specs.Prelude.{◌≡◌, ◌≢◌, ◌≤◌, ◌<◌, ◌+◌, ℕ, length, take, drop, slice_index}
 use Rattle.gos_lex.specs.Names.{IsNameOrWord}
-use Rattle.gos_lines.specs.Lines.{Word}
+use Rattle.gos_lex.specs.Lines.{Word}
 use Rattle.gos_pulse.specs.Entries as entries
 use Rattle.gos_pulse.specs.declared.entry_line.Written.{Written}
 

@@ -5,7 +5,7 @@ use Rattle.gos_lex.specs.declared.table.NameTable.{NameTable}
 use Rattle.gos_netlist.specs.Events.{events_of}
 use Rattle.gos_netlist.specs.declared.event.Event.{Event}
 use Rattle.gos_netlist.specs.Nets.{NetPort, Netlist}
-use Rattle.gos_lines.specs.Lines.{Word}
+use Rattle.gos_lex.specs.Lines.{Word}
 use Rattle.gos_pulse.specs.EventNames.{IsInputOf}
 use Rattle.gos_pulse.specs.declared.event_table.EventTable.{EventTable}
 

@@ -1,7 +1,7 @@
 -- What reading the entries of a pulse file answers where it refuses.
 use Rattle.std.specs.Prelude.{◌≢◌, ℕ, List, Some}
 use Rattle.gos_netlist.specs.Nets.{Netlist}
-use Rattle.gos_lines.specs.Lines.{Statement}
+use Rattle.gos_lex.specs.Lines.{Statement}
 use Rattle.gos_pulse.specs.declared.entries.Entry.{Entry}
 use Rattle.gos_pulse.specs.declared.fault.PulseFault.{PulseFault}
 use Rattle.gos_pulse.specs.declared.fault.PulseFault.TheVariants as faults

@@ -5,8 +5,8 @@ use Rattle.std.specs.Prelude.{◌≡◌, ◌≤◌, ◌<◌, ℕ, List, [], ◌�
 use Rattle.gos_netlist.specs.Settling.{Numbers, Settling, next_registers}
 use Rattle.gos_netcheck.specs.Accepted.{IsAccepted}
 use Rattle.gos_model.specs.Labels.{Label}
-use Rattle.gos_model.specs.Flattening.{inputs, outputs}
-use Rattle.gos_model.specs.Protocol.{IsInRange}
+use Rattle.gos_pace.specs.Flattening.{inputs, outputs}
+use Rattle.gos_pace.specs.RunProtocol.{IsInRange}
 use Rattle.gos_sim.specs.Cycle.{Simulator}
 use Rattle.gos_pulse.specs.declared.agenda.Agenda.{Agenda}
 use Rattle.gos_pulse.specs.declared.board.Board.{Board}

@@ -5,7 +5,7 @@ use Rattle.std.specs.Prelude.{◌≡◌, ℕ, Bool, List, [], ◌∷◌, ◌++�
 use Rattle.gos_netlist.specs.declared.event.Event.{Event}
 use Rattle.gos_netlist.specs.Nets.{NetPort}
 use Rattle.gos_model.specs.Labels.{Port, Given, Label}
-use Rattle.gos_model.specs.Flattening.{port_of}
+use Rattle.gos_pace.specs.Flattening.{port_of}
 use Rattle.gos_sim.specs.declared.pulse.Pulse.{Pulse}
 use Rattle.gos_pulse.specs.declared.slots.Slot.{Slot}
 use Rattle.gos_pulse.specs.Guarding.{events_way}

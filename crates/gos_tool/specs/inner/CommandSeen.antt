@@ -1,6 +1,6 @@
 -- A command as its words mean it.
 use Rattle.gos_outside.specs.FileName.{IsFileName}
-use Rattle.gos_demo.specs.DemoFiles.{IsLevelCount}
+use Rattle.gos_tool.specs.demo.DemoFiles.{IsLevelCount}
 use Rattle.gos_tool.specs.Command.{Command, Check, Compile, Link, Sim, Build, Demo}
 use Rattle.gos_tool.specs.declared.command.Command as declared
 use Rattle.gos_tool.specs.declared.command.Command.TheVariants as words

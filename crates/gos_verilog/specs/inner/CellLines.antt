@@ -4,7 +4,7 @@
 use Rattle.std.specs.Prelude.{◌≡◌, ℕ, ◌-◌, ◌^◌, Bool, true, false, List, [], ◌∷◌, ◌++◌, Option, Some, None, codes, get_or}
 use Rattle.gos_netlist.specs.Nets.{Function, Input, Const, Not, And, Or, Xor, Mux, Add, Sub, Eq, Less, Gate, Reg}
 use Rattle.gos_netlist.specs.Writable.{OperandsFit}
-use Rattle.gos_netlist.specs.NetItems.{IsTextOf}
+use Rattle.gos_lex.specs.ItemTexts.{IsTextOf}
 use Rattle.gos_verilog.specs.declared.cell_line.Kind.{Kind}
 use Rattle.gos_verilog.specs.declared.cell_line.Kind.TheVariants as kinds
 use Rattle.gos_verilog.specs.Lines.{driver_of}

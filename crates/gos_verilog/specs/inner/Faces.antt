@@ -6,7 +6,7 @@ use Rattle.std.specs.List.{AllByRecursion, flat_map}
 use Rattle.gos_lex.specs.Items.{Misses}
 use Rattle.gos_lex.specs.Names.{IsNameOrWord}
 use Rattle.gos_netlist.specs.Nets.{Give}
-use Rattle.gos_netlist.specs.NetItems.{IsTextOf, ended}
+use Rattle.gos_lex.specs.ItemTexts.{IsTextOf, ended}
 use Rattle.gos_netlist.specs.Writable.{IsNumber}
 use Rattle.gos_lex.specs.declared.table.NameTable.{NameTable}
 use Rattle.gos_verilog.specs.declared.port_net.Role.{Role}

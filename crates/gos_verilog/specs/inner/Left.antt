@@ -8,7 +8,7 @@ use Rattle.gos_lex.specs.Items.{IsJust, Misses}
 use Rattle.gos_types.specs.Widths.{IsWidth}
 use Rattle.gos_netlist.specs.Nets.{Function, Input, Side, Give, Take, NetPort}
 use Rattle.gos_netlist.specs.Events.{is_input}
-use Rattle.gos_netlist.specs.NetItems.{IsTextOf, IsInRange}
+use Rattle.gos_lex.specs.ItemTexts.{IsTextOf, IsInRange}
 use Rattle.gos_netlist.specs.Writable.{IsNumber, OperandsFit}
 use Rattle.gos_verilog.specs.declared.declared.Shape.{Shape}
 use Rattle.gos_verilog.specs.declared.port_net.Role.{Role}

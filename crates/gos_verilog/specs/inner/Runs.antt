@@ -1,8 +1,8 @@
 -- Items one behind the other, each by a context of its own.
 --
--- Read first: NetItems of gos_netlist. Between the reader and its lemmas.
+-- Read first: ItemTexts of gos_lex. Between the reader and its lemmas.
 use Rattle.std.specs.Prelude.{ℕ, List, [], ◌∷◌, ◌++◌}
-use Rattle.gos_netlist.specs.NetItems.{IsTextOf}
+use Rattle.gos_lex.specs.ItemTexts.{IsTextOf}
 
 -- a value for each context
 abbrev pub Fit : (C V : Type 0) → (C → V → Type 0) → List C → List V → Type 0

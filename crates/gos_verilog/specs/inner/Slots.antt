@@ -5,7 +5,7 @@ use Rattle.std.specs.Prelude.{◌≡◌, ℕ, ◌^◌, ◌<◌, ◌≤◌, false
 use Rattle.std.specs.Char.{is_ascii_digit}
 use Rattle.std.specs.Fmt.{decimal}
 use Rattle.std.specs.List.{AllByRecursion}
-use Rattle.gos_netlist.specs.NetItems.{IsTextOf, IsInRange, ended}
+use Rattle.gos_lex.specs.ItemTexts.{IsTextOf, IsInRange, ended}
 use Rattle.gos_verilog.specs.inner.Runs.{Fit, run_text}
 
 pub record Slot' : Type 0 where

@@ -10,7 +10,7 @@ use Rattle.gos_lex.specs.Items.{TextAt, Misses}
 use Rattle.gos_types.specs.Types.{Type', Var}
 use Rattle.gos_types.specs.Widths.{IsWidth}
 use Rattle.gos_netlist.specs.Nets.{Cell}
-use Rattle.gos_netlist.specs.NetItems.{IsTextOf, ended}
+use Rattle.gos_lex.specs.ItemTexts.{IsTextOf, ended}
 use Rattle.gos_verilog.specs.declared.fault.VFault.{VFault}
 use Rattle.gos_verilog.specs.declared.fault.VFault.TheVariants as faults
 use Rattle.gos_verilog.specs.declared.declared.Shape.{Shape}

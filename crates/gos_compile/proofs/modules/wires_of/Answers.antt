@@ -10,7 +10,7 @@ use Rattle.gos_plan.specs.Seen.{part_of}
 use Rattle.gos_ties.specs.declared.points.Place.TheVariants as places
 use Rattle.gos_ties.specs.declared.points.Point.{Point}
 use Rattle.gos_ties.specs.declared.points.Tie.{Tie}
-use Rattle.gos_realises.specs.Regular.{count}
+use Rattle.gos_realises.specs.realises.Regular.{count}
 use Rattle.gos_compile.specs.inner.Tables.{types_at}
 use Rattle.gos_compile.specs.inner.Walked.{seen, is_plain}
 use Rattle.gos_compile.specs.Wiring.{Types, row, with_types, all_types, import_ties}

@@ -10,8 +10,8 @@ use Rattle.gos_plan.specs.declared.kinds.Kind.{Kind}
 use Rattle.gos_plan.specs.declared.plan.PlanImport.{PlanImport}
 use Rattle.gos_plan.specs.Seen.{SeenPlan, plan_of, part_of, import_of}
 use Rattle.gos_ties.specs.declared.points.Tie.{Tie}
-use Rattle.gos_realises.specs.Regular.{count}
-use Rattle.gos_realises.specs.Slim.{IsSlim}
+use Rattle.gos_realises.specs.realises.Regular.{count}
+use Rattle.gos_realises.specs.realises.Slim.{IsSlim}
 use Rattle.gos_compile.specs.Wiring.{type_of_node, all_parts, all_ties, all_types, IsPlanOf}
 use Rattle.gos_compile.specs.inner.Loads.{load, HasFewShakes}
 use Rattle.gos_ties.specs.Counted.{IsThin}

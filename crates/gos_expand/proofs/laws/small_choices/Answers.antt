@@ -1,6 +1,6 @@
 use Rattle.std.proofs.Common.{◌≡◌, ℕ, suc, zero, true, false, [], ◌∷◌, slice_get, Some, refl}
 use Rattle.std.proofs.lemmas.Option.{none-some}
-use Rattle.gos_netlist.specs.Events.{Direction, Request, Answer}
+use Rattle.gos_types.specs.Events.{Direction, Request, Answer}
 use Rattle.gos_netlist.specs.Cycles.{HasCycle}
 use Rattle.gos_plan.specs.Plans.{PartEnd, ResultEnd, Joint}
 use Rattle.gos_plan.specs.SmallPlans.{skip_plan}

@@ -6,7 +6,7 @@ use Rattle.gos_plan.specs.declared.plan.PlanImport.{PlanImport}
 use Rattle.gos_plan.specs.Kinds.{contacts_of, part_contacts}
 use Rattle.gos_plan.specs.Plans.{Plan, contact_at}
 use Rattle.gos_plan.specs.Contacts.{contact_held}
-use Rattle.gos_plan.specs.Gates.{bits_out}
+use Rattle.gos_gates.specs.Gates.{bits_out}
 use Rattle.gos_plan.specs.Ranges.{IsInRange}
 use Rattle.gos_plan.specs.Seen.{plan_of, part_of, import_of, end_of}
 use Rattle.gos_expand.specs.Starts.{Keep, part_start, port_start}

@@ -1,5 +1,5 @@
 use Rattle.std.proofs.Common.{◌≡◌, ◌+◌, ℕ, Bool, ap, ap₂, sym, ◌∙◌, arith}
-use Rattle.gos_netlist.specs.Events.{Request, Answer}
+use Rattle.gos_types.specs.Events.{Request, Answer}
 use Rattle.gos_plan.specs.Plans.{Joint, contact_at}
 use Rattle.gos_plan.specs.Seen.{joint_of}
 use Rattle.gos_expand.specs.Starts.{kept_size, way_size, bits_if}

@@ -1,6 +1,6 @@
 use Rattle.std.proofs.Common.{◌≡◌, ◌∙◌, ℕ, Bool, List, ap₂, sym, subst, arith}
 use Rattle.gos_netlist.specs.Nets.{Cell}
-use Rattle.gos_netlist.specs.Events.{Request, Answer}
+use Rattle.gos_types.specs.Events.{Request, Answer}
 use Rattle.gos_plan.specs.Plans.{Joint, Plan, contact_at}
 use Rattle.gos_plan.specs.Seen.{plan_of, joint_of}
 use Rattle.gos_expand.specs.Starts.{Keep, kept_size, way_size}

@@ -1,6 +1,6 @@
 use Rattle.std.proofs.Common.{◌≡◌, ◌+◌, ℕ, [], map, refl}
 use Rattle.std.specs.Str.Lines.{lines}
-use Rattle.gos_lines.specs.Lines.{statements_from}
+use Rattle.gos_lex.specs.Lines.{statements_from}
 use Rattle.gos_link.specs.BuildFile.{IsRightAfter}
 use Rattle.gos_link.specs.declared.said.Said.{Said}
 use Rattle.gos_link.proofs.ItemLemmas.{all_read, first_wrong}

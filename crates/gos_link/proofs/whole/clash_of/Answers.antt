@@ -2,7 +2,7 @@ use Rattle.std.proofs.Common.{rules, ◌≡◌, ◌∙◌, ◌<◌, List, Some, 
 use Rattle.std.specs.Prelude.{slice_get}
 use Rattle.std.proofs.lemmas.Option.{slice_get_read}
 use Rattle.std.proofs.lemmas.List.{length-map}
-use Rattle.gos_lines.specs.Lines.{Word}
+use Rattle.gos_lex.specs.Lines.{Word}
 use Rattle.gos_link.specs.Linked.{Port}
 use Rattle.gos_link.specs.declared.whole.Port as declared_port
 use Rattle.gos_lex.specs.NameTables.{added, number_at}

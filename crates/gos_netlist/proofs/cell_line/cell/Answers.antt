@@ -1,7 +1,7 @@
 use Rattle.std.proofs.Common.{ℕ, subst}
 use Rattle.std.specs.Fmt.{decimal}
 use Rattle.gos_lex.specs.Items.{Misses}
-use Rattle.gos_netlist.specs.NetItems.{IsNumberText, Passed, ended}
+use Rattle.gos_lex.specs.ItemTexts.{IsNumberText, Passed, ended}
 use Rattle.std.proofs.lemmas.Result.{err_from_is_err_and}
 use Rattle.gos_netlist.specs.Seen.{function_of}
 use Rattle.gos_netlist.proofs.CellLemmas.{no_word, no_width, no_operands, cell_passed}

@@ -2,7 +2,7 @@ use Rattle.std.proofs.Common.{◌≡◌, ◌-◌, ◌∷◌, [], ℕ, take, refl
 use Rattle.std.specs.Fmt.{decimal}
 use Rattle.std.proofs.lemmas.Result.{err_from_is_err_and}
 use Rattle.gos_lex.specs.Items.{Misses}
-use Rattle.gos_netlist.specs.NetItems.{Passed, ended, IsNumberText}
+use Rattle.gos_lex.specs.ItemTexts.{Passed, ended, IsNumberText}
 use Rattle.gos_netlist.specs.inner.NetLines.{numbers_text}
 use Rattle.gos_netlist.proofs.NetsLemmas.{none_yet, first_net, one_more, no_more, nets_passed}
 use Rattle.gos_netlist.proofs.items.few_nets.Goals as goal

@@ -3,7 +3,7 @@ use Rattle.std.specs.Fmt.{decimal}
 use Rattle.std.proofs.lemmas.Result.{err_from_is_err_and}
 use Rattle.gos_lex.specs.Items.{IsJust, Misses}
 use Rattle.gos_lex.specs.Decimals.{IsDecimalIn}
-use Rattle.gos_netlist.proofs.NumberLemmas.{no_number, number_not_ended}
+use Rattle.gos_lex.proofs.NumberTextLemmas.{no_number, number_not_ended}
 use Rattle.gos_netlist.proofs.PassedLemmas.{passed_both, passed_item}
 use Rattle.gos_netlist.proofs.items.number.Goals as goal
 

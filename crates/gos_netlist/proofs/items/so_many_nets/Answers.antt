@@ -4,7 +4,7 @@ use Rattle.std.proofs.lemmas.Result.{err_from_is_err_and}
 use Rattle.std.specs.Fmt.{decimal}
 use Rattle.gos_netlist.specs.Seen.{number_of}
 use Rattle.gos_lex.specs.Items.{Misses}
-use Rattle.gos_netlist.specs.NetItems.{Passed, ended, IsNumberText}
+use Rattle.gos_lex.specs.ItemTexts.{Passed, ended, IsNumberText}
 use Rattle.gos_netlist.proofs.NetsLemmas.{NetsSoFar, none_yet, one_more, no_more, nets_passed}
 use Rattle.gos_netlist.proofs.items.so_many_nets.Goals as goal
 

@@ -1,6 +1,6 @@
 use Rattle.std.proofs.Common.{subst}
 use Rattle.gos_netlist.specs.declared.word.TypeWord.{TypeWord}
-use Rattle.gos_netlist.specs.NetItems.{Passed, ended}
+use Rattle.gos_lex.specs.ItemTexts.{Passed, ended}
 use Rattle.gos_netlist.specs.inner.NetLines.{type_word}
 use Rattle.std.proofs.lemmas.Result.{err_from_is_err_and}
 use Rattle.gos_netlist.proofs.TypeLemmas.{no_type_word, no_exp_width, no_var_width, exp_passed, var_passed}

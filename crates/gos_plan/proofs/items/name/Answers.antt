@@ -2,7 +2,7 @@ use Rattle.std.proofs.Common.{◌≡◌, ◌∷◌, [], ◌∙◌, ℕ, List, re
 use Rattle.std.specs.List.{slice_range}
 use Rattle.gos_lex.specs.Items.{IsJust, Misses}
 use Rattle.gos_lex.specs.Names.{IsSpelled, IsNameOrWord}
-use Rattle.gos_netlist.proofs.NameLemmas.{no_name, name_not_ended}
+use Rattle.gos_lex.proofs.NameTextLemmas.{no_name, name_not_ended}
 use Rattle.gos_plan.proofs.ItemLemmas.{name_misses, passed_then}
 use Rattle.gos_plan.proofs.items.name.Goals as goal
 

@@ -1,6 +1,6 @@
 use Rattle.std.proofs.Common.{rules, ◌≡◌, ◌+◌, ℕ, [], length, map}
 use Rattle.std.specs.Str.Lines.{lines}
-use Rattle.gos_lines.specs.Lines.{statements_from}
+use Rattle.gos_lex.specs.Lines.{statements_from}
 use Rattle.gos_pulse.specs.PulseFile.{Names, IsWrongEntry}
 use Rattle.gos_pulse.proofs.EntryLemmas.{all_read, first_wrong}
 use Rattle.gos_pulse.proofs.reading.read_entries.Goals as goal

@@ -1,6 +1,6 @@
 use Rattle.std.proofs.Common.{◌<◌, ◌+◌, ◌^◌, length}
 use Rattle.std.specs.Str.Lines.{lines}
-use Rattle.gos_lines.specs.Lines.{statements_from}
+use Rattle.gos_lex.specs.Lines.{statements_from}
 use Rattle.gos_pulse.proofs.EntryLemmas.{ReadSoFar}
 use Rattle.gos_pulse.proofs.reading.read_entries.Given as goal
 

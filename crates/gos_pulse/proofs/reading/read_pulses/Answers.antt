@@ -1,7 +1,7 @@
 use Rattle.std.proofs.Common.{◌≡◌, ◌+◌, ◌∷◌, ℕ, All, List, arith, map, subst, sym}
 use Rattle.std.specs.Str.Lines.{lines}
 use Rattle.std.proofs.lemmas.Result.{err_from_is_err_and}
-use Rattle.gos_lines.specs.Lines.{statements_of, statements_from}
+use Rattle.gos_lex.specs.Lines.{statements_of, statements_from}
 use Rattle.gos_pulse.specs.Entries.{SaysCycles, IsRunLength}
 use Rattle.gos_pulse.proofs.EntryLemmas.{entries_refused, entries_give}
 use Rattle.gos_pulse.specs.Driving.{GivesInput}

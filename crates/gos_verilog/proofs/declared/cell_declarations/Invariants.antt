@@ -1,6 +1,6 @@
 use Rattle.std.proofs.Common.{◌≡◌, ◌≤◌, length}
 use Rattle.std.specs.List.{AllByRecursion}
-use Rattle.gos_netlist.specs.NetItems.{Passed}
+use Rattle.gos_lex.specs.ItemTexts.{Passed}
 use Rattle.gos_verilog.specs.inner.Left.{IsShape, shapes_text}
 use Rattle.gos_verilog.proofs.declared.cell_declarations.Given as goal
 

@@ -1,6 +1,6 @@
 use Rattle.std.proofs.Common.{◌≡◌, ◌+◌, ◌∷◌, [], ℕ, List, rules, get_or, sym, ◌∙◌, ap, subst}
 use Rattle.gos_lex.specs.Items.{TextAt, Misses}
-use Rattle.gos_netlist.specs.NetItems.{Passed, IsInRange}
+use Rattle.gos_lex.specs.ItemTexts.{Passed, IsInRange}
 use Rattle.gos_verilog.specs.inner.Slots.{Slot', FitSlots, line_text, IsLine}
 use Rattle.gos_verilog.specs.inner.Left.{least_of, most_of, IsNetOf, net_text}
 use Rattle.gos_verilog.proofs.PlaceLemmas.{start_at}

@@ -2,7 +2,7 @@ use Rattle.std.proofs.Common.{◌≡◌, ◌+◌, ◌<◌, ℕ, List, length, fa
 use Rattle.std.proofs.lemmas.Option.{slice_get_read}
 use Rattle.gos_lex.specs.Items.{IsJust, Misses}
 use Rattle.gos_netlist.specs.Nets.{Input}
-use Rattle.gos_netlist.specs.NetItems.{Passed}
+use Rattle.gos_lex.specs.ItemTexts.{Passed}
 use Rattle.gos_verilog.specs.PortNets.{PortNet}
 use Rattle.gos_verilog.specs.Lines.{driver_of}
 use Rattle.gos_verilog.specs.inner.Breaks.{AllMiss}

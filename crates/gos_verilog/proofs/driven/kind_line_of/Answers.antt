@@ -1,7 +1,7 @@
 use Rattle.std.proofs.Common.{◌≡◌, ◌++◌, [], ℕ, List, drop, sym, ◌∙◌, subst}
 use Rattle.std.proofs.lemmas.Result.{err_from_is_err_and}
 use Rattle.gos_lex.specs.Items.{TextAt, Misses}
-use Rattle.gos_netlist.specs.NetItems.{Passed}
+use Rattle.gos_lex.specs.ItemTexts.{Passed}
 use Rattle.gos_netlist.specs.Seen.{function_of}
 use Rattle.gos_verilog.specs.Lines.{driver_of}
 use Rattle.gos_verilog.specs.inner.CellLines.{IsKindLine}

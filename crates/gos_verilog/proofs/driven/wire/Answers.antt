@@ -4,7 +4,7 @@ use Rattle.gos_netlist.specs.Nets.{Input}
 use Rattle.gos_netlist.specs.Seen.{function_of}
 use Rattle.gos_netlist.specs.declared.nets.Gate as declared
 use Rattle.gos_netlist.specs.declared.nets.Gate.TheVariants as gates
-use Rattle.gos_netlist.specs.NetItems.{Passed}
+use Rattle.gos_lex.specs.ItemTexts.{Passed}
 use Rattle.gos_verilog.specs.PortNets.{PortNet}
 use Rattle.gos_verilog.specs.Lines.{driver_of}
 use Rattle.gos_verilog.specs.inner.Left.{IsSource, IsDriver}

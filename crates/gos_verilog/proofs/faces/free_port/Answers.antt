@@ -1,7 +1,7 @@
 use Rattle.std.proofs.Common.{◌≡◌, ◌≤◌, ◌+◌, ◌-◌, ℕ, List, length, take, drop, length-drop, ap, ◌∙◌, subst, sym, arith}
 use Rattle.std.specs.Prelude.{codes}
 use Rattle.gos_lex.specs.Items.{IsJust, Misses}
-use Rattle.gos_netlist.specs.NetItems.{Passed, ended}
+use Rattle.gos_lex.specs.ItemTexts.{Passed, ended}
 use Rattle.gos_lex.proofs.PlaceLemmas.{rest_whole}
 use Rattle.gos_verilog.specs.declared.fault.VFault.{VFault}
 use Rattle.gos_lex.specs.declared.table.NameTable.{NameTable}

@@ -1,6 +1,6 @@
 use Rattle.std.proofs.Common.{◌≡◌, ◌≤◌, ◌+◌, ◌-◌, ℕ, List, length, take, drop, length-drop, ap, ◌∙◌, subst, sym, arith}
 use Rattle.gos_lex.specs.Items.{TextAt, IsJust, Misses}
-use Rattle.gos_netlist.specs.NetItems.{Passed}
+use Rattle.gos_lex.specs.ItemTexts.{Passed}
 use Rattle.gos_lex.proofs.PlaceLemmas.{rest_whole}
 use Rattle.gos_verilog.proofs.PlaceLemmas.{start_at}
 use Rattle.gos_verilog.proofs.WordLemmas.{shift_passed, shift_misses}

@@ -2,9 +2,8 @@ use Rattle.std.proofs.Common.{◌++◌, ◌∷◌, [], ℕ, List, sym, ◌∙◌
 use Rattle.std.specs.Prelude.{codes}
 use Rattle.std.proofs.lemmas.Result.{err_from_is_err_and}
 use Rattle.gos_lex.specs.Items.{TextAt}
-use Rattle.gos_netlist.specs.NetItems.{ended}
-use Rattle.gos_verilog.specs.inner.Stages.{Rest}
-use Rattle.gos_verilog.specs.inner.Stages.{listed}
+use Rattle.gos_lex.specs.ItemTexts.{ended}
+use Rattle.gos_verilog.specs.inner.Stages.{Rest, listed}
 use Rattle.gos_verilog.proofs.head.head.Goals as goal
 
 -- the start, by its parts

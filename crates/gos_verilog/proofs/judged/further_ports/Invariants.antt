@@ -1,6 +1,6 @@
 use Rattle.std.proofs.Common.{◌≡◌, ◌≤◌, ◌+◌, ◌∷◌, [], List, length}
 use Rattle.std.specs.List.{flat_map}
-use Rattle.gos_netlist.specs.NetItems.{Passed}
+use Rattle.gos_lex.specs.ItemTexts.{Passed}
 use Rattle.gos_verilog.specs.inner.Faces.{Face', AreKnown, AreNewFaces, port_text}
 use Rattle.gos_verilog.proofs.judged.further_ports.Given as goal
 

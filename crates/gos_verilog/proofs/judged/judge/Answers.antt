@@ -13,7 +13,7 @@ use Rattle.gos_verilog.proofs.LeftNetLemmas.{if_ok}
 use Rattle.gos_verilog.proofs.PlaceLemmas.{start_at}
 use Rattle.gos_verilog.proofs.NamedPortLemmas.{ports_head, start_fault, start_on_text, name_behind}
 use Rattle.gos_verilog.proofs.judged.judge.Goals as goal
-use Rattle.gos_netlist.specs.NetItems.{ended}
+use Rattle.gos_lex.specs.ItemTexts.{ended}
 
 -- what stands behind the start
 record Started (text : List ℕ) (at : ℕ) (name : List ℕ) : Type 0 where

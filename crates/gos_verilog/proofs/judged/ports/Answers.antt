@@ -3,7 +3,7 @@ use Rattle.std.specs.List.{flat_map}
 use Rattle.std.proofs.lemmas.Result.{err_from_is_err_and}
 use Rattle.gos_lex.specs.Names.{IsNameOrWord}
 use Rattle.gos_lex.specs.Items.{TextAt, IsJust, Misses}
-use Rattle.gos_netlist.specs.NetItems.{Passed}
+use Rattle.gos_lex.specs.ItemTexts.{Passed}
 use Rattle.gos_lex.proofs.PlaceLemmas.{rest_whole}
 use Rattle.gos_verilog.specs.declared.fault.VFault.{VFault}
 use Rattle.gos_verilog.specs.inner.Stages.{BreaksAt}

@@ -1,7 +1,7 @@
 use Rattle.std.proofs.Common.{◌≡◌, ◌++◌, ◌∷◌, [], refl, ℕ, List, rules, ◌∙◌, ap, subst, get_or}
 use Rattle.std.specs.Prelude.{codes}
 use Rattle.gos_lex.specs.Items.{Misses}
-use Rattle.gos_netlist.specs.NetItems.{Passed}
+use Rattle.gos_lex.specs.ItemTexts.{Passed}
 use Rattle.gos_verilog.specs.Lines.{assignment, cell_net}
 use Rattle.gos_verilog.specs.inner.Slots.{FitSlots, line_text, IsLine}
 use Rattle.gos_verilog.proofs.RestLemmas.{not_missed}

@@ -1,16 +1,14 @@
 use Rattle.std.proofs.Common.{codes, ◌≡◌, ◌≤◌, drop, true, arith, ◌+◌, ◌++◌, ◌∷◌, [], ℕ, List, false, length, sym, ◌∙◌, ap, subst, length-append}
 use Rattle.std.specs.List.{flat_map}
 use Rattle.std.proofs.lemmas.Result.{err_from_is_err_and}
-use Rattle.gos_lex.specs.Items.{TextAt}
+use Rattle.gos_lex.specs.Items.{TextAt, IsJust}
 use Rattle.gos_verilog.specs.PortNets.{PortNet}
 use Rattle.gos_verilog.specs.Lines.{assignment, cell_net, output_assignment}
-use Rattle.gos_verilog.specs.inner.Stages.{Rest}
+use Rattle.gos_verilog.specs.inner.Stages.{Rest, BreaksAt}
 use Rattle.gos_verilog.proofs.ListLemmas.{drop_at}
 use Rattle.std.proofs.Math.ListN.{drop_of_length-le}
-use Rattle.gos_lex.specs.Items.{IsJust}
-use Rattle.gos_netlist.specs.NetItems.{Passed}
+use Rattle.gos_lex.specs.ItemTexts.{Passed}
 use Rattle.gos_netlist.proofs.PassedLemmas.{passed_within}
-use Rattle.gos_verilog.specs.inner.Stages.{BreaksAt}
 use Rattle.gos_verilog.specs.inner.Breaks.{LeadsOn}
 use Rattle.gos_verilog.specs.inner.Left.{LeftOutputs}
 use Rattle.gos_verilog.proofs.BreakLemmas.{on_nothing, on_rest}

@@ -2,7 +2,7 @@ use Rattle.std.proofs.Common.{ℕ, List, sym, subst}
 use Rattle.std.specs.Fmt.{decimal}
 use Rattle.std.proofs.lemmas.Result.{err_from_is_err_and}
 use Rattle.gos_lex.specs.Items.{IsJust, Misses}
-use Rattle.gos_netlist.specs.NetItems.{IsTextOf, Passed, IsNumberText, ended}
+use Rattle.gos_lex.specs.ItemTexts.{IsTextOf, Passed, IsNumberText, ended}
 use Rattle.gos_netlist.proofs.PassedLemmas.{passed_both, passed_item}
 use Rattle.gos_verilog.specs.inner.Slots.{Slot', IsSlot, IsRightSlot, slot_text}
 use Rattle.gos_verilog.proofs.SlotLemmas.{no_slot_word, no_slot_number}

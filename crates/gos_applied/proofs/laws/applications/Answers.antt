@@ -1,9 +1,0 @@
-use Rattle.gos_applied.proofs.TogetherLemmas.{applied_is_supplied}
-use Rattle.gos_applied.proofs.ApplicationLemmas.{application_is_realised}
-use Rattle.gos_applied.proofs.laws.applications.Goals as goal
-
-pub returns-clause-supplied : goal.returns-clause-supplied
-returns-clause-supplied c = applied_is_supplied
-
-pub returns-clause-realised : goal.returns-clause-realised
-returns-clause-realised c = application_is_realised

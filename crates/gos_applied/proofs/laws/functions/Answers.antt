@@ -1,8 +1,0 @@
-use Rattle.gos_applied.proofs.BodyLemmas.{opened_is_supplied, body_is_realised}
-use Rattle.gos_applied.proofs.laws.functions.Goals as goal
-
-pub returns-clause-supplied : goal.returns-clause-supplied
-returns-clause-supplied c = opened_is_supplied
-
-pub returns-clause-realised : goal.returns-clause-realised
-returns-clause-realised c = body_is_realised

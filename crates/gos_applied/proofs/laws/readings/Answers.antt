@@ -1,8 +1,0 @@
-use Rattle.gos_applied.proofs.ReadingLemmas.{reading_is_supplied, reading_is_realised}
-use Rattle.gos_applied.proofs.laws.readings.Goals as goal
-
-pub returns-clause-supplied : goal.returns-clause-supplied
-returns-clause-supplied c = reading_is_supplied
-
-pub returns-clause-realised : goal.returns-clause-realised
-returns-clause-realised c = reading_is_realised

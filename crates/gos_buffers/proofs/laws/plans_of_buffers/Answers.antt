@@ -1,9 +1,0 @@
-use Rattle.gos_buffers.proofs.BufferedLemmas.{buffered_is_buffer}
-use Rattle.gos_buffers.proofs.VariableLemmas.{ground_is_buffered}
-use Rattle.gos_buffers.proofs.laws.plans_of_buffers.Goals as goal
-
-pub returns-clause-buffer : goal.returns-clause-buffer
-returns-clause-buffer c = buffered_is_buffer
-
-pub returns-clause-realises : goal.returns-clause-realises
-returns-clause-realises c = ground_is_buffered

@@ -1,9 +1,0 @@
-mod ApartLemmas
-mod ObjectLemmas
-mod PlansLemmas
-mod PacedLemmas
-mod RoleLemmas
-mod HeadlineLemmas
-mod PulseLemmas
-mod CompleteLemmas
-mod BuildLemmas

@@ -1,5 +1,0 @@
-use Rattle.gos_circuits.proofs.CircuitLemmas.{paces}
-use Rattle.gos_circuits.proofs.laws.every_choice.Goals as goal
-
-pub returns : goal.returns
-returns c = λ keep p root m can acyclic slim realises. paces keep p root m can acyclic c.cycles_are_lists.ensures c.keeps_pace.ensures slim realises

@@ -1,7 +1,0 @@
-pub mod BranchLemmas
-pub mod EndLemmas
-pub mod PartedLemmas
-pub mod CaredLemmas
-pub mod OwnLemmas
-pub mod SessionLemmas
-mod SmallLemmas

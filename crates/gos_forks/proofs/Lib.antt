@@ -1,7 +1,0 @@
-pub mod BranchLemmas
-pub mod NumberLemmas
-pub mod ChildLemmas
-pub mod PartLemmas
-pub mod FormLemmas
-mod SmallForkLemmas
-pub mod PairLemmas

@@ -1,0 +1,4 @@
+pub mod GatesLemmas
+pub mod PathLemmas
+pub mod causal
+pub mod lemmas

@@ -1,0 +1,10 @@
+pub mod CellLemmas
+pub mod SpreadLemmas
+pub mod SettleLemmas
+pub mod AgreeLemmas
+pub mod FiringLemmas
+pub mod OutLemmas
+pub mod PartedLemmas
+pub mod LessLemmas
+pub mod CausalLemmas
+pub mod SmallLemmas

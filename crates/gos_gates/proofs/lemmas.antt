@@ -1,0 +1,3 @@
+-- The lemmas of each folder of src.
+pub mod values
+pub mod share

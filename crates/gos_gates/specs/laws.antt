@@ -1,0 +1,5 @@
+-- Proofs of laws that a trait asks of types, which the gates of several kinds cite. In reading order: a file uses only
+-- files above it.
+pub mod Passing
+pub mod SkipKept
+pub mod SkipPaths

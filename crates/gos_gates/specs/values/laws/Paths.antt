@@ -1,0 +1,52 @@
+-- Paths lead through the gates of each kind where `passing_of` says. A search tells it, kind by kind; how wide a number is
+-- doesn't matter, nor which number a literal is.
+--
+-- Read first: Layout, Ranges; Told of path_search.
+use Rattle.std.proofs.Common.{◌≡◌, ℕ, zero, suc, true, refl, arith}
+use Rattle.gos_model.specs.Terms.{Op as Operation}
+use Rattle.gos_model.specs.Terms as operations
+use Rattle.gos_plan.specs.declared.kinds.Kind.{Kind}
+use Rattle.gos_plan.specs.declared.kinds.Kind.TheVariants as kinds
+use Rattle.gos_plan.specs.Kinds.{Part, Lit, Op, Not, Assign, Deref, Local, part_contacts}
+use Rattle.gos_plan.specs.Seen.{operation_of, part_of}
+use Rattle.gos_gates.specs.Paths.{KeepPaths}
+use Rattle.gos_gates.specs.path_search.Fixed.{fixed, AreNamed, OutsAreNamed}
+use Rattle.gos_gates.specs.path_search.Search.{is_told}
+use Rattle.gos_gates.specs.path_search.laws.Told.{told_is_kept}
+use Rattle.gos_gates.specs.values.Layout.{layout, outs_of, late_of, passing_of}
+use Rattle.gos_gates.specs.values.Ranges.{IsArith}
+
+-- what is asked of the paths of a part
+abbrev pub HasPaths : Part → Type 0
+HasPaths k = KeepPaths k (layout k) (outs_of k) (late_of k) (passing_of k)
+
+told : (k : Part) → AreNamed (layout k) → OutsAreNamed (outs_of k)
+    → is_told (part_contacts k) (layout k 0 fixed) (outs_of k 0) (late_of k) (passing_of k) ≡ true → HasPaths k
+told k = told_is_kept k (layout k) (outs_of k) (late_of k) (passing_of k)
+
+op_paths : (op : Operation) (w : ℕ) → HasPaths (Op op (suc w))
+op_paths operations.Add w = told (Op operations.Add (suc w)) (λ b i. refl) (λ b. refl) refl
+op_paths operations.Sub w = told (Op operations.Sub (suc w)) (λ b i. refl) (λ b. refl) refl
+op_paths operations.And w = told (Op operations.And (suc w)) (λ b i. refl) (λ b. refl) refl
+op_paths operations.Or w = told (Op operations.Or (suc w)) (λ b i. refl) (λ b. refl) refl
+op_paths operations.Xor w = told (Op operations.Xor (suc w)) (λ b i. refl) (λ b. refl) refl
+op_paths operations.Eq w = told (Op operations.Eq (suc w)) (λ b i. refl) (λ b. refl) refl
+op_paths operations.Less w = told (Op operations.Less (suc w)) (λ b i. refl) (λ b. refl) refl
+
+local_paths : (w v : ℕ) → HasPaths (Local (suc w) v)
+local_paths w zero = told (Local (suc w) 0) (λ b i. refl) (λ b. refl) refl
+local_paths w (suc v) = told (Local (suc w) (suc v)) (λ b i. refl) (λ b. refl) refl
+
+pub arith_paths : (k : Kind) → IsArith k → HasPaths (part_of k)
+arith_paths (kinds.Lit w k) is = told (Lit w k) (λ b i. refl) (λ b. refl) refl
+arith_paths (kinds.Op op zero) is = absurd (let some = is.0 in omega (arith, some))
+arith_paths (kinds.Op op (suc w)) is = op_paths (operation_of op) w
+arith_paths (kinds.Not zero) is = absurd (let some = is.0 in omega (arith, some))
+arith_paths (kinds.Not (suc w)) is = told (Not (suc w)) (λ b i. refl) (λ b. refl) refl
+arith_paths (kinds.Assign zero) is = absurd (let some = is.0 in omega (arith, some))
+arith_paths (kinds.Assign (suc w)) is = told (Assign (suc w)) (λ b i. refl) (λ b. refl) refl
+arith_paths (kinds.Deref zero) is = absurd (let some = is.0 in omega (arith, some))
+arith_paths (kinds.Deref (suc w)) is = told (Deref (suc w)) (λ b i. refl) (λ b. refl) refl
+arith_paths (kinds.Local zero v) is = absurd (let some = is.0.0 in omega (arith, some))
+arith_paths (kinds.Local (suc w) v) is = local_paths w v
+arith_paths k is = absurd is

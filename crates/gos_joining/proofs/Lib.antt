@@ -1,0 +1,4 @@
+pub mod webs
+pub mod weaving
+pub mod unions
+pub mod renumbered

@@ -1,0 +1,10 @@
+pub mod ImportLemmas
+pub mod TurnLemmas
+pub mod OrderLemmas
+pub mod SizeLemmas
+pub mod SplitLemmas
+pub mod RewireLemmas
+pub mod HigherLemmas
+pub mod SupplyLemmas
+pub mod OpenLemmas
+pub mod SmallRewiringLemmas

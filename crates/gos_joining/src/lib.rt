@@ -1,0 +1,7 @@
+// The algebra of plans: they are cut, renumbered and joined, and joinings compose.
+//
+// Laws alone: each function does nothing, and its contract is the law. `laws.rt` has the chapters in reading order; the
+// definitions of a chapter stand in its folder of `specs`, and what it is about in README.md.
+#![tactic(auto)]
+
+pub mod laws;

@@ -1,5 +1,0 @@
-pub mod TokenLemmas
-pub mod LostLemmas
-mod VariableLemmas
-mod GroundLemmas
-mod SmallLemmas

@@ -1,8 +1,0 @@
-use Rattle.gos_leaves.proofs.ClosedLemmas.{skip_is_realised, literal_wired}
-use Rattle.gos_leaves.proofs.laws.closed_is_realised.Goals as goal
-
-pub returns-clause-skip : goal.returns-clause-skip
-returns-clause-skip c = skip_is_realised
-
-pub returns-clause-literal : goal.returns-clause-literal
-returns-clause-literal c = literal_wired

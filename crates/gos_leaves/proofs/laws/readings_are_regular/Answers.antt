@@ -1,9 +1,0 @@
-use Rattle.gos_leaves.proofs.ReaderLemmas.{reading_is_regular}
-use Rattle.gos_leaves.proofs.RegularLemmas.{read_is_regular}
-use Rattle.gos_leaves.proofs.laws.readings_are_regular.Goals as goal
-
-pub returns-clause-joined : goal.returns-clause-joined
-returns-clause-joined c = reading_is_regular
-
-pub returns-clause-read : goal.returns-clause-read
-returns-clause-read c = read_is_regular

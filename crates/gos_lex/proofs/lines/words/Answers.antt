@@ -1,0 +1,14 @@
+use Rattle.std.proofs.Common.{rules}
+use borrow.Author.Tests.{tests}
+use Rattle.std.proofs.lemmas.Iterator.Splits.{YieldsList-from_slice_split}
+use Rattle.std.proofs.lemmas.Iterator.Consumers.{YieldsList-at, YieldsList-from_filter, map_from_collect}
+use Rattle.gos_lex.specs.Lines.{is_blank, is_some_word}
+use Rattle.gos_lex.proofs.LineLemmas.{is_some_word-length}
+use Rattle.gos_lex.proofs.lines.words.Goals as goal
+
+pub returns : goal.returns
+returns c =
+    map_from_collect _ c.collect.ensures.ran
+    (YieldsList-from_filter _ is_some_word
+    (YieldsList-at c.filter.ensures.source (YieldsList-from_slice_split _ is_blank c.args.line.now c.split.ensures.rest c.split.ensures.done c.split.ensures.closure (λ x b q k. search (rules, tests))))
+    c.filter.ensures.closure (λ x b q k. search (rules, tests, is_some_word-length)))

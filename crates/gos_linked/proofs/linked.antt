@@ -1,0 +1,13 @@
+pub mod CountLemmas
+pub mod ChainLemmas
+pub mod SoundLemmas
+pub mod NamedLemmas
+pub mod GrowLemmas
+pub mod WholeLemmas
+pub mod RewiredLemmas
+pub mod BodyLemmas
+pub mod TypedLemmas
+pub mod OpenLemmas
+pub mod LinkedLemmas
+pub mod ModuleLemmas
+pub mod SmallLemmas

@@ -1,4 +1,0 @@
-pub mod NumberLemmas
-pub mod ClosedLemmas
-pub mod LeafLemmas
-mod SmallLemmas

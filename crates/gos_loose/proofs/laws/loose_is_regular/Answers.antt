@@ -1,8 +1,0 @@
-use Rattle.gos_loose.proofs.LooseLemmas.{loose_is_regular, loose_rests}
-use Rattle.gos_loose.proofs.laws.loose_is_regular.Goals as goal
-
-pub returns-clause-regular : goal.returns-clause-regular
-returns-clause-regular c = loose_is_regular
-
-pub returns-clause-rests : goal.returns-clause-rests
-returns-clause-rests c = loose_rests

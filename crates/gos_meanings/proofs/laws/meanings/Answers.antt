@@ -1,9 +1,0 @@
-use Rattle.gos_meanings.proofs.BodyLemmas.{body_is_instantiated}
-use Rattle.gos_meanings.proofs.SuppliedLemmas.{module_is_supplied}
-use Rattle.gos_meanings.proofs.laws.meanings.Goals as goal
-
-pub returns-clause-body : goal.returns-clause-body
-returns-clause-body c = body_is_instantiated
-
-pub returns-clause-module : goal.returns-clause-module
-returns-clause-module c = module_is_supplied

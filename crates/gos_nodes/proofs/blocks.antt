@@ -1,0 +1,17 @@
+pub mod RegionLemmas
+pub mod DriverLemmas
+pub mod StepLemmas
+pub mod LinkedLemmas
+pub mod SharedLemmas
+pub mod OutputLemmas
+pub mod OpenLemmas
+pub mod OrderLemmas
+pub mod LooseLemmas
+pub mod RegularLemmas
+pub mod InsideLemmas
+pub mod QuietLemmas
+pub mod IdleLemmas
+pub mod ImportLemmas
+pub mod MatchLemmas
+pub mod RealisesLemmas
+pub mod SmallBlockLemmas

@@ -1,0 +1,315 @@
+-- The ends of a block's body: where they stand in the whole, what lies there, and what the body sees of the rest.
+--
+-- The body's result is counted among its ends also where it stands in no joint: then the part asks in vain, and the body
+-- sees a request that is lost.
+use Rattle.std.specs.Prelude.{◌≡◌, ◌≢◌, ◌⊎◌, ℕ, zero, suc, Bool, true, false, Option, Some, None, nat_eq, slice_get}
+use Rattle.std.proofs.Common.{arith, refl, sym, ap, subst, inl, inr, ◌∙◌}
+use Rattle.std.proofs.lemmas.Option.{none-some}
+use Rattle.gos_types.specs.Types.{Type', IsDone}
+use Rattle.gos_types.specs.Events.{Direction, Request, Answer}
+use Rattle.gos_model.specs.Typing.{Imported}
+use Rattle.gos_plan.specs.Kinds as kinds
+use Rattle.gos_plan.specs.Kinds.{Contact, asks, contacts_of}
+use Rattle.gos_plan.specs.Firing.{State, Slot}
+use Rattle.gos_plan.specs.Plans.{End, PartEnd, ImportEnd, ResultEnd, Plan, contact_at, contacts_of_import, same_end, turned_if}
+use Rattle.gos_plan.specs.Tokens.{Tokens, Out, In, IsPortEnd, places_of, held_at, with_held, token_at, with_token, with_state, end_of, shake_of, Passes, Does}
+use Rattle.gos_plan.specs.Orderly.{named_by, handshake_at}
+use Rattle.gos_plan.proofs.JointLemmas.{Found, contained, found, has_place, joined, same_is, same_itself, stands_there}
+use Rattle.gos_nodes.specs.sessions.Sessions.{bits}
+use Rattle.gos_joining.specs.webs.Cutting.{lies_at, StandsIn, cut_tokens}
+use Rattle.gos_joining.proofs.webs.MovedLemmas.{listed, same_bool}
+use Rattle.gos_joining.proofs.webs.CutLemmas.{name_by, Owns, port_own, port_lies, one_end, asker_asks, asker_own, place_there, no_place, token_cut, token_put, token_lost, state_lost, stands_own, which_end, first_stands, last_stands}
+use Rattle.gos_realises.proofs.realises.InputLemmas.{result_asks}
+use Rattle.gos_joining.specs.webs.Webs.{joint}
+use Rattle.gos_nodes.specs.parallel.Parallel.{IsJointOf}
+use Rattle.gos_nodes.proofs.windows.AskedLemmas.{done_contact}
+use Rattle.gos_nodes.specs.blocks.Block.{Block, IsBlock}
+
+-- the end of the body at which the part asks, and those at which it serves
+abbrev pub port : Block → ℕ → End
+port b zero = ResultEnd 0
+port b (suc h) = ImportEnd b.place h
+
+-- what lies behind an end of the whole: an end that the part has, or an import of both
+pub data Inner (r : Plan) (b : Block) (x e : End) : Type 0 where
+  at_port : (h : ℕ) → x ≡ PartEnd b.own h → e ≡ port b h → Inner r b x e
+  at_import :
+      (i j n : ℕ) → x ≡ ImportEnd j n → e ≡ ImportEnd i n → i ≢ b.place → StandsIn b.body (ImportEnd i n) → b.cut.outer (ImportEnd i n) ≡ ImportEnd j n
+      → slice_get b.body.imports i ≡ slice_get r.imports j → Inner r b x e
+
+-- whether an import stands for the variable
+pub data Which (b : Block) (i : ℕ) : Type 0 where
+  variable : i ≡ b.place → Which b i
+  other : i ≢ b.place → Which b i
+
+pub which : (b : Block) (i : ℕ) → Which b i
+which b i = by_test (nat_eq i b.place) refl
+  where
+    by_test : (t : Bool) → nat_eq i b.place ≡ t → Which b i
+    by_test true e = variable (grind (arith, e))
+    by_test false e = other (λ same. let clash : true ≡ false = grind (arith, e, same) in cc clash)
+
+module _ (r : Plan) (b : Block) (is : IsBlock r b) where
+  pub body_done : IsDone b.body.outcome
+  body_done = subst IsDone (sym is.outcome) is.done
+
+  pub result_shake : (n : ℕ) → StandsIn b.body (ResultEnd n) → n ≡ 0
+  result_shake n (j, listing, stands) =
+      let place = stands_there b.body j (ResultEnd n) is.cut.right (contained b.body.joints j listing) stands in
+      let one = joined b.body (ResultEnd n) j.asking is.cut.right place in
+      (result_asks b.body.outcome body_done n one.here one.is_here).0
+
+  pub served_at : (i h : ℕ) → i ≡ b.place → b.cut.outer (ImportEnd i h) ≡ PartEnd b.own (suc h)
+  served_at i h same = ap (λ n. b.cut.outer (ImportEnd n h)) same ∙ is.served h
+
+  pub inner_is : (x e : End) → b.cut.inner x ≡ Some e → Inner r b x e
+  inner_is x e at = by_end e (is.cut.inners x e at)
+    where
+      by_end : (e : End) → IsPortEnd e × StandsIn b.body e × (b.cut.outer e ≡ x) → Inner r b x e
+      by_end (PartEnd i n) (port', stands, at) = absurd port'
+      by_end (ImportEnd i n) (port', stands, at) = by_which (which b i)
+        where
+          by_which : Which b i → Inner r b x (ImportEnd i n)
+          by_which (variable same) = at_port (suc n) (sym at ∙ served_at i n same) (ap (λ m. ImportEnd m n) same)
+          by_which (other apart) =
+              let (j, leads, slices) = is.imports i n apart stands in at_import i j n (sym at ∙ leads) refl apart stands leads slices
+      by_end (ResultEnd n) (port', stands, at) =
+          let none = result_shake n stands in
+          at_port 0 (sym at ∙ (ap (λ m. b.cut.outer (ResultEnd m)) none ∙ is.result)) (ap (λ m. ResultEnd m) none)
+
+  pub import_inner : (j n : ℕ) (e : End) → b.cut.inner (ImportEnd j n) ≡ Some e
+      → (i : ℕ) × (e ≡ ImportEnd i n) × (i ≢ b.place) × StandsIn b.body (ImportEnd i n) × (b.cut.outer (ImportEnd i n) ≡ ImportEnd j n)
+      × (slice_get b.body.imports i ≡ slice_get r.imports j)
+  import_inner j n e at = by_inner (inner_is (ImportEnd j n) e at)
+    where
+      by_inner : Inner r b (ImportEnd j n) e
+          → (i : ℕ) × (e ≡ ImportEnd i n) × (i ≢ b.place) × StandsIn b.body (ImportEnd i n) × (b.cut.outer (ImportEnd i n) ≡ ImportEnd j n)
+          × (slice_get b.body.imports i ≡ slice_get r.imports j)
+      by_inner (at_port h at same) = absurd (cc at)
+      by_inner (at_import i a m at same apart stands leads also) =
+          let import : j ≡ a = cc at in
+          let shake : m ≡ n = cc at in (
+            i,
+            same ∙ ap (λ n. ImportEnd i n) shake,
+            apart,
+            subst (λ n. StandsIn b.body (ImportEnd i n)) shake stands,
+            ap (λ n. b.cut.outer (ImportEnd i n)) (sym shake) ∙ (leads ∙ sym at),
+            also ∙ ap (λ n. slice_get r.imports n) (sym import),
+          )
+
+  pub no_inner_result : (n : ℕ) → b.cut.inner (ResultEnd n) ≡ None
+  no_inner_result n = by_inner (b.cut.inner (ResultEnd n)) refl
+    where
+      never : (e : End) → Inner r b (ResultEnd n) e → ⊥
+      never e (at_port h at same) = cc at
+      never e (at_import i j m at same apart stands leads also) = cc at
+
+      by_inner : (o : Option End) → b.cut.inner (ResultEnd n) ≡ o → o ≡ None
+      by_inner None at = refl
+      by_inner (Some e) at = absurd (never e (inner_is (ResultEnd n) e at))
+
+  pub no_inner_part : (i n : ℕ) → (i ≡ b.own → ⊥) → b.cut.inner (PartEnd i n) ≡ None
+  no_inner_part i n apart = by_inner (b.cut.inner (PartEnd i n)) refl
+    where
+      never : (e : End) → Inner r b (PartEnd i n) e → ⊥
+      never e (at_port h at same) = let one : i ≡ b.own = cc at in apart one
+      never e (at_import m j l at same apart stands leads also) = cc at
+
+      by_inner : (o : Option End) → b.cut.inner (PartEnd i n) ≡ o → o ≡ None
+      by_inner None at = refl
+      by_inner (Some e) at = absurd (never e (inner_is (PartEnd i n) e at))
+
+  -- the end of the body that stands at an end of the part
+  pub port_alone : (e : End) → Owns b.body e → (h : ℕ) → lies_at b.cut e ≡ PartEnd b.own h → e ≡ port b h
+  port_alone (PartEnd i n) (part, there) h at =
+      let number = (is.cut.parts i part there).1 in
+      let same : b.cut.part i ≡ b.own = cc at in
+      let clash : None ≡ Some i = sym is.outside ∙ (ap b.cut.number (sym same) ∙ number) in absurd (cc clash)
+  port_alone (ImportEnd i n) stands h at = by_which (which b i)
+    where
+      by_which : Which b i → ImportEnd i n ≡ port b h
+      by_which (variable same) =
+          let ends : PartEnd b.own (suc n) ≡ PartEnd b.own h = sym (served_at i n same) ∙ at in
+          let shake : suc n ≡ h = cc ends in
+          subst (λ m. ImportEnd i n ≡ port b m) shake (ap (λ m. ImportEnd m n) same)
+      by_which (other apart) =
+          let (j, leads, also) = is.imports i n apart stands in
+          let bad : ImportEnd j n ≡ PartEnd b.own h = sym leads ∙ at in absurd (cc bad)
+  port_alone (ResultEnd n) stands h at =
+      let none = result_shake n stands in
+      let ends : PartEnd b.own 0 ≡ PartEnd b.own h = sym (ap (λ m. b.cut.outer (ResultEnd m)) none ∙ is.result) ∙ at in
+      let shake : 0 ≡ h = cc ends in
+      subst (λ m. ResultEnd n ≡ port b m) shake (ap (λ m. ResultEnd m) none)
+
+  pub result_alone : (e : End) → Owns b.body e → lies_at b.cut e ≡ PartEnd b.own 0 → e ≡ ResultEnd 0
+  result_alone e own at = port_alone e own 0 at
+
+  -- a variable has no third handshake
+  no_third : StandsIn b.body (ImportEnd b.place 2) → ⊥
+  no_third (j, listing, stands) =
+      let place = stands_there b.body j (ImportEnd b.place 2) is.cut.right (contained b.body.joints j listing) stands in
+      let one = joined b.body (ImportEnd b.place 2) j.asking is.cut.right place in
+      let here : slice_get (contacts_of b.variable.ty) 2 ≡ Some one.here =
+      sym (ap (λ (o : Option Imported). slice_get (contacts_of_import o) 2) is.there) ∙ one.is_here in
+      none-some one.here (sym (ap (λ (t : Type'). slice_get (contacts_of t) 2) is.type) ∙ here)
+
+  -- no end of the body stands at the end by which the part is run
+  pub run_unseen : b.cut.inner (PartEnd b.own 3) ≡ None
+  run_unseen = by_inner (b.cut.inner (PartEnd b.own 3)) refl
+    where
+      never : (e : End) → b.cut.inner (PartEnd b.own 3) ≡ Some e → ⊥
+      never e at =
+          let (port', stands, leads) = is.cut.inners (PartEnd b.own 3) e at in
+          let third = port_alone e (port_own b.body e port' stands) 3 (port_lies b.cut e port' ∙ leads) in
+          no_third (subst (λ (x : End). StandsIn b.body x) third stands)
+
+      by_inner : (o : Option End) → b.cut.inner (PartEnd b.own 3) ≡ o → o ≡ None
+      by_inner None at = refl
+      by_inner (Some e) at = absurd (never e at)
+
+  -- what no end of the region sees
+  pub state_unseen : (i : ℕ) → b.cut.number i ≡ None → (q : State) (s : Tokens) → cut_tokens b.cut b.body (with_state i q s) ≡ cut_tokens b.cut b.body s
+  state_unseen i out q s = state_lost b.cut r b.body is.cut i kinds.Par out q s
+
+  pub part_unseen : (i n : ℕ) → b.cut.number i ≡ None → b.cut.inner (PartEnd i n) ≡ None → (way : Direction) (held : Option ℕ) (s : Tokens)
+      → cut_tokens b.cut b.body (with_token r (PartEnd i n) way held s) ≡ cut_tokens b.cut b.body s
+  part_unseen i n out none way held s =
+      token_lost b.cut r b.body is.cut (PartEnd i n) (ap (name_by b.cut i n) out ∙ none) way held s
+
+  slot_unseen : (i : ℕ) → b.cut.number i ≡ None → (i ≡ b.own → ⊥) → (slot : Slot) (way : Direction) (held : Option ℕ) (s : Tokens)
+      → cut_tokens b.cut b.body (with_token r (end_of i slot) way held s) ≡ cut_tokens b.cut b.body s
+  slot_unseen i out apart slot way held s = part_unseen i (shake_of slot) out (no_inner_part i (shake_of slot) apart) way held s
+
+  -- the result is asked and answers
+  pub result_there : contact_at b.body (ResultEnd 0) ≡ Some (asks 0 (bits r.outcome))
+  result_there = ap (λ (t : Type'). turned_if (slice_get (contacts_of t) 0)) is.outcome ∙ done_contact r.outcome is.done
+
+  pub is_asked : (s t : Tokens) → cut_tokens b.cut b.body t ≡ with_token b.body (ResultEnd 0) Request (Some 0) (cut_tokens b.cut b.body s)
+      → Does b.body (In (ResultEnd 0) 0) (cut_tokens b.cut b.body s) (cut_tokens b.cut b.body t)
+  is_asked s t at =
+      (tt, subst (λ (o : Option Contact). Passes b.body (In (ResultEnd 0) 0) o (cut_tokens b.cut b.body s) (cut_tokens b.cut b.body t)) (sym result_there) (omega arith, at))
+
+  -- an end of the part that stands in a joint is joined to the body's
+  pub joined_port : (h : ℕ) → (h ≡ 3 → ⊥) → (a : End) → places_of r (PartEnd b.own h) ≡ Some a → Owns b.body (port b h)
+  joined_port h apart a named =
+      elim (is.joints there.joint.asking there.joint.serving (listed r.joints there.joint there.is_in)) [
+        | inl own ↦ of_joint own which
+        | inr run ↦
+            elim which [
+              | inl one ↦ let bad : PartEnd b.own h ≡ ResultEnd 0 = one ∙ run.0 in absurd (cc bad)
+              | inr one ↦ let ends : PartEnd b.own h ≡ PartEnd b.own 3 = one ∙ run.1 in let shake : h ≡ 3 = cc ends in absurd (apart shake)
+            ]
+      ]
+    where
+      there : Found r.joints (PartEnd b.own h) a
+      there = found r.joints (PartEnd b.own h) a named
+
+      which : (PartEnd b.own h ≡ there.joint.asking) ⊎ (PartEnd b.own h ≡ there.joint.serving)
+      which = which_end (PartEnd b.own h) there.joint there.stands
+
+      of_joint : IsJointOf b.cut b.body there.joint.asking there.joint.serving
+          → (PartEnd b.own h ≡ there.joint.asking) ⊎ (PartEnd b.own h ≡ there.joint.serving) → Owns b.body (port b h)
+      of_joint (x, y, has, at, beyond) (inl one) =
+          let own = stands_own b.body (joint x y) x is.cut.right (contained b.body.joints (joint x y) has) (first_stands (joint x y)) in
+          subst (Owns b.body) (port_alone x own h (at ∙ sym one)) own
+      of_joint (x, y, has, at, beyond) (inr one) =
+          let own = stands_own b.body (joint x y) y is.cut.right (contained b.body.joints (joint x y) has) (last_stands (joint x y)) in
+          subst (Owns b.body) (port_alone y own h (beyond ∙ sym one)) own
+
+  pub free : places_of b.body (ResultEnd 0) ≡ None → places_of r (PartEnd b.own 0) ≡ None
+  free none = by_place (places_of r (PartEnd b.own 0)) refl
+    where
+      standing : StandsIn b.body (ResultEnd 0) → ⊥
+      standing (j, listing, stands) = has_place b.body.joints j (ResultEnd 0) (contained b.body.joints j listing) stands none
+
+      by_place : (o : Option End) → places_of r (PartEnd b.own 0) ≡ o → o ≡ None
+      by_place None at = refl
+      by_place (Some a) at = absurd (standing (joined_port 0 (λ e. omega (arith, e)) a at))
+
+-- an end of a part that there is, a joined port, or the result
+abbrev pub Held : Plan → End → Type 0
+Held p e = Owns p e ⊎ (e ≡ ResultEnd 0)
+
+pub result_held : (p : Plan) → Held p (ResultEnd 0)
+result_held p = inr refl
+
+module _ (r : Plan) (b : Block) (block : IsBlock r b) where
+  -- an end has places in the region and in the whole, or it is the result and has none
+  data Placed (e : End) : Type 0 where
+    owned : Owns b.body e → Placed e
+    lost : e ≡ ResultEnd 0 → places_of b.body e ≡ None → places_of r (lies_at b.cut e) ≡ None → Placed e
+
+  placed : (e : End) → Held b.body e → Placed e
+  placed e (inl own) = owned own
+  placed e (inr is) = subst Placed (sym is) (by_place (places_of b.body (ResultEnd 0)) refl)
+    where
+      by_place : (o : Option End) → places_of b.body (ResultEnd 0) ≡ o → Placed (ResultEnd 0)
+      by_place None none = lost refl none (ap (places_of r) block.result ∙ free r b block none)
+      by_place (Some a) named =
+          let at = found b.body.joints (ResultEnd 0) a named in owned (at.joint, listed b.body.joints at.joint at.is_in, at.stands)
+
+  pub one_held : (a c : End) → Held b.body a → Held b.body c → lies_at b.cut a ≡ lies_at b.cut c → a ≡ c
+  one_held a c (inl own) (inl also) same = one_end b.cut r b.body block.cut a c own also same
+  one_held a c (inl own) (inr is) same = result_alone r b block a own (same ∙ (ap (lies_at b.cut) is ∙ block.result)) ∙ sym is
+  one_held a c (inr is) (inl own) same = is ∙ sym (result_alone r b block c own (sym same ∙ (ap (lies_at b.cut) is ∙ block.result)))
+  one_held a c (inr is) (inr also) same = is ∙ sym also
+
+  pub same_held : (a c : End) → Held b.body a → Held b.body c → same_end (lies_at b.cut a) (lies_at b.cut c) ≡ same_end a c
+  same_held a c held also = same_bool (same_end (lies_at b.cut a) (lies_at b.cut c)) (same_end a c) to from
+    where
+      to : same_end (lies_at b.cut a) (lies_at b.cut c) ≡ true → same_end a c ≡ true
+      to t = subst (λ (x : End). same_end a x ≡ true) (one_held a c held also (same_is (lies_at b.cut a) (lies_at b.cut c) t)) (same_itself a)
+
+      from : same_end a c ≡ true → same_end (lies_at b.cut a) (lies_at b.cut c) ≡ true
+      from t = subst (λ (x : End). same_end (lies_at b.cut a) (lies_at b.cut x) ≡ true) (same_is a c t) (same_itself (lies_at b.cut a))
+
+  -- the name of a handshake
+  pub name_lies : (e : End) → Held b.body e → handshake_at r (lies_at b.cut e) ≡ lies_at b.cut (handshake_at b.body e)
+  name_lies e held = by_placed (placed e held)
+    where
+      by_name : (o : Option End) → places_of b.body e ≡ o → Owns b.body e → handshake_at r (lies_at b.cut e) ≡ lies_at b.cut (handshake_at b.body e)
+      by_name None none own =
+          ap (λ o. named_by o (lies_at b.cut e)) (no_place b.cut r b.body block.cut e own none) ∙ sym (ap (λ o. lies_at b.cut (named_by o e)) none)
+      by_name (Some a) named own =
+          ap (λ o. named_by o (lies_at b.cut e)) (place_there b.cut r b.body block.cut e a named) ∙ sym (ap (λ o. lies_at b.cut (named_by o e)) named)
+
+      by_placed : Placed e → handshake_at r (lies_at b.cut e) ≡ lies_at b.cut (handshake_at b.body e)
+      by_placed (owned own) = by_name (places_of b.body e) refl own
+      by_placed (lost is none nowhere) = ap (λ o. named_by o (lies_at b.cut e)) nowhere ∙ sym (ap (λ o. lies_at b.cut (named_by o e)) none)
+
+  pub name_held : (e : End) → Held b.body e → Held b.body (handshake_at b.body e)
+  name_held e held = by_place (places_of b.body e) refl
+    where
+      by_place : (o : Option End) → places_of b.body e ≡ o → Held b.body (handshake_at b.body e)
+      by_place None none = subst (λ o. Held b.body (named_by o e)) (sym none) held
+      by_place (Some a) named = subst (λ o. Held b.body (named_by o e)) (sym named) (inl (asker_own b.body block.cut.right a (asker_asks b.body e a named)))
+
+  -- what lies at an end, and what is put or taken there
+  pub held_token : (e : End) → Held b.body e → (s : Tokens) (way : Direction) → token_at b.body (cut_tokens b.cut b.body s) e way ≡ token_at r s (lies_at b.cut e) way
+  held_token e held s way = by_placed (placed e held)
+    where
+      by_placed : Placed e → token_at b.body (cut_tokens b.cut b.body s) e way ≡ token_at r s (lies_at b.cut e) way
+      by_placed (owned own) = token_cut b.cut r b.body block.cut e own s way
+      by_placed (lost is none nowhere) = ap (held_at (cut_tokens b.cut b.body s) way) none ∙ sym (ap (held_at s way) nowhere)
+
+  pub held_put : (e : End) → Held b.body e → (way : Direction) (held : Option ℕ) (s : Tokens)
+      → with_token b.body e way held (cut_tokens b.cut b.body s) ≡ cut_tokens b.cut b.body (with_token r (lies_at b.cut e) way held s)
+  held_put e is way held s = by_placed (placed e is)
+    where
+      by_placed : Placed e → with_token b.body e way held (cut_tokens b.cut b.body s) ≡ cut_tokens b.cut b.body (with_token r (lies_at b.cut e) way held s)
+      by_placed (owned own) = token_put b.cut r b.body block.cut e own way held s
+      by_placed (lost same none nowhere) =
+          ap (λ o. with_held way o held (cut_tokens b.cut b.body s)) none ∙ sym (ap (λ o. cut_tokens b.cut b.body (with_held way o held s)) nowhere)
+
+  pub result_put : (way : Direction) (held : Option ℕ) (s : Tokens)
+      → cut_tokens b.cut b.body (with_token r (PartEnd b.own 0) way held s) ≡ with_token b.body (ResultEnd 0) way held (cut_tokens b.cut b.body s)
+  result_put way held s =
+      ap (λ (e : End). cut_tokens b.cut b.body (with_token r e way held s)) (sym block.result) ∙ sym (held_put (ResultEnd 0) (result_held b.body) way held s)
+
+  pub is_answered : (v : ℕ) (s t : Tokens) → token_at r s (PartEnd b.own 0) Answer ≡ Some v
+      → cut_tokens b.cut b.body t ≡ with_token b.body (ResultEnd 0) Answer None (cut_tokens b.cut b.body s)
+      → Does b.body (Out (ResultEnd 0) v) (cut_tokens b.cut b.body s) (cut_tokens b.cut b.body t)
+  is_answered v s t lies is =
+      let here : token_at b.body (cut_tokens b.cut b.body s) (ResultEnd 0) Answer ≡ Some v =
+      held_token (ResultEnd 0) (result_held b.body) s Answer ∙ (ap (λ (e : End). token_at r s e Answer) block.result ∙ lies) in
+      (tt, subst (λ (o : Option Contact). Passes b.body (Out (ResultEnd 0) v) o (cut_tokens b.cut b.body s) (cut_tokens b.cut b.body t)) (sym (result_there r b block)) (here, is))

@@ -1,0 +1,421 @@
+-- What an element of a block is: one of the body, or one of the part that serves its variable.
+--
+-- The last result is `step`: each element that is possible is of one of eight sorts (`Step`), and of each it is said what the body
+-- and the part make of it.
+use Rattle.std.specs.Prelude.{◌≡◌, ◌⊎◌, ◌<◌, ℕ, suc, Bool, true, false, List, [], ◌∷◌, ◌++◌, Option, Some, None, All, nat_eq, slice_get, if◌then◌else◌}
+use Rattle.std.proofs.Common.{arith, refl, sym, ap, subst, inl, inr, ◌∙◌}
+use Rattle.gos_types.specs.Events.{Direction, Request, Answer}
+use Rattle.gos_plan.specs.Kinds.{Part, Contact, asks}
+use Rattle.gos_plan.specs.Firing.{Phase, Rest, Active, State, Slot, Req, Ans, Token, Row, at}
+use Rattle.gos_plan.specs.Plans.{End, PartEnd, ImportEnd, ResultEnd, Plan, contact_at}
+use Rattle.gos_plan.specs.Tokens.{Tokens, Element, Fire, Out, In, places_of, held_at, with_held, token_at, with_token, with_state, with_puts, end_of, way_of, firing_of, fired, way_taken, Passes, Does, Runs}
+use Rattle.gos_plan.specs.TokenBits.{LiteralFits, AllFit}
+use Rattle.gos_plan.proofs.JointLemmas.{contained, found}
+use Rattle.gos_plan.proofs.HeldLemmas.{nothing_there}
+use Rattle.gos_plan.proofs.TurnLemmas.{token_state, fired_state, nat_eq_self}
+use Rattle.gos_nodes.specs.sessions.Sessions.{bits}
+use Rattle.gos_joining.specs.webs.Webs.{joint}
+use Rattle.gos_joining.specs.webs.Cutting.{Cut, lies_at, StandsIn, cut_tokens, out_if, in_if, ins_of, firing_in, outside_firing}
+use Rattle.gos_joining.proofs.webs.MovedLemmas.{listed}
+use Rattle.gos_joining.proofs.webs.CutLemmas.{Owns, token_lost, part_there, fire_cut, stands_own, which_end, first_stands, last_stands, element_is_cut}
+use Rattle.gos_realises.proofs.realises.InputLemmas.{result_asks}
+use Rattle.gos_nodes.specs.parallel.Parallel.{IsJointOf, IsPartOf}
+use Rattle.gos_nodes.proofs.parallel.StepLemmas.{gate, result_gate, part_gate, gate_elsewhere, Local, fires, puts_out, takes_in, passes_out, passes_in, Unseen, Sees, Same}
+use Rattle.gos_nodes.proofs.windows.AskedLemmas.{done_contact}
+use Rattle.gos_nodes.specs.blocks.Block.{Block, IsBlock}
+use Rattle.gos_nodes.proofs.blocks.DriverLemmas.{begin_row, read_row, write_row, end_row, LocalRow, begins, reads, writes, ends, local_row}
+use Rattle.gos_nodes.proofs.blocks.RegionLemmas as region
+use Rattle.gos_nodes.proofs.blocks.RegionLemmas.{port}
+
+-- the body asks at a handshake of the variable, and is answered at once
+abbrev pub Served : Plan → Block → ℕ → ℕ → ℕ → Tokens → Tokens → Type 0
+Served r b h a n s t =
+    Runs b.body (Out (ImportEnd b.place h) a ∷ In (ImportEnd b.place h) n ∷ []) (cut_tokens b.cut b.body s) (cut_tokens b.cut b.body t)
+
+pub data Step (r : Plan) (b : Block) : Element → Tokens → Tokens → Type 0 where
+  of_body : (x y : Element) (s t : Tokens) → Local b.cut r b.body x y → Sees b.cut b.body y s t → Same b.own s t → Step r b x s t
+  asked :
+      (v : ℕ) (s t : Tokens) → v ≡ 0 → Unseen b.cut b.body s t → t.state b.own ≡ s.state b.own → gate t Request ≡ Some v
+      → gate t Answer ≡ gate s Answer → Step r b (In (ResultEnd 0) v) s t
+  told :
+      (v : ℕ) (s t : Tokens) → Unseen b.cut b.body s t → t.state b.own ≡ s.state b.own → gate s Answer ≡ Some v → gate t Answer ≡ None
+      → gate t Request ≡ gate s Request → Step r b (Out (ResultEnd 0) v) s t
+  starts :
+      (v : ℕ) (s t : Tokens) → Sees b.cut b.body (In (ResultEnd 0) 0) s t → (s.state b.own).phase ≡ Rest → gate s Request ≡ Some v
+      → t.state b.own ≡ at Active 0 → gate t Request ≡ None → gate t Answer ≡ gate s Answer → Step r b (Fire b.own (Req 3)) s t
+  read :
+      (v : ℕ) (s t : Tokens) → StandsIn b.body (ImportEnd b.place 0) → Served r b 0 v (s.state b.own).number s t → (s.state b.own).phase ≡ Active
+      → t.state b.own ≡ s.state b.own → ((way : Direction) → gate t way ≡ gate s way) → Step r b (Fire b.own (Req 1)) s t
+  write :
+      (v : ℕ) (s t : Tokens) → StandsIn b.body (ImportEnd b.place 1) → Served r b 1 v 0 s t → (s.state b.own).phase ≡ Active
+      → t.state b.own ≡ at Active v → ((way : Direction) → gate t way ≡ gate s way) → Step r b (Fire b.own (Req 2)) s t
+  ended :
+      (v : ℕ) (s t : Tokens) → Sees b.cut b.body (Out (ResultEnd 0) v) s t → (s.state b.own).phase ≡ Active → (t.state b.own).phase ≡ Rest
+      → gate t Request ≡ gate s Request → gate t Answer ≡ Some v → Step r b (Fire b.own (Ans 0)) s t
+  lost :
+      (j k v : ℕ) (s t : Tokens) (c : Contact) → contact_at r (ImportEnd j k) ≡ Some c → b.cut.inner (ImportEnd j k) ≡ None
+      → Unseen b.cut b.body s t → Same b.own s t → Step r b (In (ImportEnd j k) v) s t
+
+-- it is seen by the body or by the part: no input at an end without a joint
+abbrev pub IsSeen : (r : Plan) (b : Block) (x : Element) (s t : Tokens) → Step r b x s t → Type 0
+IsSeen r b x s t (lost j k v s' t' c there none unseen same) = ⊥
+IsSeen r b x s t z = Unit {0}
+
+-- the element that is one of a list of one, or of none
+one_sees : (f : Cut) (p : Plan) (y : Element) (s t : Tokens) → Runs p (y ∷ []) (cut_tokens f p s) (cut_tokens f p t) → Sees f p y s t
+one_sees f p y s t (w, does, is) = subst (λ (u : Tokens). Does p y (cut_tokens f p s) u) (sym is) does
+
+abbrev pub Differ : ℕ → ℕ → Type 0
+Differ k n = k ≡ n → ⊥
+
+module _ (r : Plan) (b : Block) (is : IsBlock r b) where
+  -- what lies at the result's gate
+  pub gate_at_result : places_of r (ResultEnd 0) ≡ Some (ResultEnd 0)
+  gate_at_result = result_gate r b.own 3 is.cut.whole_right is.run
+
+  pub gate_at_part : places_of r (PartEnd b.own 3) ≡ Some (ResultEnd 0)
+  gate_at_part = part_gate r b.own 3 is.cut.whole_right is.run
+
+  pub gate_kept : (e : End) → (e ≡ ResultEnd 0 → ⊥) → (e ≡ PartEnd b.own 3 → ⊥) → (w : Direction) (held : Option ℕ) (s : Tokens) (way : Direction)
+      → gate (with_token r e w held s) way ≡ gate s way
+  gate_kept = gate_elsewhere r b.own 3 is.cut.whole_right is.run
+
+  pub gate_apart : (k : ℕ) → (k ≡ 3 → ⊥) → (w : Direction) (held : Option ℕ) (s : Tokens) (way : Direction)
+      → gate (with_token r (PartEnd b.own k) w held s) way ≡ gate s way
+  gate_apart k other = gate_kept (PartEnd b.own k) (λ e. cc e) (λ e. let same : k ≡ 3 = cc e in other same)
+
+  gate_taken : (s : Tokens) → gate (with_token r (PartEnd b.own 3) Request None s) Request ≡ None
+  gate_taken s = ap (λ o. gate (with_held Request o None s) Request) gate_at_part
+
+  gate_left : (s : Tokens) → gate (with_token r (PartEnd b.own 3) Request None s) Answer ≡ gate s Answer
+  gate_left s = ap (λ o. gate (with_held Request o None s) Answer) gate_at_part
+
+  gate_filled : (v : ℕ) (s : Tokens) → gate (with_token r (PartEnd b.own 3) Answer (Some v) s) Answer ≡ Some v
+  gate_filled v s = ap (λ o. gate (with_held Answer o (Some v) s) Answer) gate_at_part
+
+  gate_beside : (v : ℕ) (s : Tokens) → gate (with_token r (PartEnd b.own 3) Answer (Some v) s) Request ≡ gate s Request
+  gate_beside v s = ap (λ o. gate (with_held Answer o (Some v) s) Request) gate_at_part
+
+  new_state : (c : State) (s : Tokens) → (with_state b.own c s).state b.own ≡ c
+  new_state c s = ap (λ (t : Bool). if t then c else s.state b.own) (nat_eq_self b.own)
+
+  kept_state : (k : ℕ) (way : Direction) (held : Option ℕ) (s : Tokens) → (with_token r (PartEnd b.own k) way held s).state b.own ≡ s.state b.own
+  kept_state k way held s = token_state r (PartEnd b.own k) way held s b.own
+
+  pub own_state : (c : State) (s : Tokens) → cut_tokens b.cut b.body (with_state b.own c s) ≡ cut_tokens b.cut b.body s
+  own_state = region.state_unseen r b is b.own is.outside
+
+  run_lost : (way : Direction) (held : Option ℕ) (s : Tokens) → cut_tokens b.cut b.body (with_token r (PartEnd b.own 3) way held s) ≡ cut_tokens b.cut b.body s
+  run_lost = region.part_unseen r b is b.own 3 is.outside (region.run_unseen r b is)
+
+  zero_not_three : Differ 0 3
+  zero_not_three e = omega (arith, e)
+
+  one_not_three : Differ 1 3
+  one_not_three e = omega (arith, e)
+
+  two_not_three : Differ 2 3
+  two_not_three e = omega (arith, e)
+
+  -- it begins
+  begun : (v : ℕ) (s : Tokens) → (s.state b.own).phase ≡ Rest → token_at r s (PartEnd b.own 3) Request ≡ Some v
+      → Step r b (Fire b.own (Req 3)) s (fired r b.own begin_row v s)
+  begun v s rest lies =
+      starts v s u2 sees rest (sym (ap (held_at s Request) gate_at_part) ∙ lies) (kept_state 0 Request (Some 0) u1 ∙ new_state (at Active 0) u0)
+      (gate_apart 0 zero_not_three Request (Some 0) u1 Request ∙ gate_taken s) (gate_apart 0 zero_not_three Request (Some 0) u1 Answer ∙ gate_left s)
+    where
+      u0 : Tokens
+      u0 = with_token r (PartEnd b.own 3) Request None s
+
+      u1 : Tokens
+      u1 = with_state b.own (at Active 0) u0
+
+      u2 : Tokens
+      u2 = with_token r (PartEnd b.own 0) Request (Some 0) u1
+
+      sees : Sees b.cut b.body (In (ResultEnd 0) 0) s u2
+      sees =
+          region.is_asked r b is s u2
+          (region.result_put r b is Request (Some 0) u1
+          ∙ ap (with_token b.body (ResultEnd 0) Request (Some 0)) (own_state (at Active 0) u0 ∙ run_lost Request None s))
+
+  -- the body ends
+  finished : (v n : ℕ) (s : Tokens) → (s.state b.own).phase ≡ Active → token_at r s (PartEnd b.own 0) Answer ≡ Some v
+      → Step r b (Fire b.own (Ans 0)) s (fired r b.own (end_row n) v s)
+  finished v n s active lies =
+      ended v s u2 sees active (ap (λ (c : State). c.phase) (kept_state 3 Answer (Some v) u1 ∙ new_state (at Rest n) u0))
+      (gate_beside v u1 ∙ gate_apart 0 zero_not_three Answer None s Request) (gate_filled v u1)
+    where
+      u0 : Tokens
+      u0 = with_token r (PartEnd b.own 0) Answer None s
+
+      u1 : Tokens
+      u1 = with_state b.own (at Rest n) u0
+
+      u2 : Tokens
+      u2 = with_token r (PartEnd b.own 3) Answer (Some v) u1
+
+      sees : Sees b.cut b.body (Out (ResultEnd 0) v) s u2
+      sees =
+          region.is_answered r b is v s u2 lies
+          (run_lost Answer (Some v) u1 ∙ (own_state (at Rest n) u0 ∙ region.result_put r b is Answer None s))
+
+  driver_row : (slot : Slot) (row : Row) (s : Tokens) → firing_of (slice_get r.parts b.own) (s.state b.own) slot ≡ Some row
+      → LocalRow (s.state b.own).phase (s.state b.own).number slot row
+  driver_row slot row s by =
+      local_row b.width (bits r.outcome) (s.state b.own).phase (s.state b.own).number slot row
+      (subst (λ (o : Option Part). firing_of o (s.state b.own) slot ≡ Some row) is.own by)
+
+  -- the body stands at the end at which the part is asked
+  pub asked_there : (h v : ℕ) (s : Tokens) → (h ≡ 3 → ⊥) → token_at r s (PartEnd b.own h) Request ≡ Some v → Owns b.body (port b h)
+  asked_there h v s apart lies = by_place (places_of r (PartEnd b.own h)) refl
+    where
+      by_place : (o : Option End) → places_of r (PartEnd b.own h) ≡ o → Owns b.body (port b h)
+      by_place None none = absurd (nothing_there r (PartEnd b.own h) Request v s lies none)
+      by_place (Some a) named = region.joined_port r b is h apart a named
+
+  inner_port : (h : ℕ) → StandsIn b.body (ImportEnd b.place h) → b.cut.inner (PartEnd b.own (suc h)) ≡ Some (ImportEnd b.place h)
+  inner_port h stands = ap b.cut.inner (sym (is.served h)) ∙ (is.cut.ports (ImportEnd b.place h) tt stands).1
+
+  -- a firing in a region
+  puts_gate : (i : ℕ) → (i ≡ b.own → ⊥) → (ts : List Token) (s : Tokens) (way : Direction) → gate (with_puts r i ts s) way ≡ gate s way
+  puts_gate i other [] s way = refl
+  puts_gate i other (x ∷ ts) s way =
+      puts_gate i other ts (with_token r (end_of i x.slot) (way_of x.slot) (Some x.value) s) way
+      ∙ gate_kept (end_of i x.slot) (λ e. cc e) (λ e. let same : i ≡ b.own = cc e in other same) (way_of x.slot) (Some x.value) s way
+
+  fired_same : (i : ℕ) → (i ≡ b.own → ⊥) → (row : Row) (v : ℕ) (s t : Tokens) → t ≡ fired r i row v s → Same b.own s t
+  fired_same i other row v s t leads =
+      record {
+        state =
+            ap (λ (u : Tokens). u.state b.own) leads
+            ∙ (fired_state r i row v s b.own ∙ ap (λ (c : Bool). if c then row.next v else s.state b.own) apart);
+        gates = λ way.
+            ap (λ (u : Tokens). gate u way) leads
+            ∙ (puts_gate i other (row.puts v) (with_state i (row.next v) (with_token r (end_of i row.takes) (way_of row.takes) None s)) way
+            ∙ gate_kept (end_of i row.takes) (λ e. cc e) (λ e. let same : i ≡ b.own = cc e in other same) (way_of row.takes) None s way);
+      }
+    where
+      apart : nat_eq b.own i ≡ false
+      apart = by_test (nat_eq b.own i) refl
+        where
+          by_test : (c : Bool) → nat_eq b.own i ≡ c → c ≡ false
+          by_test true e = let same : b.own ≡ i = grind (arith, e) in absurd (other (sym same))
+          by_test false e = refl
+
+  not_driver : (i : ℕ) → IsPartOf b.cut i → i ≡ b.own → ⊥
+  not_driver i (j, number) same = let clash : None ≡ Some j = sym is.outside ∙ (ap b.cut.number (sym same) ∙ number) in cc clash
+
+  port_same : (e : End) (w : Direction) (held : Option ℕ) (s t : Tokens) → (e ≡ ResultEnd 0 → ⊥) → (e ≡ PartEnd b.own 3 → ⊥) → t ≡ with_token r e w held s
+      → Same b.own s t
+  port_same e w held s t not_result not_part leads =
+      record {
+        state = ap (λ (u : Tokens). u.state b.own) leads ∙ token_state r e w held s b.own;
+        gates = λ way. ap (λ (u : Tokens). gate u way) leads ∙ gate_kept e not_result not_part w held s way;
+      }
+
+  -- an import of the whole that stands in a joint is the body's
+  nowhere : (j k : ℕ) → b.cut.inner (ImportEnd j k) ≡ None → places_of r (ImportEnd j k) ≡ None
+  nowhere j k out = by_place (places_of r (ImportEnd j k)) refl
+    where
+      of_body_end : (x : End) → Owns b.body x → lies_at b.cut x ≡ ImportEnd j k → ⊥
+      of_body_end (PartEnd i n) own at = cc at
+      of_body_end (ImportEnd i n) own at =
+          let clash : None ≡ Some (ImportEnd i n) = sym out ∙ (ap b.cut.inner (sym at) ∙ (is.cut.ports (ImportEnd i n) tt own).1) in cc clash
+      of_body_end (ResultEnd n) own at =
+          let clash : None ≡ Some (ResultEnd n) = sym out ∙ (ap b.cut.inner (sym at) ∙ (is.cut.ports (ResultEnd n) tt own).1) in cc clash
+
+      of_joint : (a c : End) → IsJointOf b.cut b.body a c → (ImportEnd j k ≡ a) ⊎ (ImportEnd j k ≡ c) → ⊥
+      of_joint a c (x, y, has, at, beyond) (inl one) =
+          of_body_end x (stands_own b.body (joint x y) x is.cut.right (contained b.body.joints (joint x y) has) (first_stands (joint x y))) (at ∙ sym one)
+      of_joint a c (x, y, has, at, beyond) (inr one) =
+          of_body_end y (stands_own b.body (joint x y) y is.cut.right (contained b.body.joints (joint x y) has) (last_stands (joint x y))) (beyond ∙ sym one)
+
+      by_place : (o : Option End) → places_of r (ImportEnd j k) ≡ o → o ≡ None
+      by_place None e = refl
+      by_place (Some a) e =
+          let there = found r.joints (ImportEnd j k) a e in
+          let which = which_end (ImportEnd j k) there.joint there.stands in
+          absurd (elim (is.joints there.joint.asking there.joint.serving (listed r.joints there.joint there.is_in)) [
+            | inl own ↦ of_joint there.joint.asking there.joint.serving own which
+            | inr run ↦
+                elim which [
+                  | inl one ↦ let bad : ImportEnd j k ≡ ResultEnd 0 = one ∙ run.0 in cc bad
+                  | inr one ↦ let bad : ImportEnd j k ≡ PartEnd b.own 3 = one ∙ run.1 in cc bad
+                ]
+          ])
+
+  -- what passes the result
+  result_contact : contact_at r (ResultEnd 0) ≡ Some (asks 0 (bits r.outcome))
+  result_contact = done_contact r.outcome is.done
+
+  there_contact : (x : Element) (o : Option Contact) (s t : Tokens) → Passes r x o s t → (c : Contact) × (o ≡ Some c)
+  there_contact x None s t h = absurd h
+  there_contact x (Some c) s t h = (c, refl)
+
+  first_shake : (k : ℕ) (x : Element) (s t : Tokens) → Passes r x (contact_at r (ResultEnd k)) s t → k ≡ 0
+  first_shake k x s t passes =
+      let (c, there) = there_contact x (contact_at r (ResultEnd k)) s t passes in (result_asks r.outcome is.done k c there).0
+
+  result_unseen : (way : Direction) (held : Option ℕ) (s : Tokens)
+      → cut_tokens b.cut b.body (with_token r (ResultEnd 0) way held s) ≡ cut_tokens b.cut b.body s
+  result_unseen way held s = token_lost b.cut r b.body is.cut (ResultEnd 0) (region.no_inner_result r b is 0) way held s
+
+  result_out : (v : ℕ) (s t : Tokens) → Does r (Out (ResultEnd 0) v) s t → Step r b (Out (ResultEnd 0) v) s t
+  result_out v s t (port', passes) =
+      let here = subst (λ (o : Option Contact). Passes r (Out (ResultEnd 0) v) o s t) result_contact passes in
+      told v s t (ap (cut_tokens b.cut b.body) here.1 ∙ result_unseen Answer None s)
+      (ap (λ (u : Tokens). u.state b.own) here.1 ∙ token_state r (ResultEnd 0) Answer None s b.own) (sym (ap (held_at s Answer) gate_at_result) ∙ here.0)
+      (ap (λ (u : Tokens). gate u Answer) here.1 ∙ ap (λ o. gate (with_held Answer o None s) Answer) gate_at_result)
+      (ap (λ (u : Tokens). gate u Request) here.1 ∙ ap (λ o. gate (with_held Answer o None s) Request) gate_at_result)
+
+  result_in : (v : ℕ) (s t : Tokens) → Does r (In (ResultEnd 0) v) s t → Step r b (In (ResultEnd 0) v) s t
+  result_in v s t (port', passes) =
+      let here = subst (λ (o : Option Contact). Passes r (In (ResultEnd 0) v) o s t) result_contact passes in
+      let small : v < 1 = here.0 in
+      asked v s t (omega (arith, small)) (ap (cut_tokens b.cut b.body) here.1 ∙ result_unseen Request (Some v) s)
+      (ap (λ (u : Tokens). u.state b.own) here.1 ∙ token_state r (ResultEnd 0) Request (Some v) s b.own)
+      (ap (λ (u : Tokens). gate u Request) here.1 ∙ ap (λ o. gate (with_held Request o (Some v) s) Request) gate_at_result)
+      (ap (λ (u : Tokens). gate u Answer) here.1 ∙ ap (λ o. gate (with_held Request o (Some v) s) Answer) gate_at_result)
+
+  module _ (literals : All LiteralFits r.parts) where
+    -- what the body sees of a firing of the part
+    body_sees : (slot : Slot) (row : Row) (v : ℕ) (s : Tokens) → AllFit r s → token_at r s (end_of b.own slot) (way_of slot) ≡ Some v
+        → firing_of (slice_get r.parts b.own) (s.state b.own) slot ≡ Some row
+        → Runs b.body (out_if (b.cut.inner (end_of b.own slot)) v ++ ins_of b.cut b.own (row.puts v)) (cut_tokens b.cut b.body s)
+        (cut_tokens b.cut b.body (fired r b.own row v s))
+    body_sees slot row v s fit lies by =
+        subst (λ (o : Option Row). Runs b.body (outside_firing b.cut b.own slot (Some v) o) (cut_tokens b.cut b.body s) (cut_tokens b.cut b.body (fired r b.own row v s))) by
+        (subst (λ (o : Option ℕ).
+        Runs b.body (outside_firing b.cut b.own slot o (firing_of (slice_get r.parts b.own) (s.state b.own) slot)) (cut_tokens b.cut b.body s)
+        (cut_tokens b.cut b.body (fired r b.own row v s))) lies
+        (subst (λ (o : Option ℕ).
+        Runs b.body
+        (firing_in b.cut b.own slot o
+        (outside_firing b.cut b.own slot (token_at r s (end_of b.own slot) (way_of slot)) (firing_of (slice_get r.parts b.own) (s.state b.own) slot)))
+        (cut_tokens b.cut b.body s) (cut_tokens b.cut b.body (fired r b.own row v s))) is.outside
+        (element_is_cut b.cut r b.body (Fire b.own slot) s (fired r b.own row v s) is.cut literals fit (v, row, lies, by, refl))))
+
+    was_read : (v : ℕ) (s : Tokens) → AllFit r s → (s.state b.own).phase ≡ Active → token_at r s (PartEnd b.own 1) Request ≡ Some v
+        → firing_of (slice_get r.parts b.own) (s.state b.own) (Req 1) ≡ Some (read_row (s.state b.own).number)
+        → Step r b (Fire b.own (Req 1)) s (fired r b.own (read_row (s.state b.own).number) v s)
+    was_read v s fit active lies by =
+        let n = (s.state b.own).number in
+        let stands : StandsIn b.body (ImportEnd b.place 0) = asked_there 1 v s one_not_three lies in
+        let u0 = with_token r (PartEnd b.own 1) Request None s in
+        let u1 = with_state b.own (at Active n) u0 in
+        read v s (fired r b.own (read_row n) v s) stands
+        (subst (λ (o : Option End). Runs b.body (out_if o v ++ (in_if o n ++ [])) (cut_tokens b.cut b.body s) (cut_tokens b.cut b.body (fired r b.own (read_row n) v s)))
+        (inner_port 0 stands) (body_sees (Req 1) (read_row n) v s fit lies by)) active
+        (kept_state 1 Answer (Some n) u1 ∙ (new_state (at Active n) u0 ∙ ap (λ (ph : Phase). at ph n) (sym active)))
+        (λ way. gate_apart 1 one_not_three Answer (Some n) u1 way ∙ gate_apart 1 one_not_three Request None s way)
+
+    was_written : (v : ℕ) (s : Tokens) → AllFit r s → (s.state b.own).phase ≡ Active → token_at r s (PartEnd b.own 2) Request ≡ Some v
+        → firing_of (slice_get r.parts b.own) (s.state b.own) (Req 2) ≡ Some write_row
+        → Step r b (Fire b.own (Req 2)) s (fired r b.own write_row v s)
+    was_written v s fit active lies by =
+        let stands : StandsIn b.body (ImportEnd b.place 1) = asked_there 2 v s two_not_three lies in
+        let u0 = with_token r (PartEnd b.own 2) Request None s in
+        let u1 = with_state b.own (at Active v) u0 in
+        write v s (fired r b.own write_row v s) stands
+        (subst (λ (o : Option End). Runs b.body (out_if o v ++ (in_if o 0 ++ [])) (cut_tokens b.cut b.body s) (cut_tokens b.cut b.body (fired r b.own write_row v s)))
+        (inner_port 1 stands) (body_sees (Req 2) write_row v s fit lies by)) active
+        (kept_state 2 Answer (Some 0) u1 ∙ new_state (at Active v) u0)
+        (λ way. gate_apart 2 two_not_three Answer (Some 0) u1 way ∙ gate_apart 2 two_not_three Request None s way)
+
+    driver_step : (slot : Slot) (s t : Tokens) → AllFit r s → Does r (Fire b.own slot) s t → Step r b (Fire b.own slot) s t
+    driver_step slot s t fit (v, row, held, by, leads) = by_row (driver_row slot row s by)
+      where
+        n : ℕ
+        n = (s.state b.own).number
+
+        done : (c : Slot) (w : Row) → slot ≡ c → row ≡ w
+            → (token_at r s (end_of b.own c) (way_of c) ≡ Some v → firing_of (slice_get r.parts b.own) (s.state b.own) c ≡ Some w
+            → Step r b (Fire b.own c) s (fired r b.own w v s)) → Step r b (Fire b.own slot) s t
+        done c w same is_w make =
+            subst (λ (u : Tokens). Step r b (Fire b.own slot) s u) (sym (leads ∙ ap (λ (x : Row). fired r b.own x v s) is_w))
+            (subst (λ (x : Slot). Step r b (Fire b.own x) s (fired r b.own w v s)) (sym same)
+            (make (subst (λ (x : Slot). token_at r s (end_of b.own x) (way_of x) ≡ Some v) same held)
+            (subst (λ (x : Slot). firing_of (slice_get r.parts b.own) (s.state b.own) x ≡ Some w) same (by ∙ ap Some is_w))))
+
+        by_row : LocalRow (s.state b.own).phase n slot row → Step r b (Fire b.own slot) s t
+        by_row (begins rest same is_w) = done (Req 3) begin_row same is_w (λ lies by. begun v s rest lies)
+        by_row (reads active same is_w) = done (Req 1) (read_row n) same is_w (was_read v s fit active)
+        by_row (writes active same is_w) = done (Req 2) write_row same is_w (was_written v s fit active)
+        by_row (ends active same is_w) = done (Ans 0) (end_row n) same is_w (λ lies by. finished v n s active lies)
+
+    fire_step : (i : ℕ) (slot : Slot) (s t : Tokens) → AllFit r s → Does r (Fire i slot) s t → Step r b (Fire i slot) s t
+    fire_step i slot s t fit does =
+        let part = part_there (slice_get r.parts i) (s.state i) slot does.1 does.3 in by_part (is.parts i part.0 part.1)
+      where
+        by_part : IsPartOf b.cut i ⊎ (i ≡ b.own) → Step r b (Fire i slot) s t
+        by_part (inl (j, number)) =
+            of_body (Fire i slot) (Fire j slot) s t (fires i j slot number) (fire_cut b.cut r b.body is.cut j i number slot s t does)
+            (fired_same i (not_driver i (j, number)) does.1 does.0 s t does.4)
+        by_part (inr same) =
+            subst (λ (n : ℕ). Step r b (Fire n slot) s t) (sym same)
+            (driver_step slot s t fit (subst (λ (n : ℕ). Does r (Fire n slot) s t) same does))
+
+    -- and what passes an import
+    out_step : (j k v : ℕ) (s t : Tokens) → AllFit r s → Does r (Out (ImportEnd j k) v) s t → Step r b (Out (ImportEnd j k) v) s t
+    out_step j k v s t fit does = by_inner (b.cut.inner (ImportEnd j k)) refl
+      where
+        x : Element
+        x = Out (ImportEnd j k) v
+
+        same : Same b.own s t
+        same =
+            let leads = passes_out r (ImportEnd j k) v s t does in
+            port_same (ImportEnd j k) leads.0 None s t (λ e. cc e) (λ e. cc e) leads.1
+
+        runs : (o : Option End) → b.cut.inner (ImportEnd j k) ≡ o → Runs b.body (out_if o v) (cut_tokens b.cut b.body s) (cut_tokens b.cut b.body t)
+        runs o e =
+            subst (λ o. Runs b.body (out_if o v) (cut_tokens b.cut b.body s) (cut_tokens b.cut b.body t)) e
+            (element_is_cut b.cut r b.body x s t is.cut literals fit does)
+
+        by_inner : (o : Option End) → b.cut.inner (ImportEnd j k) ≡ o → Step r b x s t
+        by_inner None none =
+            let (c, there) = there_contact x (contact_at r (ImportEnd j k)) s t does.1 in
+            let here = subst (λ (o : Option Contact). Passes r x o s t) there does.1 in
+            absurd (nothing_there r (ImportEnd j k) (way_taken c.role) v s here.0 (nowhere j k none))
+        by_inner (Some e) inner =
+            let (i, is_e, apart, stands, leads, imports) = region.import_inner r b is j k e inner in
+            of_body x (Out (ImportEnd i k) v) s t (puts_out i j k v stands leads imports)
+            (one_sees b.cut b.body (Out (ImportEnd i k) v) s t (runs (Some (ImportEnd i k)) (inner ∙ ap Some is_e))) same
+
+    in_step : (j k v : ℕ) (s t : Tokens) → AllFit r s → Does r (In (ImportEnd j k) v) s t → Step r b (In (ImportEnd j k) v) s t
+    in_step j k v s t fit does = by_inner (b.cut.inner (ImportEnd j k)) refl
+      where
+        x : Element
+        x = In (ImportEnd j k) v
+
+        same : Same b.own s t
+        same =
+            let leads = passes_in r (ImportEnd j k) v s t does in
+            port_same (ImportEnd j k) leads.0 (Some v) s t (λ e. cc e) (λ e. cc e) leads.1
+
+        runs : (o : Option End) → b.cut.inner (ImportEnd j k) ≡ o → Runs b.body (in_if o v) (cut_tokens b.cut b.body s) (cut_tokens b.cut b.body t)
+        runs o e =
+            subst (λ o. Runs b.body (in_if o v) (cut_tokens b.cut b.body s) (cut_tokens b.cut b.body t)) e
+            (element_is_cut b.cut r b.body x s t is.cut literals fit does)
+
+        by_inner : (o : Option End) → b.cut.inner (ImportEnd j k) ≡ o → Step r b x s t
+        by_inner None none =
+            let (c, there) = there_contact x (contact_at r (ImportEnd j k)) s t does.1 in lost j k v s t c there none (runs None none) same
+        by_inner (Some e) inner =
+            let (i, is_e, apart, stands, leads, imports) = region.import_inner r b is j k e inner in
+            of_body x (In (ImportEnd i k) v) s t (takes_in i j k v stands leads imports)
+            (one_sees b.cut b.body (In (ImportEnd i k) v) s t (runs (Some (ImportEnd i k)) (inner ∙ ap Some is_e))) same
+
+    pub step : (x : Element) (s t : Tokens) → AllFit r s → Does r x s t → Step r b x s t
+    step (Fire i slot) s t fit does = fire_step i slot s t fit does
+    step (Out (PartEnd i k) v) s t fit does = absurd does.0
+    step (Out (ImportEnd j k) v) s t fit does = out_step j k v s t fit does
+    step (Out (ResultEnd k) v) s t fit does =
+        let none = first_shake k (Out (ResultEnd k) v) s t does.1 in
+        subst (λ (n : ℕ). Step r b (Out (ResultEnd n) v) s t) (sym none) (result_out v s t (subst (λ (n : ℕ). Does r (Out (ResultEnd n) v) s t) none does))
+    step (In (PartEnd i k) v) s t fit does = absurd does.0
+    step (In (ImportEnd j k) v) s t fit does = in_step j k v s t fit does
+    step (In (ResultEnd k) v) s t fit does =
+        let none = first_shake k (In (ResultEnd k) v) s t does.1 in
+        subst (λ (n : ℕ). Step r b (In (ResultEnd n) v) s t) (sym none) (result_in v s t (subst (λ (n : ℕ). Does r (In (ResultEnd n) v) s t) none does))

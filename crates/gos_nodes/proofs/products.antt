@@ -1,0 +1,12 @@
+pub mod PlaceLemmas
+pub mod StirLemmas
+pub mod TurnLemmas
+pub mod OrderLemmas
+pub mod GoingLemmas
+pub mod PartLemmas
+pub mod BothLemmas
+pub mod SideLemmas
+pub mod CoreLemmas
+pub mod RealisedLemmas
+pub mod SmallBothLemmas
+pub mod SmallCoreLemmas

@@ -1,0 +1,72 @@
+-- The plan of `new x : 1 in skip`: it is a block, whose body is the plan of `skip` with an import that is not used.
+--
+-- Read first: Block; SmallPlans of gos_plan, SmallParallel of parallel.
+use Rattle.std.specs.Prelude.{zero, suc, [], ◌∷◌, Option, Some, None}
+use Rattle.gos_types.specs.Types.{Com, Var}
+use Rattle.gos_model.specs.Terms as terms
+use Rattle.gos_model.specs.Terms.{New}
+use Rattle.gos_model.specs.SmallPrograms.{c}
+use Rattle.gos_model.specs.Typing.{Imported}
+use Rattle.gos_plan.specs.Kinds.{Skip, Local}
+use Rattle.gos_plan.specs.Plans.{End, PartEnd, ImportEnd, ResultEnd, Plan}
+use Rattle.gos_plan.specs.SmallPlans.{skip_plan}
+use Rattle.gos_joining.specs.webs.Webs.{joint}
+use Rattle.gos_joining.specs.webs.Cutting.{Cut}
+use Rattle.gos_realises.specs.realises.Realises.{Realises}
+use Rattle.gos_nodes.specs.parallel.SmallParallel.{skip_number}
+use Rattle.gos_nodes.specs.blocks.Block.{Block, IsBlock}
+
+abbrev pub one_bit : Imported
+one_bit = record { name = c; ty = Var 1 }
+
+-- the body
+abbrev pub unused : Plan
+unused = record skip_plan { imports = one_bit ∷ [] }
+
+abbrev pub new_skip : Plan
+new_skip =
+    record {
+      weight = 10;
+      imports = [];
+      outcome = Com;
+      parts = Local 1 0 ∷ Skip ∷ [];
+      joints = joint (ResultEnd 0) (PartEnd 0 3) ∷ joint (PartEnd 0 0) (PartEnd 1 0) ∷ [];
+    }
+
+-- the body's end behind an end of the whole, and the other way
+abbrev pub body_outer : End → End
+body_outer (PartEnd i h) = PartEnd 0 0
+body_outer (ImportEnd i h) = PartEnd 0 (suc h)
+body_outer (ResultEnd h) = PartEnd 0 0
+
+abbrev pub body_inner : End → Option End
+body_inner (PartEnd zero zero) = Some (ResultEnd 0)
+body_inner (PartEnd zero (suc h)) = None
+body_inner (PartEnd (suc i) h) = None
+body_inner (ImportEnd i h) = None
+body_inner (ResultEnd h) = None
+
+abbrev pub body_out : Cut
+body_out = record { part = λ i. 1; number = skip_number; outer = body_outer; inner = body_inner }
+
+abbrev pub skip_block : Block
+skip_block = record { own = 0; width = 1; body = unused; cut = body_out; place = 0; variable = one_bit }
+
+-- it is a block
+abbrev pub NewSkipIsBlock : Type 0
+NewSkipIsBlock = IsBlock new_skip skip_block
+
+-- without an import for the variable it isn't
+abbrev pub VariableIsNeeded : Type 0
+VariableIsNeeded = IsBlock new_skip (record skip_block { body = skip_plan }) → ⊥
+
+-- nor with a variable of another width, or with another part in the place of Local
+abbrev pub WidthIsNeeded : Type 0
+WidthIsNeeded = IsBlock new_skip (record skip_block { width = 2 }) → ⊥
+
+abbrev pub OtherPartIsNot : Type 0
+OtherPartIsNot = IsBlock new_skip (record skip_block { own = 1 }) → ⊥
+
+-- So it realises the block, where the body's plan realises `skip`: all else that the law asks for is there.
+abbrev pub NewSkipIsRealised : Type 0
+NewSkipIsRealised = Realises Com unused terms.Skip → Realises Com new_skip (New 1 terms.Skip)

@@ -1,0 +1,22 @@
+// What the plan of a block does. Each theorem is the contract of a function that does nothing.
+ghost use Rattle.gos_nodes.specs.blocks.Block.{BlockIsRegular, BlockRealises, OpenBlockIsRegular, OpenBlockIsRestful};
+ghost use Rattle.gos_nodes.specs.blocks.SmallBlocks.{NewSkipIsBlock, NewSkipIsRealised, VariableIsNeeded, WidthIsNeeded, OtherPartIsNot};
+
+/// Where the body's plan is regular the whole is, with imports of any types; where it rests after its answer so does the whole;
+/// and where it realises the body the whole realises the block.
+pub fn blocks()
+    ensures any { OpenBlockIsRegular }
+    ensures restful { OpenBlockIsRestful }
+    ensures regular { BlockIsRegular }
+    ensures realises { BlockRealises }
+{}
+
+/// The plan of `new x : 1 in skip` is a block. Without an import for the variable, with a variable of another width, or with
+/// another part in the place of Local it isn't.
+pub fn small_blocks()
+    ensures block { NewSkipIsBlock }
+    ensures realised { NewSkipIsRealised }
+    ensures variable { VariableIsNeeded }
+    ensures width { WidthIsNeeded }
+    ensures other { OtherPartIsNot }
+{}

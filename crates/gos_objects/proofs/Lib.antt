@@ -1,4 +1,0 @@
-mod ImportLemmas
-mod CheckedLemmas
-pub mod CompiledLemmas
-mod CompleteLemmas

@@ -1,7 +1,0 @@
-use Rattle.gos_objects.proofs.CompiledLemmas.{plan_is_for}
-use Rattle.gos_objects.proofs.compiling.plan_for.Goals as goal
-
-pub returns : goal.returns
-returns c =
-    plan_is_for c.modules.ensures.realised c.modules.ensures.widths c.args.linear.now c.term-term.ensures.checked c.compile.result
-    c.compile.ensures.plan c.compile.ensures.slim c.compile.ensures.read_back

@@ -1,5 +1,0 @@
-use Rattle.gos_opened.proofs.NamedModuleLemmas.{module_is_regular}
-use Rattle.gos_opened.proofs.laws.modules.Goals as goal
-
-pub returns : goal.returns
-returns c = module_is_regular c.names.ensures.there c.names.ensures.regular c.rests.ensures.name

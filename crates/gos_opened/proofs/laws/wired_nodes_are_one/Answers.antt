@@ -1,6 +1,0 @@
-use Rattle.gos_opened.proofs.OneLemmas.{wired_other, wired_is_one}
-use Rattle.gos_opened.proofs.laws.wired_nodes_are_one.Goals as goal
-
-pub returns : goal.returns
-returns c types i j m ns env other pl plc r s agree is also =
-    wired_is_one types i j m ns other pl plc r s (wired_other types i j m ns env other pl r agree is) also

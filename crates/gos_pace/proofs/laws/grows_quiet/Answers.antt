@@ -1,8 +1,0 @@
-use Rattle.gos_pace.proofs.laws.grows_quiet.Goals as goal
-use Rattle.gos_pace.proofs.GrowLemmas as grow
-
-pub returns-clause-quiet : goal.returns-clause-quiet
-returns-clause-quiet c = grow.grows_quiet
-
-pub returns-clause-ranks : goal.returns-clause-ranks
-returns-clause-ranks c = grow.right_ranks_hold

@@ -1,4 +1,0 @@
-mod SideLemmas
-mod PairLemmas
-mod CaseLemmas
-mod SmallPairLemmas

@@ -1,3 +1,0 @@
-pub mod RegionLemmas
-pub mod MarkLemmas
-pub mod OrderLemmas

@@ -1,0 +1,3 @@
+pub mod contexts
+pub mod results
+pub mod variables

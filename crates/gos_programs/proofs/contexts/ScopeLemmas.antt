@@ -1,0 +1,220 @@
+-- Moves keep the locations of the store to those of open blocks.
+use Rattle.std.specs.Prelude.{◌≡◌, ◌⊎◌, ℕ, zero, suc, List, [], ◌∷◌, Option, Some, None}
+use Rattle.std.proofs.Common.{refl, sym, ap, subst, inl, inr, ◌∙◌}
+use Rattle.gos_types.specs.Types.{Type', Com, Exp, Var}
+use Rattle.gos_model.specs.Terms.{Name, Term, Lit, Import, App, Fst, Snd, Seq, Par, If, While, Assign, Deref, New, Not, Bin, Loc, Scope, Wait, Held, Put}
+use Rattle.gos_model.specs.Substitution.{instantiate}
+use Rattle.gos_model.specs.Typing.{Imports, import_type}
+use Rattle.gos_model.specs.Stores.{Entry, Store, entry_at, without}
+use Rattle.gos_model.specs.Reach.{Rel}
+use Rattle.gos_model.specs.Steps.{Computes, IsValue}
+use Rattle.gos_model.specs.Labels.{Label, IsAnswer}
+use Rattle.gos_model.specs.Moves.{Program, Config, Idle, Running, Act, Computing, Showing, Acts, Unfoldings, Move, Moves}
+use Rattle.gos_programs.specs.contexts.Contexts.{Context, SeqFirst, ParLeft, ParRight, IfTest, BinLeft, HeldRight, NotOf, AssignRight, ScopeBody, plug}
+use Rattle.gos_programs.specs.contexts.Scopes.{IsShut, OpensInPlace, IsOpen, KeepsScopes, MovesKeepScopes, RunsKeepScopes, EndsEmpty}
+use Rattle.gos_programs.proofs.contexts.StoreLemmas.{number_cases, not_both, first_at, later_at, without_same, without_absent, put_absent}
+use Rattle.gos_programs.proofs.contexts.ReachedLemmas.{reached_lifted}
+use Rattle.gos_programs.proofs.contexts.ShutLemmas.{shut_put, shut_in_place, shut_head}
+use Rattle.gos_programs.proofs.contexts.BackwardLemmas.{OneHead, OneLabel}
+use Rattle.gos_programs.proofs.contexts.PluggedLemmas.{acts_of}
+
+-- there is something at a location, or nothing
+abbrev Present : Store → ℕ → Type 0
+Present s l = (e : Entry) × (entry_at s l ≡ Some e)
+
+abbrev Absent : Store → ℕ → Type 0
+Absent s l = entry_at s l ≡ None
+
+-- Of a change of a with store s to b with store s': what is in s' and was open, or was not in s, is open now.
+abbrev Kept : Store → Store → Rel
+Kept s s' a b = OpensInPlace b × ((l : ℕ) → Present s' l → IsOpen l a ⊎ Absent s l → IsOpen l b)
+
+abbrev Keeps : Store → Store → Rel
+Keeps s s' a b = OpensInPlace a → Kept s s' a b
+
+kept_in : (s s' : Store) (c : Context) (a b : Term) → Keeps s s' a b → Keeps s s' (plug c a) (plug c b)
+kept_in s s' (SeqFirst n) a b q (i, j) = let k = q i in ((k.0, j), k.1)
+kept_in s s' (ParLeft n) a b q (i, j) =
+    let k = q i in (
+      (k.0, j),
+      λ l p h. elim h [ inl o ↦ elim o [ inl x ↦ inl (k.1 l p (inl x)) | inr y ↦ inr y ] | inr g ↦ inl (k.1 l p (inr g)) ],
+    )
+kept_in s s' (ParRight n) a b q (i, j) =
+    let k = q j in (
+      (i, k.0),
+      λ l p h. elim h [ inl o ↦ elim o [ inl x ↦ inl x | inr y ↦ inr (k.1 l p (inl y)) ] | inr g ↦ inr (k.1 l p (inr g)) ],
+    )
+kept_in s s' (IfTest n r) a b q (i, j, o) = let k = q i in ((k.0, j, o), k.1)
+kept_in s s' (BinLeft op n) a b q (i, j) = let k = q i in ((k.0, j), k.1)
+kept_in s s' (HeldRight n op) a b q i = q i
+kept_in s s' NotOf a b q i = q i
+kept_in s s' (AssignRight n) a b q (i, j) = let k = q j in ((i, k.0), k.1)
+kept_in s s' (ScopeBody x) a b q i =
+    let k = q i in (
+      k.0,
+      λ l p h. elim h [ inl o ↦ elim o [ inl e ↦ inl e | inr y ↦ inr (k.1 l p (inl y)) ] | inr g ↦ inr (k.1 l p (inr g)) ],
+    )
+
+-- where the store stays and nothing was open, nothing has to be
+stays : (s s' : Store) (a b : Term) → s' ≡ s → ((l : ℕ) → IsOpen l a → ⊥) → OpensInPlace b → Kept s s' a b
+stays s s' a b e shut i = (i, λ l p h. elim h [ inl o ↦ absurd (shut l o) | inr g ↦ absurd (both l p g) ])
+  where
+    both : (l : ℕ) → Present s' l → Absent s l → ⊥
+    both l (d, h) g = not_both (entry_at s l) d g (sym (ap (λ (x : Store). entry_at x l) e) ∙ h)
+
+pub value_shut : (v : Term) (l : ℕ) → IsValue v → IsOpen l v → ⊥
+value_shut v l (inl e) o = subst (IsOpen l) e o
+value_shut v l (inr (k, w, e)) o = subst (IsOpen l) e o
+
+lit_shut : (k w : ℕ) (v : Term) → v ≡ Lit k w → (l : ℕ) → IsOpen l v → ⊥
+lit_shut k w v e l o = subst (IsOpen l) e o
+
+-- where all that was there before was there also in s
+shrinks : (s s' : Store) (a b : Term) → ((l : ℕ) → Absent s l → Absent s' l) → ((l : ℕ) → Present s' l → IsOpen l a → ⊥) → OpensInPlace b
+    → Kept s s' a b
+shrinks s s' a b less shut i = (i, λ l p h. elim h [ inl o ↦ absurd (shut l p o) | inr g ↦ absurd (both l p g) ])
+  where
+    both : (l : ℕ) → Present s' l → Absent s l → ⊥
+    both l (d, h) g = not_both (entry_at s' l) d (less l g) h
+
+-- a block that opens
+opens : (s s' : Store) (w : ℕ) (m b : Term) (x : ℕ) → IsShut m → b ≡ Scope x (instantiate m (Loc x))
+    → s' ≡ record { place = x; width = w; number = 0 } ∷ s → Kept s s' (New w m) b
+opens s s' w m b x shut eb es =
+    subst (λ (y : Term). Kept s s' (New w m) y) (sym eb) (
+      shut_in_place (instantiate m (Loc x)) (shut_put m 0 (Loc x) tt shut),
+      λ l p h. elim h [ inl o ↦ absurd o | inr g ↦ number_cases x l (λ e t. inl e) (λ other f. absurd (new l p g other)) ],
+    )
+  where
+    new : (l : ℕ) → Present s' l → Absent s l → (x ≡ l → ⊥) → ⊥
+    new l (d, h) g other =
+        let first : Entry = record { place = x; width = w; number = 0 } in
+        not_both (entry_at s' l) d (ap (λ (y : Store). entry_at y l) es ∙ (later_at first s l other ∙ g)) h
+
+-- a block that closes
+closes : (s s' : Store) (k : ℕ) (m b : Term) → OpensInPlace m → IsValue m → b ≡ m → s' ≡ without s k → Kept s s' (Scope k m) b
+closes s s' k m b i is eb es = shrinks s s' (Scope k m) b less shut (subst OpensInPlace (sym eb) i)
+  where
+    less : (l : ℕ) → Absent s l → Absent s' l
+    less l g = ap (λ (y : Store). entry_at y l) es ∙ without_absent s k l g
+
+    shut : (l : ℕ) → Present s' l → (k ≡ l) ⊎ IsOpen l m → ⊥
+    shut l (d, h) (inl e) =
+        not_both (entry_at s' l) d (ap (λ (y : Store). entry_at y l) es ∙ subst (λ (y : ℕ). entry_at (without s k) y ≡ None) e (without_same s k)) h
+    shut l p (inr o) = value_shut m l is o
+
+rows_keep : (s s' : Store) (a b : Term) → Computes s s' a b → Keeps s s' a b
+rows_keep s s' (Seq m n) b (em, et, es) (i, j) =
+    stays s s' (Seq m n) b es (λ l o. value_shut m l (inl em) o) (subst OpensInPlace (sym et) (shut_in_place n j))
+rows_keep s s' (Par m n) b (em, en, et, es) (i, j) =
+    stays s s' (Par m n) b es
+    (λ l o. elim o [ inl x ↦ value_shut m l (inl em) x | inr y ↦ value_shut n l (inl en) y ]) (subst OpensInPlace (sym et) tt)
+rows_keep s s' (If m n p) b (inl (em, et), es) (i, j, k) =
+    stays s s' (If m n p) b es (lit_shut 1 1 m em) (subst OpensInPlace (sym et) (shut_in_place n j))
+rows_keep s s' (If m n p) b (inr (em, et), es) (i, j, k) =
+    stays s s' (If m n p) b es (lit_shut 0 1 m em) (subst OpensInPlace (sym et) (shut_in_place p k))
+rows_keep s s' (While m n) b (et, es) (i, j) =
+    stays s s' (While m n) b es (λ l o. o) (subst OpensInPlace (sym et) (shut_in_place m i, (j, (i, j)), tt))
+rows_keep s s' (Bin op m n) b (k, w, em, et, es) (i, j) =
+    stays s s' (Bin op m n) b es (lit_shut k w m em) (subst OpensInPlace (sym et) (shut_in_place n j))
+rows_keep s s' (Held k op n) b (j, w, en, et, es) i =
+    stays s s' (Held k op n) b es (lit_shut j w n en) (subst OpensInPlace (sym et) tt)
+rows_keep s s' (Not m) b (k, w, em, et, es) i =
+    stays s s' (Not m) b es (lit_shut k w m em) (subst OpensInPlace (sym et) tt)
+rows_keep s s' (Assign m n) b (k, w, en, et, es) (i, j) =
+    stays s s' (Assign m n) b es (lit_shut k w n en) (subst OpensInPlace (sym et) i)
+rows_keep s s' (Put m k) b (e, em, here, et, es) i =
+    shrinks s s' (Put m k) b (λ x g. ap (λ (y : Store). entry_at y x) es ∙ put_absent s e.place k x g) (λ x p o. o) (subst OpensInPlace (sym et) tt)
+rows_keep s s' (Deref m) b (e, em, at, et, es) i =
+    stays s s' (Deref m) b es (λ l o. o) (subst OpensInPlace (sym et) tt)
+rows_keep s s' (New w m) b (l, absent, et, es) i = opens s s' w m b l i et es
+rows_keep s s' (Scope k m) b (is, et, es) i = closes s s' k m b i is et es
+rows_keep s s' m b h i = absurd h
+
+heads_keep : (s : Store) (a b : Term) → OneHead a b → Keeps s s a b
+heads_keep s (App m n) b h i = stays s s (App m n) b refl (λ l o. o) (shut_in_place b (shut_head (App m n) b h i))
+heads_keep s (Fst m) b h i = stays s s (Fst m) b refl (λ l o. o) (shut_in_place b (shut_head (Fst m) b h i))
+heads_keep s (Snd m) b h i = stays s s (Snd m) b refl (λ l o. o) (shut_in_place b (shut_head (Snd m) b h i))
+heads_keep s (Put m k) b h i = stays s s (Put m k) b refl (λ l o. o) (shut_in_place b (shut_head (Put m k) b h i))
+heads_keep s (Deref m) b h i = stays s s (Deref m) b refl (λ l o. o) (shut_in_place b (shut_head (Deref m) b h i))
+heads_keep s a b (inl (inl h)) i = absurd h
+heads_keep s a b (inl (inr h)) i = absurd h
+heads_keep s a b (inr h) i = absurd h
+
+waits : (s : Store) (a b : Term) (x : Name) (n : ℕ) → b ≡ Wait x n → ((l : ℕ) → IsOpen l a → ⊥) → Kept s s a b
+waits s a b x n e shut = stays s s a b refl shut (subst OpensInPlace (sym e) tt)
+
+-- an answer leaves a value
+answer_in_place : (o : Option Type') (n k : ℕ) (t : Term) → IsAnswer o n k t → OpensInPlace t
+answer_in_place (Some Com) (suc zero) k t h = subst OpensInPlace (sym h.1) tt
+answer_in_place (Some (Exp w)) (suc zero) k t h = subst OpensInPlace (sym h.1) tt
+answer_in_place (Some (Var w)) (suc zero) k t h = subst OpensInPlace (sym h.1) tt
+answer_in_place (Some (Var w)) (suc (suc (suc zero))) k t h = subst OpensInPlace (sym h.1) tt
+answer_in_place o n k t h = absurd h
+
+labels_keep : (i : Imports) (o : Label) (s : Store) (a b : Term) → OneLabel i o a b → Keeps s s a b
+labels_keep i o s (Import x) b (inl (inl (h, e, et))) k = waits s (Import x) b x 1 et (λ l o. o)
+labels_keep i o s (Import x) b (inl (inr (w, h, e, et))) k = waits s (Import x) b x 1 et (λ l o. o)
+labels_keep i o s (Deref m) b (inl (x, w, em, h, e, et)) k = waits s (Deref m) b x 1 et (λ l o. o)
+labels_keep i o s (Put m n) b (inl (x, w, em, h, e, et)) k = waits s (Put m n) b x 3 et (λ l o. o)
+labels_keep i o s (Wait x n) b (inr h) k = stays s s (Wait x n) b refl (λ l o. o) (answer_in_place (import_type i x) n o.value b h.2)
+labels_keep i o s a b (inl h) k = absurd h
+labels_keep i o s a b (inr h) k = absurd h
+
+-- a change keeps the scopes
+keeps_after : (s s' : Store) (m t : Term) → Keeps s s' m t → KeepsScopes m s → KeepsScopes t s'
+keeps_after s s' m t q (i, each) = let k = q i in (k.0, λ l e h. found l e h (entry_at s l) refl)
+  where
+    found : (l : ℕ) (e : Entry) → entry_at s' l ≡ Some e → (o : Option Entry) → entry_at s l ≡ o → IsOpen l t
+    found l e h None g = (q i).1 l (e, h) (inr g)
+    found l e h (Some d) g = (q i).1 l (e, h) (inl (each l d g))
+
+pub unfoldings_keep : (s : Store) (n : ℕ) (m t : Term) → Unfoldings n m t → KeepsScopes m s → KeepsScopes t s
+unfoldings_keep s zero m t h k = subst (λ (x : Term). KeepsScopes x s) h k
+unfoldings_keep s (suc n) m t (u, h, hs) k =
+    unfoldings_keep s n u t hs (keeps_after s s m u (reached_lifted OneHead (Keeps s s) (heads_keep s) (kept_in s s) m u h) k)
+
+acts_keep : (i : Imports) (a : Act) (s s' : Store) (m t : Term) → Acts i a s s' m t → KeepsScopes m s → KeepsScopes t s'
+acts_keep i Computing s s' m t h k =
+    keeps_after s s' m t (reached_lifted (Computes s s') (Keeps s s') (rows_keep s s') (kept_in s s') m t h) k
+acts_keep i (Showing o) s s' m t (h, e) k =
+    subst (λ (x : Store). KeepsScopes t x) (sym e)
+    (keeps_after s s m t (reached_lifted (OneLabel i o) (Keeps s s) (labels_keep i o s) (kept_in s s) m t h) k)
+
+-- in place alone
+pub unfoldings_keep_place : (n : ℕ) (m t : Term) → Unfoldings n m t → OpensInPlace m → OpensInPlace t
+unfoldings_keep_place zero m t h k = subst OpensInPlace h k
+unfoldings_keep_place (suc n) m t (u, h, hs) k =
+    unfoldings_keep_place n u t hs (reached_lifted OneHead (Keeps [] []) (heads_keep []) (kept_in [] []) m u h k).0
+
+pub acts_keep_place : (i : Imports) (a : Act) (s s' : Store) (m t : Term) → Acts i a s s' m t → OpensInPlace m → OpensInPlace t
+acts_keep_place i Computing s s' m t h k = (reached_lifted (Computes s s') (Keeps s s') (rows_keep s s') (kept_in s s') m t h k).0
+acts_keep_place i (Showing o) s s' m t (h, e) k = (reached_lifted (OneLabel i o) (Keeps s s) (labels_keep i o s) (kept_in s s) m t h k).0
+
+-- of a configuration
+abbrev Keeping : Config → Type 0
+Keeping Idle = Unit {0}
+Keeping (Running m s) = KeepsScopes m s
+
+move_keeps : (p : Program) (a : Act) (c d : Config) → IsShut p.body → Move p a c d → Keeping c → Keeping d
+move_keeps p a Idle d shut (e, h) k = subst Keeping (sym h) (shut_in_place p.body shut, λ l e h. absurd cc)
+move_keeps p a (Running m s) Idle shut h k = tt
+move_keeps p a (Running m s) (Running t u) shut (n, v, hs, h) k =
+    acts_keep p.imports a s u v t (acts_of p.imports a s u v t h) (unfoldings_keep s n m v hs k)
+
+all_keep : (p : Program) (acts : List Act) (c d : Config) → IsShut p.body → Moves p acts c d → Keeping c → Keeping d
+all_keep p [] c d shut h k = subst Keeping h k
+all_keep p (a ∷ acts) c d shut (b, h, hs) k = all_keep p acts b d shut hs (move_keeps p a c b shut h k)
+
+pub moves_keep_scopes : MovesKeepScopes
+moves_keep_scopes p acts m t s u shut k h = all_keep p acts (Running m s) (Running t u) shut h k
+
+pub runs_keep_scopes : RunsKeepScopes
+runs_keep_scopes p acts t s shut h = all_keep p acts Idle (Running t s) shut h tt
+
+pub none_left : (v : Term) (s : Store) → KeepsScopes v s → IsValue v → s ≡ []
+none_left v [] k is = refl
+none_left v (e ∷ s) (i, each) is = absurd (value_shut v e.place is (each e.place e (first_at e s e.place refl)))
+
+pub ends_empty : EndsEmpty
+ends_empty p acts v s shut h is = none_left v s (runs_keep_scopes p acts v s shut h) is

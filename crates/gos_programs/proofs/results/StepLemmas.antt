@@ -1,0 +1,231 @@
+-- Steps and labels keep types, and a step keeps the widths of the locations that stay.
+use Rattle.std.specs.Prelude.{◌≡◌, ℕ, zero, suc, ◌+◌, ◌-◌, ◌^◌, ◌<◌, List, [], ◌∷◌, ◌⊎◌, Bool, true, false, Option, Some, None, nat_eq, nat_lt, if◌then◌else◌}
+use Rattle.std.proofs.Common.{arith, refl, sym, ap, subst, inl, inr, ◌∙◌}
+use Rattle.std.proofs.lemmas.Nat.{pow_pos, mod_below, and_le_l, or_lt, xor_lt}
+use Rattle.gos_types.specs.Types.{Type', Com, Exp, Var}
+use Rattle.gos_model.specs.Terms.{Op, Add, Sub, And, Or, Xor, Eq, Less, Term, Skip, Lit, Import, Seq, Par, If, While, Assign, Deref, New, Not, Bin, Loc, Scope, Wait, Held, Put, result_of, result_width, complement}
+use Rattle.gos_model.specs.Substitution.{instantiate}
+use Rattle.gos_model.specs.Typing.{Imports, import_type}
+use Rattle.gos_model.specs.Stores.{Entry, Store, entry_at, store_put, without}
+use Rattle.gos_model.specs.Reach.{Rel}
+use Rattle.gos_model.specs.Steps.{Computes}
+use Rattle.gos_model.specs.Labels.{Label, IsAnswer}
+use Rattle.gos_programs.specs.contexts.Contexts.{Context, SeqFirst, ParLeft, ParRight, IfTest, BinLeft, HeldRight, NotOf, AssignRight, ScopeBody, plug}
+use Rattle.gos_programs.specs.contexts.Standing.{Present}
+use Rattle.gos_programs.proofs.contexts.StoreLemmas.{number_cases, not_both, first_at, later_at, without_same, without_other, numbered, put_same, put_other}
+use Rattle.gos_programs.proofs.contexts.BackwardLemmas.{OneLabel}
+use Rattle.gos_programs.specs.results.HasTypes.{Widths, widths_of, NumbersFit, AnswersWith, HasType}
+use Rattle.gos_programs.proofs.results.TypeLemmas.{widened}
+use Rattle.gos_programs.proofs.results.PutLemmas.{instantiate_typed, KeepsType}
+
+-- what an operator computes has its bits
+result_fits : (op : Op) (w a b : ℕ) → a < 2 ^ w → b < 2 ^ w → result_of op w a b < 2 ^ result_width op w
+result_fits Add w a b f g = mod_below (a + b) (2 ^ w) (pow_pos w)
+result_fits Sub w a b f g = mod_below (a + 2 ^ w - b) (2 ^ w) (pow_pos w)
+result_fits And w a b f g = omega (arith, f, and_le_l a b)
+result_fits Or w a b f g = or_lt w a b f g
+result_fits Xor w a b f g = xor_lt w a b f g
+result_fits Eq w a b f g = one_bit (nat_eq a b)
+  where
+    one_bit : (t : Bool) → (if t then 1 else 0) < 2 ^ 1
+    one_bit true = omega arith
+    one_bit false = omega arith
+result_fits Less w a b f g = one_bit (nat_lt a b)
+  where
+    one_bit : (t : Bool) → (if t then 1 else 0) < 2 ^ 1
+    one_bit true = omega arith
+    one_bit false = omega arith
+
+complement_fits : (w a : ℕ) → complement w a < 2 ^ w
+complement_fits w a = omega (arith, pow_pos w)
+
+-- the widths of either store
+abbrev pub either : Store → Store → Widths
+either s u l w = widths_of s l w ⊎ widths_of u l w
+
+-- the locations that stay keep their widths
+abbrev pub WidthsStay : Store → Store → Type 0
+WidthsStay s u = (l w : ℕ) → widths_of s l w → Present u l → widths_of u l w
+
+-- a step keeps types, over the widths of both stores, and what is known of the store
+abbrev pub Kept : Imports → Store → Store → Rel
+Kept i s u a b =
+    (t : Type') → HasType (widths_of s) i [] a t → NumbersFit s → HasType (either s u) i [] b t × NumbersFit u × WidthsStay s u
+
+pub over_both : (i : Imports) (s u : Store) (m : Term) (g : List Type') (t : Type') → HasType (widths_of s) i g m t → HasType (either s u) i g m t
+over_both i s u m g t h = widened (widths_of s) (either s u) i (λ l w x. inl x) m g g t (λ n a x. x) h
+
+pub kept_in : (i : Imports) (s u : Store) (c : Context) (a b : Term) → Kept i s u a b → Kept i s u (plug c a) (plug c b)
+kept_in i s u (SeqFirst n) a b q t (d, h, k) f = let r = q Com h f in ((d, r.0, over_both i s u n [] t k), r.1, r.2)
+kept_in i s u (ParLeft n) a b q t (e, h, k) f = let r = q Com h f in ((e, r.0, over_both i s u n [] Com k), r.1, r.2)
+kept_in i s u (ParRight n) a b q t (e, h, k) f = let r = q Com k f in ((e, over_both i s u n [] Com h, r.0), r.1, r.2)
+kept_in i s u (IfTest n p) a b q t (d, h, k, l) f =
+    let r = q (Exp 1) h f in ((d, r.0, over_both i s u n [] t k, over_both i s u p [] t l), r.1, r.2)
+kept_in i s u (BinLeft op n) a b q t (w, e, h, k) f = let r = q (Exp w) h f in ((w, e, r.0, over_both i s u n [] (Exp w) k), r.1, r.2)
+kept_in i s u (HeldRight n op) a b q t (w, e, fits, h) f = let r = q (Exp w) h f in ((w, e, fits, r.0), r.1, r.2)
+kept_in i s u NotOf a b q t (w, e, h) f = let r = q (Exp w) h f in ((w, e, r.0), r.1, r.2)
+kept_in i s u (AssignRight n) a b q t (w, e, h, k) f = let r = q (Exp w) k f in ((w, e, over_both i s u n [] (Var w) h, r.0), r.1, r.2)
+kept_in i s u (ScopeBody l) a b q t (d, h) f = let r = q t h f in ((d, r.0), r.1, r.2)
+
+-- a step that leaves the store as it is
+pub same_store : (i : Imports) (s u : Store) (b : Term) (t : Type') → u ≡ s → NumbersFit s → HasType (widths_of s) i [] b t
+    → HasType (either s u) i [] b t × NumbersFit u × WidthsStay s u
+same_store i s u b t e f h = (
+  over_both i s u b [] t h,
+  subst NumbersFit (sym e) f,
+  λ l w x here. subst (λ (y : Store). widths_of y l w) (sym e) x,
+)
+
+to_term : (ws : Widths) (i : Imports) (t : Type') (a b : Term) → b ≡ a → HasType ws i [] a t → HasType ws i [] b t
+to_term ws i t a b e h = subst (λ (x : Term). HasType ws i [] x t) (sym e) h
+
+-- what is known of a literal of an expression's type
+exp_same : (v w : ℕ) → Exp v ≡ Exp w → v ≡ w
+exp_same v w e = cc
+
+var_same : (v w : ℕ) → Var v ≡ Var w → v ≡ w
+var_same v w e = cc
+
+some_same : (a b : Entry) → Some a ≡ Some b → a ≡ b
+some_same a b e = cc
+
+literal : (ws : Widths) (i : Imports) (m : Term) (k v w : ℕ) → m ≡ Lit k v → HasType ws i [] m (Exp w) → (w ≡ v) × (k < 2 ^ v)
+literal ws i m k v w e h =
+    let here : HasType ws i [] (Lit k v) (Exp w) = subst (λ (x : Term). HasType ws i [] x (Exp w)) e h in
+    (exp_same w v here.0, here.1)
+
+location : (i : Imports) (s : Store) (m : Term) (l w : ℕ) (e : Entry) → m ≡ Loc l → entry_at s l ≡ Some e → HasType (widths_of s) i [] m (Var w) → w ≡ e.width
+location i s m l w e is here h =
+    let at : HasType (widths_of s) i [] (Loc l) (Var w) = subst (λ (x : Term). HasType (widths_of s) i [] x (Var w)) is h in
+    var_same w at.0 at.1 ∙ (sym at.2.2 ∙ ap (λ x. x.width) (some_same at.2.0 e (sym at.2.1 ∙ here)))
+
+-- a write
+put_fits : (s : Store) (x k w : ℕ) (e : Entry) → entry_at s x ≡ Some e → k < 2 ^ e.width → NumbersFit s → NumbersFit (store_put s x k)
+put_fits s x k w e here fits f l d at =
+    number_cases x l
+    (λ same yes.
+    let there : entry_at (store_put s x k) l ≡ Some (record e { number = k }) =
+    subst (λ (y : ℕ). entry_at (store_put s x k) y ≡ Some (record e { number = k })) same (put_same s x k ∙ ap (numbered k) here) in
+    subst (λ (y : Entry). y.number < 2 ^ y.width) (some_same (record e { number = k }) d (sym there ∙ at)) fits)
+    (λ other no. f l d (sym (put_other s x k l other) ∙ at))
+
+put_stays : (s : Store) (x k : ℕ) → WidthsStay s (store_put s x k)
+put_stays s x k l w (e, at, wide) here =
+    number_cases x l
+    (λ same yes. (
+      record e { number = k },
+      subst (λ (y : ℕ). entry_at (store_put s x k) y ≡ Some (record e { number = k })) same
+          (put_same s x k ∙ ap (numbered k) (subst (λ (y : ℕ). entry_at s y ≡ Some e) (sym same) at)),
+      wide,
+    ))
+    (λ other no. (e, put_other s x k l other ∙ at, wide))
+
+-- a new variable
+
+new_fits : (s : Store) (x w : ℕ) → NumbersFit s → NumbersFit (record { place = x; width = w; number = 0 } ∷ s)
+new_fits s x w f l d at =
+    let e : Entry = record { place = x; width = w; number = 0 } in
+    number_cases x l
+    (λ same yes. subst (λ (y : Entry). y.number < 2 ^ y.width) (some_same e d (sym (first_at e s l same) ∙ at)) (pow_pos w))
+    (λ other no. f l d (sym (later_at e s l other) ∙ at))
+
+new_stays : (s : Store) (x w : ℕ) → entry_at s x ≡ None → WidthsStay s (record { place = x; width = w; number = 0 } ∷ s)
+new_stays s x w absent l v (e, at, wide) here =
+    let o : Entry = record { place = x; width = w; number = 0 } in
+    number_cases x l
+    (λ same yes. absurd (not_both (entry_at s l) e (subst (λ (y : ℕ). entry_at s y ≡ None) same absent) at))
+    (λ other no. (e, later_at o s l other ∙ at, wide))
+
+-- the end of a block
+end_fits : (s : Store) (x : ℕ) → NumbersFit s → NumbersFit (without s x)
+end_fits s x f l d at =
+    number_cases x l
+    (λ same yes. absurd (not_both (entry_at (without s x) l) d (subst (λ (y : ℕ). entry_at (without s x) y ≡ None) same (without_same s x)) at))
+    (λ other no. f l d (sym (without_other s x l other) ∙ at))
+
+end_stays : (s : Store) (x : ℕ) → WidthsStay s (without s x)
+end_stays s x l w (e, at, wide) (d, here) =
+    number_cases x l
+    (λ same yes. absurd (not_both (entry_at (without s x) l) d (subst (λ (y : ℕ). entry_at (without s x) y ≡ None) same (without_same s x)) here))
+    (λ other no. (e, without_other s x l other ∙ at, wide))
+
+after : (i : Imports) (s u v : Store) (b : Term) (t : Type') → u ≡ v → HasType (either s v) i [] b t × NumbersFit v × WidthsStay s v
+    → HasType (either s u) i [] b t × NumbersFit u × WidthsStay s u
+after i s u v b t e h = subst (λ (y : Store). HasType (either s y) i [] b t × NumbersFit y × WidthsStay s y) (sym e) h
+
+pub row_kept : (i : Imports) (s u : Store) (a b : Term) → Computes s u a b → Kept i s u a b
+row_kept i s u (Seq m n) b (em, et, es) t (d, h, k) f = same_store i s u b t es f (to_term (widths_of s) i t n b et k)
+row_kept i s u (Par m n) b (em, en, et, es) t (e, h, k) f = same_store i s u b t es f (to_term (widths_of s) i t Skip b et e)
+row_kept i s u (If m n p) b (inl (em, et), es) t (d, h, k, l) f = same_store i s u b t es f (to_term (widths_of s) i t n b et k)
+row_kept i s u (If m n p) b (inr (em, et), es) t (d, h, k, l) f = same_store i s u b t es f (to_term (widths_of s) i t p b et l)
+row_kept i s u (While m n) b (et, es) t (e, h, k) f =
+    same_store i s u b t es f
+    (to_term (widths_of s) i t (If m (Seq n (While m n)) Skip) b et
+    (subst (λ (x : Type'). HasType (widths_of s) i [] (If m (Seq n (While m n)) Skip) x) (sym e) (tt, h, (tt, k, (refl, h, k)), refl)))
+row_kept i s u (Bin op m n) b (k, v, em, et, es) t (w, e, h, l) f =
+    let fits = literal (widths_of s) i m k v w em h in
+    same_store i s u b t es f
+    (to_term (widths_of s) i t (Held k op n) b et (w, e, subst (λ (x : ℕ). k < 2 ^ x) (sym fits.0) fits.1, l))
+row_kept i s u (Held k op n) b (j, v, en, et, es) t (w, e, small, h) f =
+    let fits = literal (widths_of s) i n j v w en h in
+    same_store i s u b t es f
+    (to_term (widths_of s) i t (Lit (result_of op v k j) (result_width op v)) b et
+    (e ∙ ap (λ x. Exp (result_width op x)) fits.0, result_fits op v k j (subst (λ (x : ℕ). k < 2 ^ x) fits.0 small) fits.1))
+row_kept i s u (Not m) b (k, v, em, et, es) t (w, e, h) f =
+    let fits = literal (widths_of s) i m k v w em h in
+    same_store i s u b t es f
+    (to_term (widths_of s) i t (Lit (complement v k) v) b et (e ∙ ap (λ x. Exp x) fits.0, complement_fits v k))
+row_kept i s u (Assign m n) b (k, v, en, et, es) t (w, e, h, l) f =
+    let fits = literal (widths_of s) i n k v w en l in
+    same_store i s u b t es f (to_term (widths_of s) i t (Put m k) b et (w, e, subst (λ (x : ℕ). k < 2 ^ x) (sym fits.0) fits.1, h))
+row_kept i s u (Put m k) b (d, em, here, et, es) t (w, e, small, h) f =
+    let wide = location i s m d.place w d em here h in
+    after i s u (store_put s d.place k) b t es (
+      to_term (either s (store_put s d.place k)) i t Skip b et e,
+      put_fits s d.place k w d here (subst (λ (x : ℕ). k < 2 ^ x) wide small) f,
+      put_stays s d.place k,
+    )
+row_kept i s u (Deref m) b (d, em, here, et, es) t (w, e, h) f =
+    let wide = location i s m d.place w d em here h in
+    same_store i s u b t es f (to_term (widths_of s) i t (Lit d.number d.width) b et (e ∙ ap (λ x. Exp x) wide, f d.place d here))
+row_kept i s u (New w m) b (l, absent, et, es) t (d, h) f =
+    let o : Entry = record { place = l; width = w; number = 0 } in
+    after i s u (o ∷ s) b t es (
+      to_term (either s (o ∷ s)) i t (Scope l (instantiate m (Loc l))) b et
+          (d, instantiate_typed (either s (o ∷ s)) i m (Loc l) (Var w) t (over_both i s (o ∷ s) m (Var w ∷ []) t h) (w, refl, inr (o, first_at o s l refl, refl))),
+      new_fits s l w f,
+      new_stays s l w absent,
+    )
+row_kept i s u (Scope l m) b (is, et, es) t (d, h) f =
+    after i s u (without s l) b t es
+    (to_term (either s (without s l)) i t m b et (over_both i s (without s l) m [] t h), end_fits s l f, end_stays s l)
+row_kept i s u m b h t k f = absurd h
+
+-- an answer leaves a value of the type with which it answers
+answer_typed : (ws : Widths) (i : Imports) (o : Option Type') (n k : ℕ) (b : Term) (t : Type') → IsAnswer o n k b → AnswersWith o n t → HasType ws i [] b t
+answer_typed ws i (Some Com) (suc zero) k b t (e, is) h = to_term ws i t Skip b is h
+answer_typed ws i (Some (Exp w)) (suc zero) k b t (fits, is) h = to_term ws i t (Lit k w) b is (h, fits)
+answer_typed ws i (Some (Var w)) (suc zero) k b t (fits, is) h = to_term ws i t (Lit k w) b is (h, fits)
+answer_typed ws i (Some (Var w)) (suc (suc (suc zero))) k b t (e, is) h = to_term ws i t Skip b is h
+answer_typed ws i o n k b t h g = absurd h
+
+answers_as : (o p : Option Type') (n : ℕ) (t : Type') → o ≡ p → AnswersWith p n t → AnswersWith o n t
+answers_as o p n t e h = subst (λ (x : Option Type'). AnswersWith x n t) (sym e) h
+
+some_type : (a b : Type') → Some a ≡ Some b → a ≡ b
+some_type a b e = cc
+
+pub label_keeps : (ws : Widths) (i : Imports) (o : Label) (a b : Term) → OneLabel i o a b → KeepsType ws i a b
+label_keeps ws i o (Import x) b (inl (inl (here, e, et))) t h =
+    to_term ws i t (Wait x 1) b et (answers_as (import_type i x) (Some Com) 1 t here (some_type t Com (sym h ∙ here)))
+label_keeps ws i o (Import x) b (inl (inr (w, here, e, et))) t h =
+    to_term ws i t (Wait x 1) b et (answers_as (import_type i x) (Some (Exp w)) 1 t here (some_type t (Exp w) (sym h ∙ here)))
+label_keeps ws i o (Deref m) b (inl (x, w, em, here, e, et)) t (v, is, h) =
+    let at : HasType ws i [] (Import x) (Var v) = subst (λ (y : Term). HasType ws i [] y (Var v)) em h in
+    to_term ws i t (Wait x 1) b et
+    (answers_as (import_type i x) (Some (Var w)) 1 t here (is ∙ ap (λ y. Exp y) (var_same v w (some_type (Var v) (Var w) (sym at ∙ here)))))
+label_keeps ws i o (Put m k) b (inl (x, w, em, here, e, et)) t (v, is, fits, h) =
+    to_term ws i t (Wait x 3) b et (answers_as (import_type i x) (Some (Var w)) 3 t here is)
+label_keeps ws i o (Wait x n) b (inr (p, e, h)) t k = answer_typed ws i (import_type i x) n o.value b t h k
+label_keeps ws i o a b (inl h) t k = absurd h
+label_keeps ws i o a b (inr h) t k = absurd h

@@ -1,0 +1,218 @@
+-- Two unfoldings of a term come together, and what is possible beside an unfolding stays possible.
+use Rattle.std.specs.Prelude.{◌≡◌, ◌⊎◌, ℕ, zero, suc}
+use Rattle.std.proofs.Common.{arith, refl, sym, ap, subst, inl, inr, ◌∙◌}
+use Rattle.gos_model.specs.Terms.{Name, Term, Skip, Lit, Import, App, Fst, Snd, Seq, Par, If, Assign, Deref, Not, Bin, Loc, Scope, Wait, Held, Put}
+use Rattle.gos_model.specs.Typing.{Imports}
+use Rattle.gos_model.specs.Stores.{Store}
+use Rattle.gos_model.specs.Reach.{Rel, Reached, Below, Unfolds}
+use Rattle.gos_model.specs.Steps.{Computes, IsValue}
+use Rattle.gos_model.specs.Labels.{Label}
+use Rattle.gos_model.specs.Moves.{Program, Config, Idle, Running, Act, Computing, Showing, ActsTo, Answers, Unfoldings, Move, Stalled}
+use Rattle.gos_model.proofs.HeadLemmas.{Lower, lower_one}
+use Rattle.gos_programs.specs.contexts.Contexts.{Context, SeqFirst, ParLeft, ParRight, IfTest, BinLeft, HeldRight, NotOf, AssignRight, ScopeBody, plug}
+use Rattle.gos_programs.proofs.contexts.BackwardLemmas.{OneHead, OneLabel}
+use Rattle.gos_programs.proofs.contexts.PluggedLemmas.{acts_of, acts_to, reached_plugged}
+use Rattle.gos_programs.specs.variables.Unfolded.{UnfoldingsMeet, ActsStay, WaitsBefore}
+
+head_one : (m t u : Term) → OneHead m t → OneHead m u → t ≡ u
+head_one (Put m k) t u (inr (m', e, h)) (inr (m'', f, g)) = e ∙ (ap (λ (x : Term). Put x k) (lower_one m m' m'' h g) ∙ sym f)
+head_one (Deref m) t u (inr (m', e, h)) (inr (m'', f, g)) = e ∙ (ap (λ (x : Term). Deref x) (lower_one m m' m'' h g) ∙ sym f)
+head_one (Put m k) t u (inr h) (inl (inl g)) = absurd g
+head_one (Put m k) t u (inr h) (inl (inr g)) = absurd g
+head_one (Deref m) t u (inr h) (inl (inl g)) = absurd g
+head_one (Deref m) t u (inr h) (inl (inr g)) = absurd g
+head_one m t u (inl h) (inl g) = lower_one m t u h g
+head_one (App m n) t u (inl h) (inr g) = absurd g
+head_one (Fst m) t u (inl h) (inr g) = absurd g
+head_one (Snd m) t u (inl h) (inr g) = absurd g
+head_one m t u (inl (inl h)) k = absurd h
+head_one m t u (inl (inr h)) k = absurd h
+head_one m t u (inr h) k = absurd h
+
+-- a head is no term of which a part is reached
+head_below : (R : Rel) (m t u : Term) → OneHead m t → Below R m u → ⊥
+head_below R (App m n) t u h g = g
+head_below R (Fst m) t u h g = g
+head_below R (Snd m) t u h g = g
+head_below R (Put m k) t u h g = g
+head_below R (Deref m) t u h g = g
+head_below R m t u (inl (inl h)) g = absurd h
+head_below R m t u (inl (inr h)) g = absurd h
+head_below R m t u (inr h) g = absurd h
+
+-- two unfoldings, seen from a place
+abbrev Meet : Term → Term → Type 0
+Meet a b = (a ≡ b) ⊎ ((w : Term) × Unfolds a w × Unfolds b w)
+
+-- which come together in a context too
+meet_in : (c : Context) (a b x y : Term) → x ≡ plug c a → y ≡ plug c b → Meet a b → Meet x y
+meet_in c a b x y ex ey (inl same) = inl (ex ∙ (ap (plug c) same ∙ sym ey))
+meet_in c a b x y ex ey (inr (v, h, g)) = inr (
+  plug c v,
+  subst (λ (t : Term). Unfolds t (plug c v)) (sym ex) (reached_plugged OneHead c a v h),
+  subst (λ (t : Term). Unfolds t (plug c v)) (sym ey) (reached_plugged OneHead c b v g),
+)
+
+pub unfoldings_meet : UnfoldingsMeet
+unfoldings_meet m a b (inl h) (inl g) = inl (head_one m a b h g)
+unfoldings_meet m a b (inl h) (inr g) = absurd (head_below OneHead m a b h g)
+unfoldings_meet m a b (inr h) (inl g) = absurd (head_below OneHead m b a g h)
+unfoldings_meet (Seq m n) a b (inr (c, e, h)) (inr (d, f, g)) = meet_in (SeqFirst n) c d a b e f (unfoldings_meet m c d h g)
+unfoldings_meet (If m n p) a b (inr (c, e, h)) (inr (d, f, g)) = meet_in (IfTest n p) c d a b e f (unfoldings_meet m c d h g)
+unfoldings_meet (Bin op m n) a b (inr (c, e, h)) (inr (d, f, g)) = meet_in (BinLeft op n) c d a b e f (unfoldings_meet m c d h g)
+unfoldings_meet (Held k op n) a b (inr (c, e, h)) (inr (d, f, g)) = meet_in (HeldRight k op) c d a b e f (unfoldings_meet n c d h g)
+unfoldings_meet (Not m) a b (inr (c, e, h)) (inr (d, f, g)) = meet_in NotOf c d a b e f (unfoldings_meet m c d h g)
+unfoldings_meet (Assign m n) a b (inr (c, e, h)) (inr (d, f, g)) = meet_in (AssignRight m) c d a b e f (unfoldings_meet n c d h g)
+unfoldings_meet (Scope l m) a b (inr (c, e, h)) (inr (d, f, g)) = meet_in (ScopeBody l) c d a b e f (unfoldings_meet m c d h g)
+unfoldings_meet (Par m n) a b (inr (inl (c, e, h))) (inr (inl (d, f, g))) = meet_in (ParLeft n) c d a b e f (unfoldings_meet m c d h g)
+unfoldings_meet (Par m n) a b (inr (inr (c, e, h))) (inr (inr (d, f, g))) = meet_in (ParRight m) c d a b e f (unfoldings_meet n c d h g)
+unfoldings_meet (Par m n) a b (inr (inl (c, e, h))) (inr (inr (d, f, g))) = inr (
+  Par c d,
+  subst (λ (t : Term). Unfolds t (Par c d)) (sym e) (reached_plugged OneHead (ParRight c) n d g),
+  subst (λ (t : Term). Unfolds t (Par c d)) (sym f) (reached_plugged OneHead (ParLeft d) m c h),
+)
+unfoldings_meet (Par m n) a b (inr (inr (c, e, h))) (inr (inl (d, f, g))) = inr (
+  Par d c,
+  subst (λ (t : Term). Unfolds t (Par d c)) (sym e) (reached_plugged OneHead (ParLeft c) m d g),
+  subst (λ (t : Term). Unfolds t (Par d c)) (sym f) (reached_plugged OneHead (ParRight d) n c h),
+)
+unfoldings_meet m a b (inr h) (inr g) = absurd h
+
+-- where R changes a place, nothing unfolds there
+abbrev IsFinal : Rel → Type 0
+IsFinal R = (m t v : Term) → R m t → Unfolds m v → ⊥
+
+-- a change in a context
+stay_in : (R : Rel) (c : Context) (a v u : Term) → v ≡ plug c a → Reached R a u → (t : Term) × Reached R v t
+stay_in R c a v u e h = (plug c u, subst (λ (t : Term). Reached R t (plug c u)) (sym e) (reached_plugged R c a u h))
+
+reached_stays : (R : Rel) → IsFinal R → (m v t : Term) → Unfolds m v → Reached R m t → (u : Term) × Reached R v u
+reached_stays R final m v t h (inl g) = absurd (final m t v g h)
+reached_stays R final (Seq m n) v t (inr (c, e, h)) (inr (d, f, g)) =
+    let (u, stays) = reached_stays R final m c d h g in stay_in R (SeqFirst n) c v u e stays
+reached_stays R final (If m n p) v t (inr (c, e, h)) (inr (d, f, g)) =
+    let (u, stays) = reached_stays R final m c d h g in stay_in R (IfTest n p) c v u e stays
+reached_stays R final (Bin op m n) v t (inr (c, e, h)) (inr (d, f, g)) =
+    let (u, stays) = reached_stays R final m c d h g in stay_in R (BinLeft op n) c v u e stays
+reached_stays R final (Held k op n) v t (inr (c, e, h)) (inr (d, f, g)) =
+    let (u, stays) = reached_stays R final n c d h g in stay_in R (HeldRight k op) c v u e stays
+reached_stays R final (Not m) v t (inr (c, e, h)) (inr (d, f, g)) =
+    let (u, stays) = reached_stays R final m c d h g in stay_in R NotOf c v u e stays
+reached_stays R final (Assign m n) v t (inr (c, e, h)) (inr (d, f, g)) =
+    let (u, stays) = reached_stays R final n c d h g in stay_in R (AssignRight m) c v u e stays
+reached_stays R final (Scope l m) v t (inr (c, e, h)) (inr (d, f, g)) =
+    let (u, stays) = reached_stays R final m c d h g in stay_in R (ScopeBody l) c v u e stays
+reached_stays R final (Par m n) v t (inr (inl (c, e, h))) (inr (inl (d, f, g))) =
+    let (u, stays) = reached_stays R final m c d h g in stay_in R (ParLeft n) c v u e stays
+reached_stays R final (Par m n) v t (inr (inr (c, e, h))) (inr (inr (d, f, g))) =
+    let (u, stays) = reached_stays R final n c d h g in stay_in R (ParRight m) c v u e stays
+reached_stays R final (Par m n) v t (inr (inl (c, e, h))) (inr (inr (d, f, g))) = stay_in R (ParRight c) n v d e g
+reached_stays R final (Par m n) v t (inr (inr (c, e, h))) (inr (inl (d, f, g))) = stay_in R (ParLeft c) m v d e g
+reached_stays R final m v t (inl h) (inr g) = absurd (head_below R m v t h g)
+reached_stays R final m v t (inr h) (inr g) = absurd h
+
+-- a row of computation, and a label, are final
+value_rests : (m v : Term) → IsValue m → Unfolds m v → ⊥
+value_rests m v (inl e) h = none (subst (λ (x : Term). Unfolds x v) e h)
+  where
+    none : Unfolds Skip v → ⊥
+    none g = grind (arith, g)
+value_rests m v (inr (k, w, e)) h = none (subst (λ (x : Term). Unfolds x v) e h)
+  where
+    none : Unfolds (Lit k w) v → ⊥
+    none g = grind (arith, g)
+
+no_lower_loc : (m : Term) (l : ℕ) (v : Term) → m ≡ Loc l → Lower m v → ⊥
+no_lower_loc m l v e h = none (subst (λ (x : Term). Lower x v) e h)
+  where
+    none : Lower (Loc l) v → ⊥
+    none (inl g) = g
+    none (inr g) = g
+
+no_lower_import : (m : Term) (x : Name) (v : Term) → m ≡ Import x → Lower m v → ⊥
+no_lower_import m x v e h = none (subst (λ (t : Term). Lower t v) e h)
+  where
+    none : Lower (Import x) v → ⊥
+    none (inl g) = g
+    none (inr g) = g
+
+row_final : (s s' : Store) → IsFinal (Computes s s')
+row_final s s' (Seq m n) t v (em, et, es) (inr (c, e, h)) = value_rests m c (inl em) h
+row_final s s' (Par m n) t v (em, en, et, es) (inr (inl (c, e, h))) = value_rests m c (inl em) h
+row_final s s' (Par m n) t v (em, en, et, es) (inr (inr (c, e, h))) = value_rests n c (inl en) h
+row_final s s' (If m n p) t v (inl (em, et), es) (inr (c, e, h)) = value_rests m c (inr (1, 1, em)) h
+row_final s s' (If m n p) t v (inr (em, et), es) (inr (c, e, h)) = value_rests m c (inr (0, 1, em)) h
+row_final s s' (Bin op m n) t v (k, w, em, et, es) (inr (c, e, h)) = value_rests m c (inr (k, w, em)) h
+row_final s s' (Held k op n) t v (j, w, en, et, es) (inr (c, e, h)) = value_rests n c (inr (j, w, en)) h
+row_final s s' (Not m) t v (k, w, em, et, es) (inr (c, e, h)) = value_rests m c (inr (k, w, em)) h
+row_final s s' (Assign m n) t v (k, w, en, et, es) (inr (c, e, h)) = value_rests n c (inr (k, w, en)) h
+row_final s s' (Scope l m) t v (is, et, es) (inr (c, e, h)) = value_rests m c is h
+row_final s s' (Put m k) t v (d, em, here, et, es) (inl (inr (c, e, h))) = no_lower_loc m d.place c em h
+row_final s s' (Deref m) t v (d, em, here, et, es) (inl (inr (c, e, h))) = no_lower_loc m d.place c em h
+row_final s s' (App m n) t v g h = absurd g
+row_final s s' (Fst m) t v g h = absurd g
+row_final s s' (Snd m) t v g h = absurd g
+row_final s s' m t v g (inl (inl (inl h))) = absurd h
+row_final s s' m t v g (inl (inl (inr h))) = absurd h
+row_final s s' m t v g (inl (inr h)) = absurd h
+row_final s s' m t v g (inr h) = absurd h
+
+label_final : (i : Imports) (o : Label) → IsFinal (OneLabel i o)
+label_final i o (Put m k) t v (inl (x, w, em, h, e, et)) (inl (inr (c, f, g))) = no_lower_import m x c em g
+label_final i o (Deref m) t v (inl (x, w, em, h, e, et)) (inl (inr (c, f, g))) = no_lower_import m x c em g
+label_final i o (Import x) t v h (inl (inl (inl g))) = g
+label_final i o (Import x) t v h (inl (inl (inr g))) = g
+label_final i o (Import x) t v h (inl (inr g)) = g
+label_final i o (Import x) t v h (inr g) = g
+label_final i o (Wait x n) t v h (inl (inl (inl g))) = g
+label_final i o (Wait x n) t v h (inl (inl (inr g))) = g
+label_final i o (Wait x n) t v h (inl (inr g)) = g
+label_final i o (Wait x n) t v h (inr g) = g
+label_final i o (Put m k) t v h (inl (inl (inl g))) = g
+label_final i o (Put m k) t v h (inl (inl (inr g))) = g
+label_final i o (Put m k) t v h (inr g) = g
+label_final i o (Deref m) t v h (inl (inl (inl g))) = g
+label_final i o (Deref m) t v h (inl (inl (inr g))) = g
+label_final i o (Deref m) t v h (inr g) = g
+label_final i o m t v (inl h) g = absurd h
+label_final i o m t v (inr h) g = absurd h
+
+pub acts_stay : ActsStay
+acts_stay i Computing s s' m v t h g = reached_stays (Computes s s') (row_final s s') m v t h g
+acts_stay i (Showing o) s s' m v t h (g, e) = let (u, k) = reached_stays (OneLabel i o) (label_final i o) m v t h g in (u, (k, e))
+
+-- what comes after unfoldings comes after one more
+abbrev Active : Program → Act → Term → Store → Type 0
+Active q a m s = (d : Config) × Move q a (Running m s) d
+
+before_one : (q : Program) (a : Act) (m v : Term) (s : Store) → Unfolds m v → Active q a v s → Active q a m s
+before_one q a m v s h (d, (n, u, hs, g)) = (d, (suc n, u, (v, h, hs), g))
+
+answers_value : (o : Label) (m : Term) → Answers o m → IsValue m
+answers_value o m (inl (is, e)) = inl is
+answers_value o m (inr (k, w, is, e)) = inr (k, w, is)
+
+after_one : (q : Program) (a : Act) (n : ℕ) (m v u : Term) (s : Store) (d : Config) → Unfolds m v → Unfoldings n m u → ActsTo q.imports a s u d → Active q a v s
+after_one q a zero m v u s d h same g = by_end a d (subst (λ (x : Term). ActsTo q.imports a s x d) (sym same) g)
+  where
+    by_end : (a : Act) (d : Config) → ActsTo q.imports a s m d → Active q a v s
+    by_end Computing Idle k = absurd k
+    by_end (Showing o) Idle k = absurd (value_rests m v (answers_value o m k) h)
+    by_end a (Running t s') k =
+        let (w, stays) = acts_stay q.imports a s s' m v t h (acts_of q.imports a s s' m t k) in
+        (Running w s', (0, v, refl, acts_to q.imports a s s' v w stays))
+after_one q a (suc n) m v u s d h (x, one, more) g = by_meeting (unfoldings_meet m v x h one) (λ w right. after_one q a n x w u s d right more g)
+  where
+    by_meeting : (v ≡ x) ⊎ ((w : Term) × Unfolds v w × Unfolds x w) → ((w : Term) → Unfolds x w → Active q a w s) → Active q a v s
+    by_meeting (inl same) later = (d, (n, u, subst (λ (y : Term). Unfoldings n y u) (sym same) more, g))
+    by_meeting (inr (w, left, right)) later = before_one q a v w s left (later w right)
+
+one_before : (q : Program) (s : Store) (m v : Term) → Unfolds m v → Stalled q (Running v s) → Stalled q (Running m s)
+one_before q s m v h stalled = (
+  λ d (n, u, hs, g). let (e, move) = after_one q Computing n m v u s d h hs g in stalled.0 e move,
+  λ o d out (n, u, hs, g). let (e, move) = after_one q (Showing o) n m v u s d h hs g in stalled.1 o e out move,
+)
+
+pub waits_before : WaitsBefore
+waits_before q zero s m v same stalled = subst (λ (x : Term). Stalled q (Running x s)) (sym same) stalled
+waits_before q (suc n) s m v (u, h, hs) stalled = one_before q s m u h (waits_before q n s u v hs stalled)

@@ -1,0 +1,4 @@
+// In reading order.
+pub mod contexts;
+pub mod results;
+pub mod variables;

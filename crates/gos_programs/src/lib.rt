@@ -1,0 +1,7 @@
+// What a program does as a part of a larger one, what it ends with, and what a local variable is to it.
+//
+// Laws alone: each function does nothing, and its contract is the law. `laws.rt` has the chapters in reading order; the
+// definitions of a chapter stand in its folder of `specs`, and what it is about in README.md.
+#![tactic(auto)]
+
+pub mod laws;

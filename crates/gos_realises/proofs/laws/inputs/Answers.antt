@@ -1,8 +1,0 @@
-use Rattle.gos_realises.proofs.InputLemmas.{protocol_keeps_turns, matching_suffices}
-use Rattle.gos_realises.proofs.laws.inputs.Goals as goal
-
-pub returns-clause-turns : goal.returns-clause-turns
-returns-clause-turns c = protocol_keeps_turns
-
-pub returns-clause-matching : goal.returns-clause-matching
-returns-clause-matching c = matching_suffices

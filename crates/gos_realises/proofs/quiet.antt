@@ -1,0 +1,12 @@
+pub mod StepLemmas
+pub mod RankLemmas
+pub mod QuietLemmas
+pub mod TieLemmas
+pub mod FrameLemmas
+pub mod LadderLemmas
+pub mod LadderStepLemmas
+pub mod HoldLemmas
+pub mod SharedLemmas
+pub mod AloneLemmas
+pub mod AloneStepLemmas
+pub mod GrowLemmas

@@ -1,8 +1,0 @@
-// What the definitions give. Each theorem is the contract of a function that does nothing.
-ghost use Rattle.gos_restful.specs.Restful.{RestfulRests};
-
-/// A regular plan of a command or an expression rests after its answer exactly where it rests whenever nothing is open at
-/// its ports.
-pub fn resting()
-    ensures { RestfulRests }
-{}

@@ -1,5 +1,0 @@
-use Rattle.gos_runs.proofs.RunLemmas.{fork_realises}
-use Rattle.gos_runs.proofs.laws.forks_realise.Goals as goal
-
-pub returns : goal.returns
-returns c = fork_realises c.supplies_inside.ensures.realised c.branches_are_children.ensures.child c.branches_are_children.ensures.parts c.branches_cover.ensures

@@ -1,8 +1,0 @@
-use Rattle.gos_runs.proofs.SmallLemmas.{both_have_branches, second_has_none}
-use Rattle.gos_runs.proofs.laws.small_runs.Goals as goal
-
-pub returns-clause-both : goal.returns-clause-both
-returns-clause-both c = both_have_branches
-
-pub returns-clause-second : goal.returns-clause-second
-returns-clause-second c = second_has_none

@@ -1,0 +1,5 @@
+pub mod TokenLemmas
+pub mod LostLemmas
+pub mod VariableLemmas
+pub mod GroundLemmas
+pub mod SmallLemmas

@@ -1,3 +1,0 @@
-pub mod SimulationLemmas
-pub mod SimLemmas
-mod CompleteLemmas

@@ -1,8 +1,0 @@
-use Rattle.gos_stages.proofs.InsideRegularLemmas.{passing_is_regular_of, inside_is_regular}
-use Rattle.gos_stages.proofs.laws.regular_inside.Goals as goal
-
-pub returns-clause-passing : goal.returns-clause-passing
-returns-clause-passing c = passing_is_regular_of
-
-pub returns-clause-inside : goal.returns-clause-inside
-returns-clause-inside c = inside_is_regular

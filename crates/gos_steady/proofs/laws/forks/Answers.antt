@@ -1,5 +1,0 @@
-use Rattle.gos_steady.proofs.ForkLemmas.{fork_is_steady}
-use Rattle.gos_steady.proofs.laws.forks.Goals as goal
-
-pub returns : goal.returns
-returns c = fork_is_steady c.branches_are_children.ensures.child c.branches_are_children.ensures.parts c.branches_cover.ensures

@@ -1,0 +1,11 @@
+pub mod SeamLemmas
+pub mod SingleLemmas
+pub mod TogetherLemmas
+pub mod TermLemmas
+pub mod SideLemmas
+pub mod ReadingLemmas
+pub mod ApplicationLemmas
+pub mod OpenedLemmas
+pub mod BodyLemmas
+pub mod InTurnLemmas
+pub mod SmallFunctionLemmas

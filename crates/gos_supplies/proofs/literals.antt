@@ -1,0 +1,4 @@
+pub mod NumberLemmas
+pub mod ClosedLemmas
+pub mod LeafLemmas
+pub mod SmallLemmas

@@ -1,0 +1,5 @@
+pub mod NameLemmas
+pub mod WhenceLemmas
+pub mod LeftLemmas
+pub mod SupplyLemmas
+pub mod SmallLemmas

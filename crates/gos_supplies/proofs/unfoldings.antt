@@ -1,0 +1,10 @@
+pub mod OneWayLemmas
+pub mod WriteLemmas
+pub mod TypingLemmas
+pub mod HeadLemmas
+pub mod SmallHeadLemmas
+pub mod BodyTermLemmas
+pub mod FunctionLemmas
+pub mod SmallSuitLemmas
+pub mod PairLemmas
+pub mod SmallPairLemmas

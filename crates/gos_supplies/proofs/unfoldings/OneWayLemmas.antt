@@ -1,0 +1,64 @@
+-- What reads or writes a head unfolds in one way, as the head does, and does nothing else.
+use Rattle.std.specs.Prelude.{◌≡◌, ℕ}
+use Rattle.std.proofs.Common.{refl, sym, ◌∙◌, ap, subst, arith, inl, inr}
+use Rattle.gos_model.specs.Terms.{Name, Term, Import, Loc, Deref, Put}
+use Rattle.gos_model.specs.Stores.{Store}
+use Rattle.gos_model.specs.Typing.{Imports}
+use Rattle.gos_model.specs.Reach.{Unfolds}
+use Rattle.gos_model.specs.Moves.{Config, Idle, Running, Act, Computing, Showing, ActsTo}
+use Rattle.gos_model.proofs.HeadLemmas.{lower_one, IsReady}
+use Rattle.gos_supplies.specs.unfoldings.Heads.{UnfoldsHead}
+
+-- no location or name is a head
+not_place : (f t : Term) (l : ℕ) → f ≡ Loc l → UnfoldsHead f t → ⊥
+not_place f t l is h = none (subst (λ x. UnfoldsHead x t) is h)
+  where
+    none : UnfoldsHead (Loc l) t → ⊥
+    none (inl h) = h
+    none (inr h) = h
+
+not_import : (f t : Term) (x : Name) → f ≡ Import x → UnfoldsHead f t → ⊥
+not_import f t x is h = none (subst (λ y. UnfoldsHead y t) is h)
+  where
+    none : UnfoldsHead (Import x) t → ⊥
+    none (inl h) = h
+    none (inr h) = h
+
+-- what is read or written does nothing before it is a location or a name
+deref_rests : (f n : Term) → UnfoldsHead f n → (i : Imports) (a : Act) (s : Store) (c : Config) → ActsTo i a s (Deref f) c → ⊥
+deref_rests f n h i Computing s Idle act = act
+deref_rests f n h i Computing s (Running t u) (inl (e, is, found, to, same)) = not_place f n e.place is h
+deref_rests f n h i Computing s (Running t u) (inr act) = act
+deref_rests f n h i (Showing o) s Idle act = grind (arith, act)
+deref_rests f n h i (Showing o) s (Running t u) (inl (inl (x, w, is, of_type, shown, to)), e) = not_import f n x is h
+deref_rests f n h i (Showing o) s (Running t u) (inl (inr act), e) = act
+deref_rests f n h i (Showing o) s (Running t u) (inr act, e) = act
+
+put_rests : (f n : Term) (k : ℕ) → UnfoldsHead f n → (i : Imports) (a : Act) (s : Store) (c : Config) → ActsTo i a s (Put f k) c → ⊥
+put_rests f n k h i Computing s Idle act = act
+put_rests f n k h i Computing s (Running t u) (inl (e, is, found, to, same)) = not_place f n e.place is h
+put_rests f n k h i Computing s (Running t u) (inr act) = act
+put_rests f n k h i (Showing o) s Idle act = grind (arith, act)
+put_rests f n k h i (Showing o) s (Running t u) (inl (inl (x, w, is, of_type, shown, to)), e) = not_import f n x is h
+put_rests f n k h i (Showing o) s (Running t u) (inl (inr act), e) = act
+put_rests f n k h i (Showing o) s (Running t u) (inr act, e) = act
+
+only_deref : (f n u : Term) → UnfoldsHead f n → Unfolds (Deref f) u → Deref n ≡ u
+only_deref f n u h (inl (inl (inl other))) = absurd other
+only_deref f n u h (inl (inl (inr other))) = absurd other
+only_deref f n u h (inl (inr (v, e, other))) = ap (λ y. Deref y) (lower_one f n v h other) ∙ sym e
+only_deref f n u h (inr other) = absurd other
+
+pub deref_ready : (m n : Term) → UnfoldsHead m n → IsReady (Deref m) (Deref n)
+deref_ready m n h =
+    record { unfolds = inl (inr (n, refl, h)); only = λ u other. only_deref m n u h other; rests = deref_rests m n h }
+
+only_put : (f n u : Term) (k : ℕ) → UnfoldsHead f n → Unfolds (Put f k) u → Put n k ≡ u
+only_put f n u k h (inl (inl (inl other))) = absurd other
+only_put f n u k h (inl (inl (inr other))) = absurd other
+only_put f n u k h (inl (inr (v, e, other))) = ap (λ y. Put y k) (lower_one f n v h other) ∙ sym e
+only_put f n u k h (inr other) = absurd other
+
+pub put_ready : (m n : Term) (k : ℕ) → UnfoldsHead m n → IsReady (Put m k) (Put n k)
+put_ready m n k h =
+    record { unfolds = inl (inr (n, refl, h)); only = λ u other. only_put m n u k h other; rests = put_rests m n k h }

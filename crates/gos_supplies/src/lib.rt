@@ -1,0 +1,8 @@
+// What a plan does with plans for its imports: names, applications, functions, pairs, trees of instances; and which plans keep
+// turns and rest.
+//
+// Laws alone: each function does nothing, and its contract is the law. `laws.rt` has the chapters in reading order; the
+// definitions of a chapter stand in its folder of `specs`, and what it is about in README.md.
+#![tactic(auto)]
+
+pub mod laws;

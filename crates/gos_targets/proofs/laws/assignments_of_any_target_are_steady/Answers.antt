@@ -1,5 +1,0 @@
-use Rattle.gos_targets.proofs.SteadyLemmas.{any_assign_is_steady}
-use Rattle.gos_targets.proofs.laws.assignments_of_any_target_are_steady.Goals as goal
-
-pub returns : goal.returns
-returns c = any_assign_is_steady c.assignments.ensures c.regular_inside.ensures.inside

@@ -1,0 +1,15 @@
+pub mod TieLemmas
+pub mod SupplyLemmas
+pub mod LeafLemmas
+pub mod UseLemmas
+pub mod ClosedLemmas
+pub mod ReadLemmas
+pub mod CountLemmas
+pub mod SplitLemmas
+pub mod LostLemmas
+pub mod StandLemmas
+pub mod WithinLemmas
+pub mod SmallLemmas
+pub mod SmallLeafLemmas
+pub mod ReaderLemmas
+pub mod RegularLemmas

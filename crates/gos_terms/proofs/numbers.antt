@@ -1,0 +1,10 @@
+pub mod ListLemmas
+pub mod ScopeLemmas
+pub mod ApartLemmas
+pub mod PartLemmas
+pub mod InheritedLemmas
+pub mod RootLemmas
+pub mod ReachLemmas
+pub mod FreeLemmas
+pub mod UnsplitLemmas
+pub mod SmallKeptLemmas

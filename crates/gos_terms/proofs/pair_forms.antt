@@ -1,0 +1,4 @@
+pub mod SideLemmas
+pub mod PairLemmas
+pub mod CaseLemmas
+pub mod SmallPairLemmas

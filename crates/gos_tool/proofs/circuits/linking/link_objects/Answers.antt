@@ -1,0 +1,46 @@
+use Rattle.std.proofs.Common.{◌∙◌, length, List, Some, None, ap, refl}
+use Rattle.std.specs.Prelude.{IfSome}
+use Rattle.gos_plan.specs.Seen.{SeenPlan}
+use Rattle.gos_link.specs.declared.build.Instance.{Instance}
+use Rattle.gos_command.proofs.EndLemmas.{of_stopped}
+use Rattle.gos_tool.specs.circuits.Linked.{RejectsWhole}
+use Rattle.gos_tool.proofs.lemmas.circuits.ExitLemmas.{err_is, failed_as}
+use Rattle.gos_tool.proofs.lemmas.circuits.LinkLemmas.{held_as, linkable, whole_done, rejected_plans, plans_call, plans_cut_short}
+use Rattle.gos_tool.proofs.circuits.linking.link_objects.Goals as goal
+
+pub returns-clause-done : goal.returns-clause-done
+returns-clause-done g c =
+    let linked = c.in_ok-linked.linked in
+    let each = ap (λ (ps : List SeenPlan). length ps) c.as_slice-2.ensures.value
+    ∙ (c.in_ok-plans.ensures.each ∙ ap (λ (is : List Instance). length is) c.as_slice.ensures.value) in
+    let held = held_as _ _ _ _ _ c.as_slice.ensures.value c.as_slice-2.ensures.value c.in_ok-plans.ensures.held in
+    whole_done c.paced_circuits.ensures.linked (g.S.Store.contents c.args.store.now) (g.S.Store.contents c.plans_in.new.store) (g.S.Store.contents c.link_plans.new.store) c.args.build.now
+    c.as_slice-2.result.now linked.weight linked.net (record { weight = Some linked.weight; run = None }) c.in_ok-plans.ensures.same_files each held c.in_ok-linked.ensures.done refl
+
+pub returns-in_err-linked-clause-rejected : goal.returns-in_err-linked-clause-rejected
+returns-in_err-linked-clause-rejected g c =
+    let old = g.S.Store.contents c.args.store.now in
+    let own = c.args.own.now in
+    let b = c.args.build.now in
+    let held = held_as _ _ _ _ _ c.as_slice.ensures.value c.as_slice-2.ensures.value c.in_ok-plans.ensures.held in
+    rw (err_is _ c.from_residual-in_err-linked.ensures.1)
+    (of_stopped _ (λ fault line. IfSome old (λ files. RejectsWhole files own b fault line)) c.in_err-linked.field-0.0
+    (λ fault line h. rejected_plans old own b c.as_slice-2.result.now fault line held h) c.in_err-linked.ensures.rejected)
+
+pub returns-in_err-linked-clause-failed_call : goal.returns-in_err-linked-clause-failed_call
+returns-in_err-linked-clause-failed_call g c = λ failed.
+    let held = held_as _ _ _ _ _ c.as_slice.ensures.value c.as_slice-2.ensures.value c.in_ok-plans.ensures.held in
+    plans_call (g.S.Store.contents c.args.store.now) (g.S.Store.contents c.plans_in.new.store) (g.S.Store.contents c.link_plans.new.store) c.args.build.now
+    c.as_slice-2.result.now (g.S.Store.last_fault c.link_plans.new.store) c.in_ok-plans.ensures.same_files held
+    (c.in_err-linked.ensures.failed_call (failed_as _ c.from_residual-in_err-linked.ensures.1 failed))
+
+pub returns-in_err-linked-clause-memory_files : goal.returns-in_err-linked-clause-memory_files
+returns-in_err-linked-clause-memory_files g c = λ failed.
+    let held = held_as _ _ _ _ _ c.as_slice.ensures.value c.as_slice-2.ensures.value c.in_ok-plans.ensures.held in
+    plans_cut_short (g.S.Store.contents c.args.store.now) (g.S.Store.contents c.plans_in.new.store) (g.S.Store.contents c.link_plans.new.store) c.args.build.now
+    c.as_slice-2.result.now c.in_ok-plans.ensures.same_files held (c.in_err-linked.ensures.memory_files (failed_as _ c.from_residual-in_err-linked.ensures.1 failed))
+
+pub link_plans-requires-clause-plans : goal.link_plans-requires-clause-plans
+link_plans-requires-clause-plans g c =
+    linkable c.args.build.now _ _ _ c.as_slice.ensures.value c.as_slice-2.ensures.value c.in_ok-plans.ensures.each c.in_ok-plans.ensures.limits
+    c.requires.few_instances c.requires.few_binds

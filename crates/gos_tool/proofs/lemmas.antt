@@ -1,0 +1,6 @@
+-- The lemmas of each folder of src. In reading order.
+pub mod objects
+pub mod circuits
+pub mod simulate
+pub mod build
+pub mod demo

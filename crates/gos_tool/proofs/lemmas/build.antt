@@ -1,0 +1,9 @@
+pub mod ApartLemmas
+pub mod ObjectLemmas
+pub mod PlansLemmas
+pub mod PacedLemmas
+pub mod RoleLemmas
+pub mod HeadlineLemmas
+pub mod PulseLemmas
+pub mod CompleteLemmas
+pub mod BuildLemmas

@@ -1,0 +1,9 @@
+pub mod ExitLemmas
+pub mod PortLemmas
+pub mod CircuitLemmas
+pub mod ObjectLemmas
+pub mod WholeLemmas
+pub mod LinkLemmas
+pub mod PacedLemmas
+pub mod SameBuildLemmas
+pub mod CompleteLemmas

@@ -1,0 +1,25 @@
+-- The circuit of a plan that realises a module keeps pace with the module's program, and that of linked modules with the
+-- substituted one.
+use Rattle.std.proofs.Common.{subst}
+use Rattle.gos_model.specs.Moves.{Program}
+use Rattle.gos_pace.specs.Pace.{KeepsPaceAlways}
+use Rattle.gos_supplies.specs.ports.Ports.{OpenIsDone}
+use Rattle.gos_linked.specs.linked.Linked.{linked_program}
+use Rattle.gos_linked.specs.linked.Modules.{LinkedIsModule, LinkedIsDone}
+use Rattle.gos_tool.specs.circuits.Paced.{OpenCircuitsKeepPace, ModuleCircuitsKeepPace, LinkedCircuitsKeepPace}
+
+pub open_circuits : OpenIsDone → OpenCircuitsKeepPace
+open_circuits law root p m net right slim ports any circuit =
+    circuit.pace slim m (law p m right ports.ground ports.widths ports.names any ports.done).1
+
+pub module_circuits : OpenIsDone → ModuleCircuitsKeepPace
+module_circuits law root p m net realised ground widths done =
+    open_circuits law root p m net realised.right realised.slim (record { names = realised.names; ground = ground; widths = widths; done = done })
+    realised.open_imports
+
+pub linked_circuits : LinkedIsModule → LinkedIsDone → LinkedCircuitsKeepPace
+linked_circuits is_module is_done b ps whole programs root net l each all circuit =
+    let linked = is_module b ps whole programs l each all in
+    let (matched, program) = is_done b ps whole programs l each all in
+    subst (λ (p : Program). KeepsPaceAlways whole.weight p net) program
+    (circuit.pace linked.realises.slim (linked_program b ps whole l programs).body matched)

@@ -1,0 +1,4 @@
+pub mod ImportLemmas
+pub mod CheckedLemmas
+pub mod CompiledLemmas
+pub mod CompleteLemmas

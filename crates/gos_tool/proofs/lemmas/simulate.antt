@@ -1,0 +1,3 @@
+pub mod SimulationLemmas
+pub mod SimLemmas
+pub mod CompleteLemmas

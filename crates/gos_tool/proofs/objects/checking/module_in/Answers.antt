@@ -1,0 +1,17 @@
+use Rattle.std.proofs.Common.{◌≡◌, ◌∙◌, take}
+use Rattle.gos_outside.specs.Files.{bytes_at}
+use Rattle.gos_command.proofs.EndLemmas.{of_some}
+use Rattle.gos_tool.proofs.lemmas.objects.CheckedLemmas.{typed_file}
+use Rattle.gos_tool.proofs.lemmas.objects.CompiledLemmas.{few}
+use Rattle.gos_tool.proofs.objects.checking.module_in.Goals as goal
+
+pub returns-in-Ok-clause-typed : goal.returns-in-Ok-clause-typed
+returns-in-Ok-clause-typed g c =
+    let old = g.S.Store.contents c.args.store.now in
+    typed_file old c.args.source.now c.as_slice.result.now c.in-Ok.linear
+    (of_some (λ files. c.in_ok-text.text.items ≡ take 65537 (bytes_at files c.args.source.now)) (λ files. c.as_slice.result.now ≡ take 65537 (bytes_at files c.args.source.now)) old
+    (λ files e. c.as_slice.ensures.value ∙ e) c.in_ok-text.ensures.read)
+    c.in-Ok.ensures.typed
+
+pub returns-in-Ok-clause-few_imports : goal.returns-in-Ok-clause-few_imports
+returns-in-Ok-clause-few_imports g c = few c.as_slice.result.now c.in-Ok.linear c.in-Ok.ensures.typed

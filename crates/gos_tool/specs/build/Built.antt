@@ -1,0 +1,119 @@
+-- The command `build BUILD`: what it leaves, why it rejects a file, and which calls it makes.
+--
+-- Read first: Objects, Programs; Plans of circuits (linking, and the circuit of the whole); Pace of gos_pace; Simulation of
+-- simulate (its run under the pulse file). `old` and `new` are the files of the store before and after, `files` those
+-- before where it tells them. The pulse file is read after all but the trace is written, and no file that is written is one
+-- that is read.
+use Rattle.std.specs.Prelude.{◌≡◌, ◌⊎◌, ◌++◌, ◌+◌, ◌*◌, ◌≤◌, ℕ, List, [], ◌∷◌, length, map, Option, Some, IfSome}
+use Rattle.gos_outside.specs.Files.{Files, bytes_at}
+use Rattle.gos_outside.specs.OtherFiles.{OthersSame}
+use Rattle.gos_outside.specs.Faults.{LastFault, ReadFault}
+use Rattle.gos_lex.specs.Lines.{Word}
+use Rattle.gos_netlist.specs.Nets.{Netlist}
+use Rattle.gos_model.specs.Sources.{program_of}
+use Rattle.gos_model.specs.Linking.{link_weight}
+use Rattle.gos_pace.specs.Pace.{KeepsPaceAlways}
+use Rattle.gos_plan.specs.Seen.{SeenPlan}
+use Rattle.gos_link.specs.declared.build.Build.{Build}
+use Rattle.gos_command.specs.declared.report.Counts.{Counts}
+use Rattle.gos_command.specs.declared.report.Report.{Report}
+use Rattle.gos_command.specs.declared.status.Fault.{Fault}
+use Rattle.gos_tool.specs.circuits.Plans.{IsPlansDone, IsPlansCause, IsBuildFault, IsPlansCall, IsPlansCutShort}
+use Rattle.gos_tool.specs.circuits.Linked.{SaysBuild, IsFormCause}
+use Rattle.gos_tool.specs.simulate.Simulation.{LeavesTrace, IsPulseFault, IsSimulationCall}
+use Rattle.gos_tool.specs.build.Programs.{program_along, IsTyped}
+use Rattle.gos_tool.specs.build.Objects.{objects_of, AllWritten, SomeWritten, RejectsModule, IsModuleCall}
+
+-- The plans are linked and a circuit of the whole was written, and then the trace of this very circuit. The report has the
+-- weight of the whole and the numbers of the run.
+pub record IsPlansBuilt (old new : Option Files) (b : Build) (plans : List SeenPlan) (report : Report) : Type 0 where
+  pub net : Netlist
+  pub weight : ℕ
+  pub between : Option Files
+  pub counts : Counts
+  pub written : IsPlansDone old between b plans weight net
+  pub traced : LeavesTrace between new net b.pulses b.trace counts
+  pub tells : report ≡ record { weight = Some weight; run = Some counts }
+
+-- The build file says a build; the source of each instance says a module that is accepted, and the object file of the instance was
+-- written with the text of its plan; and all this is so for these plans. The circuit has the imports of the program of the
+-- linked modules as its ports, besides the root's, which has this program's type, and keeps pace with the program. Its weight is that of the modules, and it
+-- has few cells for it.
+pub record IsBuilt (files : Files) (new : Option Files) (own : Word) (report : Report) : Type 0 where
+  pub build : Build
+  pub plans : List SeenPlan
+  pub objects : Option Files
+  pub says : SaysBuild files own build
+  pub compiled : AllWritten files objects build.instances.items plans
+  pub built : IsPlansBuilt objects new build plans report
+  pub pace : KeepsPaceAlways built.weight (program_along compiled.modules built.written.linked.services built.written.linked.root) built.net
+  pub imports : built.written.whole.imports ≡ (program_along compiled.modules built.written.linked.services built.written.linked.root).imports
+  pub typed : IsTyped (program_along compiled.modules built.written.linked.services built.written.linked.root) built.written.whole.outcome
+  pub weighs : built.weight ≡ link_weight (map program_of compiled.modules)
+  pub few : length built.net.cells ≤ 128 * (built.weight + 1)
+
+-- the pulse file is rejected for the circuit of the plans, which was written
+pub record RejectsPulses (old new : Option Files) (b : Build) (plans : List SeenPlan) (fault : Fault) (line : List ℕ) : Type 0 where
+  pub net : Netlist
+  pub weight : ℕ
+  pub written : IsPlansDone old new b plans weight net
+  pub why : IfSome new (λ all. IsPulseFault all net b.pulses fault line)
+
+-- The first file that is rejected, once the plans are there: the build file for what it binds, or the pulse file. Before these
+-- a source, with the objects written of those before it; before all the build file for its form.
+abbrev pub RejectsPlans : Option Files → Option Files → Word → Build → List SeenPlan → Fault → List ℕ → Type 0
+RejectsPlans old new own b plans fault line =
+    (IsBuildFault own (IsPlansCause b plans) fault line × (new ≡ old)) ⊎ RejectsPulses old new b plans fault line
+
+abbrev pub RejectsInstances : Files → Option Files → Word → Build → Fault → List ℕ → Type 0
+RejectsInstances files new own b fault line =
+    RejectsModule files new b.instances.items fault line
+    ⊎ ((plans : List SeenPlan) × (objects : Option Files) × AllWritten files objects b.instances.items plans
+    × RejectsPlans objects new own b plans fault line)
+
+abbrev pub RejectsBuild : Files → Option Files → Word → Fault → List ℕ → Type 0
+RejectsBuild files new own fault line =
+    (IsBuildFault own (IsFormCause (bytes_at files own) own) fault line × (new ≡ Some files))
+    ⊎ ((b : Build) × SaysBuild files own b × RejectsInstances files new own b fault line)
+
+-- The calls of the store, each where what is judged before it is right, with what was written before it: those once the plans
+-- are there, those after the build file is read, and all.
+abbrev pub IsPlansBuildCall : Option Files → Option Files → Build → List SeenPlan → LastFault → Type 0
+IsPlansBuildCall old new b plans fault =
+    IsPlansCall old new b plans fault
+    ⊎ ((net : Netlist) × (weight : ℕ) × (between : Option Files) × IsPlansDone old between b plans weight net
+    × IsSimulationCall between new net b.pulses b.trace fault)
+
+abbrev pub IsInstancesCall : Files → Option Files → Build → LastFault → Type 0
+IsInstancesCall files new b fault =
+    IsModuleCall files new b.instances.items fault
+    ⊎ ((plans : List SeenPlan) × (objects : Option Files) × AllWritten files objects b.instances.items plans
+    × IsPlansBuildCall objects new b plans fault)
+
+abbrev pub IsBuildCall : Files → Option Files → Word → LastFault → Type 0
+IsBuildCall files new own fault =
+    ((fault ≡ ReadFault own) × (new ≡ Some files)) ⊎ ((b : Build) × SaysBuild files own b × IsInstancesCall files new b fault)
+
+-- what is left where memory runs out: some of the objects, or all; or these, and the netlist of a circuit of the linked plan; or
+-- its Verilog text too
+abbrev pub IsPlansBuildCutShort : Option Files → Option Files → Build → List SeenPlan → Type 0
+IsPlansBuildCutShort old new b plans =
+    IsPlansCutShort old new b plans ⊎ ((net : Netlist) × (weight : ℕ) × IsPlansDone old new b plans weight net)
+
+abbrev pub IsInstancesCutShort : Files → Option Files → Build → Type 0
+IsInstancesCutShort files new b =
+    SomeWritten files new b.instances.items
+    ⊎ ((plans : List SeenPlan) × (objects : Option Files) × AllWritten files objects b.instances.items plans
+    × IsPlansBuildCutShort objects new b plans)
+
+abbrev pub IsBuildCutShort : Files → Option Files → Word → Type 0
+IsBuildCutShort files new own = (new ≡ Some files) ⊎ ((b : Build) × SaysBuild files own b × IsInstancesCutShort files new b)
+
+-- the files that a build writes
+abbrev pub written_by : Build → List Word
+written_by b = objects_of b.instances.items ++ (b.net ∷ b.verilog ∷ b.trace ∷ [])
+
+-- All files are as they were, or the build file says b, and all but those that b names to be written are. What it says is one
+-- build (`IsOneBuild` of gos_link), so that b is any that it says.
+abbrev pub KeepsUnnamed : Word → Option Files → Option Files → Type 0
+KeepsUnnamed own old new = (new ≡ old) ⊎ ((b : Build) × IfSome old (λ files. SaysBuild files own b) × OthersSame (written_by b) old new)

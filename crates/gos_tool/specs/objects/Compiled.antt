@@ -1,0 +1,58 @@
+-- The command `compile SRC OBJ`.
+--
+-- Read first: Checked; Wiring of gos_compile (the plan of a module); Modules and Slim of gos_realises (what it is to realise a
+-- module); ObjectText and ObjectFaults of gos_plan (its text, and which texts are read).
+use Rattle.std.specs.Prelude.{◌≡◌, ◌⊎◌, ℕ, List, Option, Some, None, IfSome}
+use Rattle.gos_outside.specs.Files.{Files, bytes_at, with_file, SameBut}
+use Rattle.gos_outside.specs.Faults.{LastFault, ReadFault, WriteFault}
+use Rattle.gos_lex.specs.Lines.{Word}
+use Rattle.gos_types.specs.Types.{type_of}
+use Rattle.gos_syntax.specs.Modules.{SeenModule}
+use Rattle.gos_model.specs.Sources.{program_of}
+use Rattle.gos_check.specs.Accepted.{weighed}
+use Rattle.gos_check.specs.Nodes.{Numbered}
+use Rattle.gos_check.specs.Linearity.{StandsFor}
+use Rattle.gos_plan.specs.Plans.{Plan}
+use Rattle.gos_plan.specs.ObjectText.{text_of}
+use Rattle.gos_plan.specs.ObjectFaults.{IsRead}
+use Rattle.gos_realises.specs.realises.Modules.{RealisesModule}
+use Rattle.gos_realises.specs.realises.Slim.{IsSlim}
+use Rattle.gos_compile.specs.Wiring.{IsPlanOf}
+use Rattle.gos_supplies.specs.ports.Ports.{HaveWidths}
+use Rattle.gos_command.specs.declared.report.Report.{Report}
+use Rattle.gos_tool.specs.objects.Checked.{SaysModule}
+
+-- The plan of a module: its parts and joints are those of a typed term that stands for the module. The plan is slim and realises
+-- the module's program, its text is read as it, and the numbers of its imported variables fit widths.
+pub record IsPlanOfModule (m : SeenModule) (plan : Plan) : Type 0 where
+  pub term : Numbered
+  pub stands : StandsFor (program_of m) term
+  pub made : IsPlanOf (program_of m).imports (type_of m.result) (weighed m) term plan
+  pub slim : IsSlim plan
+  pub read : IsRead (text_of plan) plan
+  pub realises : RealisesModule plan (program_of m).body
+  pub widths : HaveWidths plan.imports
+
+-- the text is that of the plan of a module
+pub record IsObjectOf (text : List ℕ) (m : SeenModule) : Type 0 where
+  pub plan : Plan
+  pub compiled : IsPlanOfModule m plan
+  pub is : text ≡ text_of plan
+
+-- The source file says a module that is accepted, the text of its plan is written over the files before, and the report
+-- has its weight.
+pub record IsCompiled (files : Files) (new : Option Files) (source object : Word) (report : Report) : Type 0 where
+  pub made : SeenModule
+  pub text : List ℕ
+  pub says : SaysModule (bytes_at files source) made
+  pub compiled : IsObjectOf text made
+  pub wrote : new ≡ with_file object text (Some files)
+  pub tells : report ≡ record { weight = Some (weighed made); run = None }
+
+-- The calls of the store, each with what was written before it: the source is read, and the object is written where the
+-- source says a module that is accepted. A file whose write fails may hold anything.
+abbrev pub IsCompileCall : Option Files → Option Files → Word → Word → LastFault → Type 0
+IsCompileCall old new source object fault =
+    ((fault ≡ ReadFault source) × (new ≡ old))
+    ⊎ ((fault ≡ WriteFault object) × SameBut object old new
+    × IfSome old (λ files. (m : SeenModule) × SaysModule (bytes_at files source) m))

@@ -1,0 +1,49 @@
+// What the circuits of modules do. Each theorem is the contract of a function that does nothing.
+
+ghost use Rattle.gos_tool.specs.build.Complete.{BuildIsNotRejected, EmptyIsNotRight};
+ghost use Rattle.gos_tool.specs.build.Paced.{BuildHasImports, BuildHasWeight, BuildIsSmall, BuildIsTyped, BuildKeepsPace, HeadlineHolds, ModuleKeepsPace};
+ghost use Rattle.gos_tool.specs.build.SmallPrograms.{FirstIsNot, SecondIsBound};
+
+use crate::circuits::{paced_circuits, right_links};
+use crate::objects::accepted_sources;
+use crate::simulate::right_pulses;
+use gos_link::one_build;
+use gos_linked::laws::fits::slim_plans_fit;
+use gos_linked::laws::linked::linked_modules;
+
+/// The circuit of a module with ground imports keeps pace with the module's program, and that of a build's linked plan with the
+/// program of its linked modules. It has at most 128 (W + 1) cells, for their weight W.
+pub fn paced_modules()
+    ensures one { ModuleKeepsPace }
+    ensures linked { BuildKeepsPace }
+    ensures imports { BuildHasImports }
+    ensures typed { BuildIsTyped }
+    ensures weight { BuildHasWeight }
+    ensures small { BuildIsSmall }
+{
+    paced_circuits();
+    linked_modules();
+    slim_plans_fit();
+}
+
+/// A service binds the import of its number, by its name.
+pub fn small_programs()
+    ensures second { SecondIsBound }
+    ensures first { FirstIsNot }
+{}
+
+/// Where `build` is done, the headline holds of the files that it has left.
+pub fn headlines()
+    ensures { HeadlineHolds }
+{}
+
+/// Files that are right for `build` are not rejected. An empty build file is not right.
+pub fn right_builds()
+    ensures rejected { BuildIsNotRejected }
+    ensures empty { EmptyIsNotRight }
+{
+    one_build();
+    accepted_sources();
+    right_links();
+    right_pulses();
+}

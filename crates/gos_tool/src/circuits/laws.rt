@@ -1,0 +1,47 @@
+// What the circuits of plans that realise programs do. Each theorem is the contract of a function that does nothing.
+
+ghost use Rattle.gos_tool.specs.circuits.Complete.{LinkIsNotRejected, EmptyIsNoBuild};
+ghost use Rattle.gos_tool.specs.circuits.Paced.{EveryChoiceKeepsPace, LinkedCircuitsKeepPace, ModuleCircuitsKeepPace, OpenCircuitsKeepPace};
+ghost use Rattle.gos_tool.specs.circuits.SmallPaced.{CallHasPorts, FunctionHasNone};
+
+use gos_expand::cycles_are_lists;
+use gos_link::one_build;
+use gos_linked::laws::keeping::keeps_pace;
+use gos_linked::laws::linked::linked_modules;
+use gos_supplies::laws::ports::ports;
+
+/// The netlist of a slim plan keeps pace with each program that the plan realises, whichever directions of joints keep their
+/// registers, where it has no combinational cycle: so does what `expand_with` gives for any choice.
+pub fn every_choice()
+    ensures { EveryChoiceKeepsPace }
+{
+    cycles_are_lists();
+    keeps_pace();
+}
+
+/// The circuit of a slim plan keeps pace with each term that the plan realises with any supplies, where its imports have
+/// different names and ground types and its result is a command or an expression; so it does where the plan realises a
+/// module, and where it links plans that do.
+pub fn paced_circuits()
+    ensures open_imports { OpenCircuitsKeepPace }
+    ensures modules { ModuleCircuitsKeepPace }
+    ensures linked { LinkedCircuitsKeepPace }
+{
+    ports();
+    linked_modules();
+}
+
+/// A command that calls an imported one has ports as a circuit may have, and a function has not.
+pub fn small_circuits()
+    ensures call { CallHasPorts }
+    ensures function { FunctionHasNone }
+{}
+
+/// Files that are right for `link` are not rejected. An empty build file is not right.
+pub fn right_links()
+    ensures rejected { LinkIsNotRejected }
+    ensures empty { EmptyIsNoBuild }
+{
+    one_build();
+    gos_plan::one_answer();
+}

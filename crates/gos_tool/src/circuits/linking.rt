@@ -1,0 +1,77 @@
+// The command `link BUILD`: the build file and the objects are read, and the circuit of the whole is written.
+
+ghost use Rattle.std.specs.Prelude.{◌≡◌, ◌≤◌, ◌∷◌, [], length, IfOk, IfErr, IfSome, IsErrOf};
+ghost use Rattle.gos_outside.specs.FileName.{IsFileName};
+ghost use Rattle.gos_outside.specs.OtherFiles.{OthersSame};
+ghost use Rattle.gos_outside.specs.Faults.{Rose};
+ghost use Rattle.gos_command.specs.Ends.{IfStopped, IsTold};
+ghost use Rattle.gos_tool.specs.circuits.Linked.{IsLinkDone, RejectsWhole, RejectsLink};
+ghost use Rattle.gos_tool.specs.circuits.Linked.{IsWholeCall, IsLinkCall, IsWholeCutShort, IsLinkCutShort, KeepsUnnamed};
+ghost use Rattle.gos_tool.specs.circuits.inner.Wholes.{IsWholeDone};
+
+use crate::circuits::build_file::build_in;
+use crate::circuits::laws::paced_circuits;
+use crate::circuits::objects::plans_in;
+use crate::circuits::plans::link_plans;
+use gos_command::{Report, Stop};
+use gos_link::Build;
+use gos_outside::Store;
+use std::alloc::Global;
+
+/// Reads the build file `own` and the object files of its instances, links their plans, and writes the netlist of a circuit
+/// of the whole and its Verilog text.
+///
+/// The build file is rejected with its first wrong line, or else the first object file that is none, or else the build file
+/// with the first reason for which these can't be linked.
+pub fn link_build<S: Store>(alloc: Global, own: &[u8], store: &mut S) -> Result<Report, Stop>
+    requires { IsFileName own.now }
+    ensures done { IfOk result (IsLinkDone (S.contents store.old) (S.contents store.new) own.now) }
+    ensures rejected { IfErr result (λ stop. IfStopped stop (λ fault line.
+        IfSome (S.contents store.old) (λ files. RejectsLink files own.now fault line))) }
+    ensures told { IfErr result (λ stop. IfStopped stop IsTold) }
+    ensures rejected_files { IfErr result (λ stop. IfStopped stop (λ fault line. S.contents store.new ≡ S.contents store.old)) }
+
+    // The store is blamed only for a call that failed, and that the command makes then.
+    ensures failed_only { IsErrOf result Stop.StoreFailed → Rose (S.faults store.old) (S.faults store.new) }
+    ensures failed_call { IsErrOf result Stop.StoreFailed →
+        IsLinkCall (S.contents store.old) (S.contents store.new) own.now (S.last_fault store.new) }
+    ensures same_count { (¬ (IsErrOf result Stop.StoreFailed)) → S.faults store.new ≡ S.faults store.old }
+    ensures memory_files { IsErrOf result Stop.NoMemory → IsLinkCutShort (S.contents store.old) (S.contents store.new) own.now }
+    ensures never_falls { S.faults store.old ≤ S.faults store.new }
+    ensures others { KeepsUnnamed own.now (S.contents store.old) (S.contents store.new) }
+{
+    let build = build_in(alloc, own, store)?;
+    link_objects(alloc, own, &build, store)
+}
+
+// Reads the object files, links their plans, and writes the circuit of the whole.
+fn link_objects<S: Store>(
+    alloc: Global,
+    own: &[u8],
+    build: &Build,
+    store: &mut S,
+) -> Result<Report, Stop>
+    requires own { IsFileName own.now }
+    requires few_instances { length build.now.instances.items ≤ 65536 }
+    requires few_binds { length build.now.binds.items ≤ 65536 }
+    ensures done { IfOk result (IsWholeDone (S.contents store.old) (S.contents store.new) build.now) }
+    ensures rejected { IfErr result (λ stop. IfStopped stop (λ fault line.
+        IfSome (S.contents store.old) (λ files. RejectsWhole files own.now build.now fault line))) }
+    ensures told { IfErr result (λ stop. IfStopped stop IsTold) }
+    ensures rejected_files { IfErr result (λ stop. IfStopped stop (λ fault line. S.contents store.new ≡ S.contents store.old)) }
+    ensures failed_only { IsErrOf result Stop.StoreFailed → Rose (S.faults store.old) (S.faults store.new) }
+    ensures failed_call { IsErrOf result Stop.StoreFailed →
+        IsWholeCall (S.contents store.old) (S.contents store.new) build.now (S.last_fault store.new) }
+    ensures same_count { (¬ (IsErrOf result Stop.StoreFailed)) → S.faults store.new ≡ S.faults store.old }
+    ensures memory_files { IsErrOf result Stop.NoMemory → IsWholeCutShort (S.contents store.old) (S.contents store.new) build.now }
+    ensures never_falls { S.faults store.old ≤ S.faults store.new }
+    ensures others { OthersSame (build.now.net ∷ build.now.verilog ∷ []) (S.contents store.old) (S.contents store.new) }
+{
+    paced_circuits();
+    let plans = plans_in(alloc, build.instances.as_slice(), store)?;
+    let linked = link_plans(alloc, own, build, plans.as_slice(), store)?;
+    Ok(Report {
+        weight: Some(linked.weight),
+        run: None,
+    })
+}

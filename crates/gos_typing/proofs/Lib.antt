@@ -1,5 +1,0 @@
-pub mod NameLemmas
-pub mod WhenceLemmas
-pub mod LeftLemmas
-mod SupplyLemmas
-mod SmallLemmas

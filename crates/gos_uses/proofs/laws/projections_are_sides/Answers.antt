@@ -1,8 +1,0 @@
-use Rattle.gos_uses.proofs.SideLemmas.{first_is_side, second_is_side}
-use Rattle.gos_uses.proofs.laws.projections_are_sides.Goals as goal
-
-pub returns-clause-first : goal.returns-clause-first
-returns-clause-first c = first_is_side
-
-pub returns-clause-second : goal.returns-clause-second
-returns-clause-second c = second_is_side

@@ -1,5 +1,0 @@
-use Rattle.gos_variables.proofs.SmallLemmas.{one_waits, wait_is_reached, labels_are_counted, answers_are_not_active}
-use Rattle.gos_variables.proofs.laws.small_variables.Goals as goal
-
-pub returns : goal.returns
-returns c = record { one = one_waits; reached = wait_is_reached; counted = labels_are_counted; active = answers_are_not_active }

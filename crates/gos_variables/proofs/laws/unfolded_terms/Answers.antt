@@ -1,5 +1,0 @@
-use Rattle.gos_variables.proofs.UnfoldedLemmas.{unfoldings_meet, acts_stay, waits_before}
-use Rattle.gos_variables.proofs.laws.unfolded_terms.Goals as goal
-
-pub returns : goal.returns
-returns c = record { meet = unfoldings_meet; stay = acts_stay; waits = waits_before }

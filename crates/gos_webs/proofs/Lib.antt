@@ -1,8 +1,0 @@
-pub mod WayLemmas
-pub mod IdleLemmas
-pub mod WebLemmas
-pub mod MovedLemmas
-pub mod CutLemmas
-pub mod LoneCutLemmas
-pub mod SmallWebLemmas
-mod CutListLemmas
