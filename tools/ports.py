@@ -1,4 +1,4 @@
-"""The ports of a netlist's text, and the pulses of a trace (docs/FORMATS.md): what tools/vcd, tools/wave and tools/picture read."""
+"""The ports of a netlist's text, and the pulses of a trace (docs/FORMATS.md): what tools/gos-vcd, tools/gos-wave and tools/gos-picture read."""
 import sys
 from dataclasses import dataclass
 from pathlib import Path
