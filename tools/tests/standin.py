@@ -109,7 +109,7 @@ class Repository:
 
     def run(self, command, room, **more):
         """Runs a command of a shell in a folder."""
-        how = {"cwd": room, "capture_output": True, "text": True, "env": self.environment(**more), "timeout": 300}
+        how = {"cwd": room, "capture_output": True, "text": True, "env": self.environment(**more), "timeout": 900}
         return subprocess.run(["bash", "-c", command], **how)
 
     def stub(self, *names):

@@ -18,6 +18,9 @@ import standin
 
 TOP = Path(__file__).resolve().parent.parent.parent
 TOOLS, LATCH = TOP / "tools", TOP / "examples" / "latch"
+# What tools/quick and the gate run.
+TRIED = ("tools/house", "examples/run", "tools/tests/test_tools.py", "tools/tests/tutorial",
+         *(f"tools/tests/test_{it}.py" for it in "play where costs cookbook lib".split()))
 WORDS = re.search(r"The words are `([^`]+)`", (TOP / "docs" / "LANGUAGE.md").read_text().replace("\n  ", " "))[1].split()
 
 
@@ -292,7 +295,7 @@ class Script(Standin):
         self.assertEqual(list(self.out.glob("try-*")), [])
 
     def test_quick(self):
-        self.repository.stub("tools/house", "tools/tests/test_tools.py", "tools/tests/tutorial", "examples/run")
+        self.repository.stub(*TRIED)
         self.assertRegex(self.do("quick").stdout, r"\nquick: all pass, by a preview, which is not proved, in \d+ s\n$")
         self.do("prove")
         ran = self.do("quick", FAILS="examples/run")
@@ -300,7 +303,7 @@ class Script(Standin):
         self.assertEqual((ran.returncode, ran.stderr), (1, ""))
 
     def test_what_the_gate_proved_is_the_program(self):
-        self.repository.stub("tools/house", "tools/tests/test_tools.py", "tools/tests/tutorial", "examples/run")
+        self.repository.stub(*TRIED)
         self.assertEqual(self.do(f"{self.top}/.ci/run", FAILS="yes").returncode, 1)
         self.assertRegex(self.do("gos").stderr, self.UNPROVED)
         self.assertEqual(self.do(f"{self.top}/.ci/run").returncode, 0)

@@ -1,0 +1,134 @@
+"""Build files, and runs of the program gos: what tools/gos-play, tools/gos-why, tools/gos-bench and tools/gos-formal share."""
+import argparse
+import subprocess
+import sys
+from dataclasses import dataclass, field
+from pathlib import Path
+
+import ports
+
+TOP = Path(__file__).resolve().parent.parent
+# The statuses of these tools, beside 0.
+WORDS_ARE_WRONG, FILE_IS_WRONG, RUN_IS_WRONG = 1, 2, 3
+
+
+class Wrong(Exception):
+    """What is wrong with a file or with a run, in a sentence, and the status that a tool ends with."""
+
+    def __init__(self, said, status=FILE_IS_WRONG):
+        super().__init__(said)
+        self.status = status
+
+
+class Parser(argparse.ArgumentParser):
+    """Words of a command: its help is the docstring of the tool, and wrong words end with status 1."""
+
+    def __init__(self, doc):
+        super().__init__(description=doc, formatter_class=argparse.RawDescriptionHelpFormatter, usage=argparse.SUPPRESS)
+
+    def error(self, message):
+        print(f"{self.prog}: {message}; {self.prog} --help says more", file=sys.stderr)
+        raise SystemExit(WORDS_ARE_WRONG)
+
+
+@dataclass
+class Build:
+    """What a build file says: its sources with their objects, and the names of its other files."""
+
+    objects: list = field(default_factory=list)
+    files: dict = field(default_factory=dict)
+
+
+def read_text(name):
+    """The text of a file."""
+    try:
+        return Path(name).read_text(errors="replace")
+    except OSError as error:
+        raise Wrong(f"{name}: {error.strerror or error}") from error
+
+
+def write_text(name, text):
+    try:
+        Path(name).write_text(text)
+    except OSError as error:
+        raise Wrong(f"{name}: {error.strerror or error}") from error
+
+
+def statements(text):
+    """The lines of a build file or a pulse file that say something, each with its number and its words."""
+    for number, line in enumerate(text.split("\n"), 1):
+        words = line.split()
+        if words and not words[0].startswith("#"):
+            yield number, words
+
+
+def is_build(text):
+    return next((words for _, words in statements(text)), None) == ["gosbuild", "1"]
+
+
+def build_of(name, text):
+    """The build of a build file's text; the program itself says what is wrong with one."""
+    if not is_build(text):
+        raise Wrong(f"{name}: this is no build file")
+    build = Build()
+    for _, words in statements(text):
+        if words[0] == "inst" and len(words) == 4:
+            build.objects.append((words[2], words[3]))
+        elif words[0] in ("root", "net", "verilog", "pulses", "trace") and len(words) == 2:
+            build.files[words[0]] = words[1]
+    missing = {"root", "net", "verilog", "pulses", "trace"} - build.files.keys()
+    if missing:
+        raise Wrong(f"{name}: it has no line of {', '.join(sorted(missing))}")
+    return build
+
+
+def read_ports(name, text=None):
+    """The ports of the netlist in a file, or of a text that was read from it."""
+    text = read_text(name) if text is None else text
+    try:
+        if not text.startswith("gosnet 1\n"):
+            raise ValueError
+        return ports.ports_of(text)
+    except (ValueError, KeyError, IndexError, StopIteration) as error:
+        raise Wrong(f"{name}: this is no netlist; gos sim says where it stops being one") from error
+
+
+def read_trace(name, events):
+    """The pulses of a trace of a netlist with these events, each as its cycle, its event and its value or none; and its cycles."""
+    try:
+        pulses, cycles = ports.pulses_of(read_text(name))
+    except (ValueError, IndexError) as error:
+        raise Wrong(f"{name}: this is no trace") from error
+    unknown = {event for _, event, _ in pulses} - set(events)
+    if unknown or not cycles:
+        raise Wrong(f"{name}: this is no trace of this netlist" + (f", which has no event {min(unknown)}" if unknown else ""))
+    return pulses, cycles
+
+
+def call(gos, *words):
+    """Runs gos, and gives the line that it prints. Each other status than 0 is an error."""
+    try:
+        ran = subprocess.run([str(gos), *map(str, words)], stdout=subprocess.PIPE, text=True, check=False)
+    except OSError as error:
+        raise Wrong(f"{gos}: {error.strerror or error}", RUN_IS_WRONG) from error
+    if ran.returncode:
+        raise Wrong(ran.stdout.strip() or f"gos {' '.join(map(str, words))} ended with status {ran.returncode}", RUN_IS_WRONG)
+    return ran.stdout.strip()
+
+
+def link(gos, name, build):
+    """Compiles each source of a build and links them: its netlist and its Verilog text are written."""
+    for source, target in build.objects:
+        call(gos, "compile", source, target)
+    return call(gos, "link", name)
+
+
+def ended(main, words):
+    """What a tool ends with: the status of its main function, or that of what it found wrong, which is printed."""
+    try:
+        return main(words) or 0
+    except Wrong as wrong:
+        print(wrong, file=sys.stderr)
+        return wrong.status
+    except BrokenPipeError:
+        return 0

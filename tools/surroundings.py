@@ -1,0 +1,522 @@
+"""What stands at the ports of a circuit: the devices that tools/gos-play knows (docs/PLAY.md), each one twice.
+
+Each device has methods that do in Python what it does in a cycle, and methods that give the same as lines of Verilog. In a cycle
+
+1. the outputs of the circuit are seen (`see`, `seen`): requests open handshakes and write memories, answers close them;
+2. levels change (`Source.move`, `moved`);
+3. what is due is given to the circuit (`give`, `gives`);
+4. the pulses of the cycle are noted by whoever counts from them (`note`, `noted`).
+
+Each of these goes through the ports in the netlist's order. Chance is that of a `Dice`, which throws the same in both languages.
+"""
+from dataclasses import dataclass, field
+
+NEVER = -1
+
+
+class Dice:
+    """Numbers by chance, one row of them for each port and seed (Marsaglia's xorshift of 32 bits)."""
+
+    FUNCTION = [
+        "function [31:0] stirred(input [31:0] s);",
+        "  begin",
+        "    stirred = s ^ (s << 13);",
+        "    stirred = stirred ^ (stirred >> 17);",
+        "    stirred = stirred ^ (stirred << 5);",
+        "  end",
+        "endfunction",
+    ]
+
+    def __init__(self, port, seed, place):
+        self.net = f"{port}__dice"
+        self.first = self.state = (seed * 2654435761 + (place + 1) * 2246822519) % 2**32 or 1
+        for _ in range(4):
+            self.stir()
+        self.first = self.state
+
+    def stir(self):
+        s = self.state
+        s ^= (s << 13) & 0xFFFFFFFF
+        s ^= s >> 17
+        self.state = s ^ ((s << 5) & 0xFFFFFFFF)
+
+    def throw(self, low, high):
+        if low == high:
+            return low
+        self.stir()
+        return low + self.state % (high - low + 1)
+
+    def thrown(self, low, high):
+        """The same in Verilog: statements, and then the number as an expression."""
+        if low == high:
+            return [], str(low)
+        number = self.net if high - low + 1 == 2**32 else f"(32'd{low} + {self.net} % 32'd{high - low + 1})"
+        return [f"{self.net} = stirred({self.net});"], number
+
+    def declared(self):
+        return [f"reg [31:0] {self.net} = 32'd{self.first};"]
+
+
+@dataclass
+class Delay:
+    """So many cycles, or by chance one of these numbers of cycles."""
+
+    low: int = 0
+    high: int = 0
+
+
+class After:
+    """When an answer comes: so many cycles after its request."""
+
+    def __init__(self, delay, dice):
+        self.delay, self.dice, self.due = delay, dice, 0
+
+    def asked(self, cycle):
+        self.due = cycle + self.dice.throw(self.delay.low, self.delay.high)
+
+    def next(self, cycle):
+        """The first cycle from this one on in which an answer may come."""
+        return max(cycle, self.due)
+
+    def note(self, cycle, events):
+        pass
+
+    def verilog(self, net):
+        """The lines of declaring, of being asked and of noting, and whether an answer may come."""
+        throws, number = self.dice.thrown(self.delay.low, self.delay.high)
+        return [f"integer {net}__due = 0;"], [*throws, f"{net}__due = cycle + {number};"], [], f"cycle >= {net}__due"
+
+
+class Every:
+    """When an answer comes: in each so manyth cycle, counted from the beginning or from the last pulse of an event."""
+
+    def __init__(self, cycles, event):
+        self.cycles, self.event, self.base = cycles, event, 0
+
+    def asked(self, cycle):
+        pass
+
+    def next(self, cycle):
+        rounds = max(1, -(-(cycle - self.base) // self.cycles))
+        return self.base + rounds * self.cycles
+
+    def note(self, cycle, events):
+        if self.event and self.event.name in events:
+            self.base = cycle
+
+    def verilog(self, net):
+        noted = [f"if ({self.event.verilog}) {net}__base = cycle;"] if self.event else []
+        due = f"cycle > {net}__base && (cycle - {net}__base) % {self.cycles} == 0"
+        return [f"integer {net}__base = 0;"], [], noted, due
+
+
+class Source:
+    """Where the values of answers come from. `limit` is how many there are, where they come to an end."""
+
+    limit = None
+
+    def value(self, cycle):
+        return None
+
+    def move(self, cycle):
+        pass
+
+    def note(self, cycle, events):
+        pass
+
+    def declared(self):
+        return []
+
+    def prepared(self):
+        """What is set up before the first cycle."""
+        return []
+
+    def moved(self):
+        return []
+
+    def noted(self):
+        return []
+
+    def gives(self, net):
+        """The lines by which the net of the value gets it."""
+        return []
+
+
+class Row(Source):
+    """Values, one after the other; then none, or the last one for ever, or all of them again."""
+
+    def __init__(self, port, bits, values, end):
+        self.net, self.bits, self.values, self.end, self.at = f"{port}__row", bits, values, end, 0
+        self.limit = None if end else len(values)
+
+    def value(self, cycle):
+        value = self.values[self.at]
+        if self.at + 1 < len(self.values):
+            self.at += 1
+        elif self.end == "again":
+            self.at = 0
+        return value
+
+    def declared(self):
+        return [f"reg [{self.bits - 1}:0] {self.net} [0:{len(self.values) - 1}];", f"integer {self.net}__at = 0;"]
+
+    def prepared(self):
+        return [f"{self.net}[{at}] = {self.bits}'d{value};" for at, value in enumerate(self.values)]
+
+    def gives(self, net):
+        last = len(self.values) - 1
+        yield f"{net} = {self.net}[{self.net}__at];"
+        yield f"if ({self.net}__at < {last}) {self.net}__at = {self.net}__at + 1;"
+        if self.end == "again":
+            yield f"else {self.net}__at = 0;"
+
+
+class Chance(Source):
+    """A value by chance, of a range."""
+
+    def __init__(self, low, high, dice):
+        self.low, self.high, self.dice = low, high, dice
+
+    def value(self, cycle):
+        return self.dice.throw(self.low, self.high)
+
+    def gives(self, net):
+        throws, number = self.dice.thrown(self.low, self.high)
+        return [*throws, f"{net} = {number};"]
+
+
+@dataclass
+class Change:
+    """A change of a level: to this value, so many cycles after an event, or after the beginning where there is none."""
+
+    value: int
+    delay: Delay
+    event: object = None
+    due: int = NEVER
+
+
+class Level(Source):
+    """What a pin shows when it is asked: a value, until one of the changes comes."""
+
+    def __init__(self, port, bits, first, changes, dice):
+        self.net, self.bits, self.first, self.now, self.changes, self.dice = f"{port}__level", bits, first, first, changes, dice
+        for change in changes:
+            if not change.event:
+                change.due = dice.throw(change.delay.low, change.delay.high)
+        self.at_first = [change.due for change in changes]
+        # in Verilog the dice are thrown from here on
+        dice.first = dice.state
+
+    def move(self, cycle):
+        for change in sorted((it for it in self.changes if NEVER < it.due <= cycle), key=lambda it: it.due):
+            self.now, change.due = change.value, NEVER
+
+    def value(self, cycle):
+        return self.now
+
+    def note(self, cycle, events):
+        for change in self.changes:
+            if change.event and change.event.name in events:
+                change.due = cycle + self.dice.throw(change.delay.low, change.delay.high)
+
+    def declared(self):
+        yield f"reg [{self.bits - 1}:0] {self.net} = {self.bits}'d{self.first};"
+        for at, due in enumerate(self.at_first):
+            yield f"integer {self.net}__due{at} = {due};"
+
+    def moved(self):
+        for at, change in enumerate(self.changes):
+            yield f"if (cycle == {self.net}__due{at}) {self.net} = {self.bits}'d{change.value};"
+
+    def noted(self):
+        for at, change in enumerate(self.changes):
+            if change.event:
+                throws, number = self.dice.thrown(change.delay.low, change.delay.high)
+                yield f"if ({change.event.verilog}) begin"
+                yield from (f"  {line}" for line in [*throws, f"{self.net}__due{at} = cycle + {number};"])
+                yield "end"
+
+    def gives(self, net):
+        return [f"{net} = {self.net};"]
+
+
+class Wave(Source):
+    """What a line shows when it is asked: values, each for so many cycles, from a cycle on; before it `idle`, then the last."""
+
+    def __init__(self, port, bits, values, each, begin, idle, again):
+        self.net, self.bits, self.values, self.each = f"{port}__wave", bits, values, each
+        self.begin, self.idle, self.again = begin, idle, again
+
+    def value(self, cycle):
+        if cycle < self.begin:
+            return self.idle
+        at = (cycle - self.begin) // self.each
+        return self.values[at % len(self.values) if self.again else min(at, len(self.values) - 1)]
+
+    def declared(self):
+        return [f"reg [{self.bits - 1}:0] {self.net} [0:{len(self.values) - 1}];", f"integer {self.net}__at = 0;"]
+
+    def prepared(self):
+        return [f"{self.net}[{at}] = {self.bits}'d{value};" for at, value in enumerate(self.values)]
+
+    def gives(self, net):
+        count = len(self.values)
+        at = f"{self.net}__at"
+        yield f"{at} = (cycle - {self.begin}) / {self.each};"
+        yield f"{at} = {at} % {count};" if self.again else f"if ({at} >= {count}) {at} = {count - 1};"
+        if self.begin:
+            yield f"if (cycle < {self.begin}) {net} = {self.bits}'d{self.idle};"
+            yield f"else {net} = {self.net}[{at}];"
+        else:
+            yield f"{net} = {self.net}[{at}];"
+
+
+class Memory(Source):
+    """A variable; or an array, of which the variable at another port says which place is meant."""
+
+    def __init__(self, port, bits, cells, index=None):
+        self.net, self.bits, self.first, self.cells, self.index = f"{port}__cells", bits, list(cells), list(cells), index
+        self.wrong = []
+
+    def place(self):
+        return self.index.cells[0] if self.index else 0
+
+    def value(self, cycle):
+        return self.cells[self.place()] if self.place() < len(self.cells) else 0
+
+    def write(self, cycle, value):
+        if self.place() < len(self.cells):
+            self.cells[self.place()] = value
+
+    def declared(self):
+        return [f"reg [{self.bits - 1}:0] {self.net} [0:{len(self.cells) - 1}];"]
+
+    def prepared(self):
+        return [f"{self.net}[{at}] = {self.bits}'d{value};" for at, value in enumerate(self.first)]
+
+    def guarded(self):
+        """The place in Verilog, and whether it is one, where it need not be."""
+        if not self.index:
+            return "0", None
+        place = f"{self.index.net}[0]"
+        return place, None if len(self.cells) >= 2**self.index.bits else f"{place} < {len(self.cells)}"
+
+    def gives(self, net):
+        place, guard = self.guarded()
+        return [f"{net} = {guard} ? {self.net}[{place}] : 0;" if guard else f"{net} = {self.net}[{place}];"]
+
+    def writes(self, net):
+        """The lines by which it takes what a net has."""
+        place, guard = self.guarded()
+        return [(f"if ({guard}) " if guard else "") + f"{self.net}[{place}] = {net};"]
+
+
+class Wanted(Memory):
+    """A variable to which these values have to be written, in this order, and no others."""
+
+    def __init__(self, port, bits, values):
+        super().__init__(port, bits, [0])
+        self.port, self.values, self.at = port, values, 0
+
+    def write(self, cycle, value):
+        super().write(cycle, value)
+        want = self.values[self.at] if self.at < len(self.values) else None
+        if value != want:
+            self.wrong.append(f"{self.port} takes {value} in cycle {cycle}, and " + ("nothing" if want is None else f"{want}") + " is wanted")
+        self.at += 1
+
+    def missing(self):
+        if self.at < len(self.values):
+            yield f"{self.port} takes {self.at} values, and {len(self.values)} are wanted"
+
+    def declared(self):
+        yield from super().declared()
+        yield f"reg [{self.bits - 1}:0] {self.port}__wanted [0:{len(self.values) - 1}];"
+        yield f"integer {self.port}__at = 0;"
+
+    def prepared(self):
+        yield from super().prepared()
+        yield from (f"{self.port}__wanted[{at}] = {self.bits}'d{value};" for at, value in enumerate(self.values))
+
+    def writes(self, net):
+        yield from super().writes(net)
+        at = f"{self.port}__at"
+        yield f"if ({at} >= {len(self.values)})"
+        yield f'  $display("wrong: {self.port} takes %0d in cycle %0d, and nothing is wanted", {net}, cycle);'
+        yield f"else if ({net} !== {self.port}__wanted[{at}])"
+        yield f'  $display("wrong: {self.port} takes %0d in cycle %0d, and %0d is wanted", {net}, cycle, {self.port}__wanted[{at}]);'
+        yield f"{at} = {at} + 1;"
+
+
+@dataclass
+class Answering:
+    """A handshake at which the circuit asks, and the surroundings answer, at most `limit` times where it is one."""
+
+    request: object
+    answer: object
+    timing: object
+    source: Source = field(default_factory=Source)
+    memory: Memory = None
+    limit: int = None
+    since: int = NEVER
+    count: int = 0
+
+    def may(self):
+        return self.since != NEVER and (self.limit is None or self.count < self.limit)
+
+    def see(self, cycle, events):
+        if self.request.name in events:
+            self.since = cycle
+            self.timing.asked(cycle)
+            if self.memory:
+                self.memory.write(cycle, events[self.request.name])
+
+    def next(self, cycle):
+        return self.timing.next(cycle) if self.may() else None
+
+    def give(self, cycle):
+        if self.next(cycle) != cycle:
+            return []
+        self.since, self.count = NEVER, self.count + 1
+        return [(self.answer, self.source.value(cycle) if self.answer.bits else None)]
+
+    def stands(self):
+        """Why it does nothing more, where a request waits for an answer that isn't to come."""
+        if self.since != NEVER and not self.may():
+            why = f"it was answered {self.limit} time{'s' * (self.limit > 1)}, and no answer is left" if self.limit else "it is never answered"
+            yield f"{self.request.name} is open since cycle {self.since}: {why}"
+
+    def verilog(self):
+        """The lines of declaring, seeing, giving and noting."""
+        net, (declared, asked, noted, due) = self.request.verilog, self.timing.verilog(self.request.verilog)
+        may = f"{net}__waits" + (f" && {net}__count < {self.limit}" if self.limit is not None else "")
+        counts = [f"{net}__count = {net}__count + 1;"] if self.limit is not None else []
+        writes = list(self.memory.writes(f"{net}value")) if self.memory else []
+        values = list(self.source.gives(f"{self.answer.verilog}value")) if self.answer.bits else []
+        return (
+            [f"reg {net}__waits = 0;", *declared, *([f"integer {net}__count = 0;"] if counts else [])],
+            block(f"if ({net})", [f"{net}__waits = 1;", *asked, *writes]),
+            block(f"if ({may} && {due})", [f"{net}__waits = 0;", *counts, f"{self.answer.verilog} = 1;", *values]),
+            noted,
+        )
+
+
+@dataclass
+class Asking:
+    """The handshake at which the surroundings ask: `count` times, or for ever where it is none, each time after a delay."""
+
+    request: object
+    answer: object
+    delay: Delay
+    count: int
+    dice: Dice
+    done: int = 0
+    since: int = NEVER
+    due: int = 0
+
+    def __post_init__(self):
+        self.due = self.first_due = self.dice.throw(self.delay.low, self.delay.high)
+        self.dice.first = self.dice.state
+
+    def see(self, cycle, events):
+        if self.answer.name in events and self.since != NEVER:
+            self.since = NEVER
+            self.due = cycle + self.dice.throw(self.delay.low, self.delay.high)
+
+    def next(self, cycle):
+        return max(cycle, self.due) if self.since == NEVER and (self.count is None or self.done < self.count) else None
+
+    def give(self, cycle):
+        if self.next(cycle) != cycle:
+            return []
+        self.since, self.done = cycle, self.done + 1
+        return [(self.request, None)]
+
+    def stands(self):
+        if self.since != NEVER:
+            yield f"{self.request.name} is open since cycle {self.since}"
+
+    def verilog(self):
+        net, answer = self.request.verilog, self.answer.verilog
+        throws, number = self.dice.thrown(self.delay.low, self.delay.high)
+        may = f"!{net}__open && cycle >= {net}__due" + (f" && {net}__count < {self.count}" if self.count is not None else "")
+        return (
+            [f"reg {net}__open = 0;", f"integer {net}__due = {self.first_due};", f"integer {net}__count = 0;"],
+            block(f"if ({answer} && {net}__open)", [f"{net}__open = 0;", *throws, f"{net}__due = cycle + {number};"]),
+            block(f"if ({may})", [f"{net}__open = 1;", f"{net}__count = {net}__count + 1;", f"{net} = 1;"]),
+            [],
+        )
+
+
+def block(head, lines):
+    return [f"{head} begin", *(f"  {line}" for line in lines), "end"]
+
+
+@dataclass
+class Surroundings:
+    """All that stands at the ports: their handshakes in order, where values come from, and for how many cycles it is run."""
+
+    handshakes: list
+    sources: list
+    dice: list
+    cycles: int = None
+
+    def timings(self):
+        return [it.timing for it in self.handshakes if isinstance(it, Answering)]
+
+    def do(self, cycle, outputs):
+        """The inputs of a cycle, each as its pin and its value or none, by the outputs of this cycle."""
+        events = {pin.name: value for pin, value in outputs}
+        for it in self.handshakes:
+            it.see(cycle, events)
+        for it in self.sources:
+            it.move(cycle)
+        inputs = [given for it in self.handshakes for given in it.give(cycle)]
+        events.update((pin.name, value) for pin, value in inputs)
+        for it in self.timings() + self.sources:
+            it.note(cycle, events)
+        return inputs
+
+    def next(self, cycle):
+        """The first cycle from this one on in which they would give something of themselves, or none."""
+        return min((at for it in self.handshakes if (at := it.next(cycle)) is not None), default=None)
+
+    def wrong(self):
+        """What was written and not wanted, and what was wanted and not written."""
+        for it in self.sources:
+            if isinstance(it, Wanted):
+                yield from it.wrong
+                yield from it.missing()
+
+    def stands(self):
+        """Each handshake that is open and stays so as far as the surroundings know."""
+        return [line for it in self.handshakes for line in it.stands()]
+
+
+@dataclass
+class Run:
+    """What happened: each pulse as its cycle, its pin and its value or none, outputs before inputs; and how many cycles."""
+
+    pulses: list
+    cycles: int
+    is_over: bool
+
+
+def run(circuit, surroundings, limit):
+    """Runs a circuit in its surroundings, for their number of cycles; or until nothing can happen any more, up to a limit."""
+    pulses, cycle, end, due = [], 0, surroundings.cycles or limit, surroundings.next(0)
+    while cycle < end:
+        outputs = circuit.outputs()
+        inputs = surroundings.do(cycle, outputs) if outputs or due == cycle else []
+        # (the handshakes are in the order of the ports, and so are the inputs of a cycle in a trace)
+        pulses.extend((cycle, pin, value) for pin, value in [*outputs, *inputs])
+        circuit.give(inputs)
+        moves = circuit.tick()
+        cycle += 1
+        if outputs or inputs:
+            due = surroundings.next(cycle)
+        elif not moves:
+            if due is None:
+                return Run(pulses, surroundings.cycles or cycle, True)
+            cycle = due
+    return Run(pulses, end, surroundings.next(end) is None)

@@ -1,0 +1,96 @@
+"""Small programs, built and run in a folder of their own: what the tests share that are given the program's path as their word."""
+import importlib.machinery
+import importlib.util
+import subprocess
+import sys
+import tempfile
+import unittest
+from dataclasses import dataclass
+from pathlib import Path
+
+TOP = Path(__file__).resolve().parent.parent.parent
+TOOLS, LIBRARY = TOP / "tools", TOP / "lib"
+sys.path.insert(0, str(TOOLS))
+sys.dont_write_bytecode = True
+
+import ports  # noqa: E402  (it stands in the folder above)
+
+BUILD = "gosbuild 1\n{}root {}\nnet out.net\nverilog out.v\npulses in.pls\ntrace out.trc\n"
+
+
+def script(name):
+    """A script of the folder tools, as a module."""
+    loader = importlib.machinery.SourceFileLoader(name.replace("-", "_"), str(TOOLS / name))
+    module = importlib.util.module_from_spec(importlib.util.spec_from_loader(loader.name, loader))
+    sys.modules[loader.name] = module
+    loader.exec_module(module)
+    return module
+
+
+def main(usage):
+    """Runs the tests of the calling script on the program that its first word names."""
+    if len(sys.argv) < 2 or sys.argv[1].startswith("-"):
+        sys.exit(usage)
+    Room.gos = str(Path(sys.argv.pop(1)).resolve())
+    unittest.main(module="__main__")
+
+
+@dataclass
+class Run:
+    """What a build left: its line's weight, the cells of its netlist, and the trace's pulses."""
+
+    weight: int
+    unused: int
+    cells: int
+    pulses: list
+
+    def times(self, event):
+        """The cycles in which an event has its pulse."""
+        return [cycle for cycle, name, _ in self.pulses if name == event]
+
+    def values(self, event):
+        return [value for _, name, value in self.pulses if name == event]
+
+    def names(self):
+        """The events, one for each pulse, in order."""
+        return [name for _, name, _ in self.pulses]
+
+
+class Room:
+    """A folder of its own, and the program."""
+
+    gos = ""
+
+    def __init__(self, path):
+        self.path = Path(path)
+
+    def write(self, **files):
+        """Writes files, each by its name, in which `__` stands for the dot."""
+        for name, text in files.items():
+            (self.path / name.replace("__", ".")).write_text(text)
+
+    def run(self, *words):
+        return subprocess.run([str(it) for it in words], cwd=self.path, capture_output=True, text=True, timeout=600)
+
+    def build(self, modules, pulses, binds=(), root="main"):
+        """Builds modules, each a text by its name, runs the netlist, and answers what came out."""
+        for name, text in modules.items():
+            (self.path / f"{name}.gos").write_text(text)
+        lines = [f"inst {name} {name}.gos {name}.obj\n" for name in modules] + [f"bind {it}\n" for it in binds]
+        self.write(b__txt=BUILD.format("".join(lines), root), in__pls=pulses)
+        ran = self.run(self.gos, "build", "b.txt")
+        if ran.returncode:
+            raise AssertionError(f"gos build ended with {ran.returncode}: {ran.stdout}{ran.stderr}")
+        words = ran.stdout.split()
+        cells = int((self.path / "out.net").read_text().split("\n")[1].removeprefix("cells "))
+        found, _ = ports.pulses_of((self.path / "out.trc").read_text())
+        return Run(int(words[words.index("weight") + 1]), int(words[words.index("unused") + 1]), cells, found)
+
+
+class Case(unittest.TestCase):
+    """A test with a room of its own."""
+
+    def setUp(self):
+        room = tempfile.TemporaryDirectory()
+        self.addCleanup(room.cleanup)
+        self.room = Room(room.name)

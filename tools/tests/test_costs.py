@@ -1,0 +1,208 @@
+#!/usr/bin/env python3
+"""Measures what forms of the language cost, and compares the tables of docs/COSTS.md with it; and tests tools/gos-cost.
+
+usage: tools/tests/test_costs.py GOS [WORDS OF unittest]
+       tools/tests/test_costs.py GOS --write
+
+With --write the tables get what was measured.
+
+A form stands between two commands of the surroundings that are done at once, as in `a ; FORM ; b`. It takes the cycles from
+`a.done` to `b.run` that are more than without it, and has the cells that the netlist has more.
+"""
+import contextlib
+import io
+import re
+import shutil
+import sys
+import tempfile
+
+import built
+
+COST, PAGE = built.script("gos-cost"), built.TOP / "docs" / "COSTS.md"
+PULSES = "cycles 300\nnext 0 main.run\nnext 0 a.done\nnext 0 b.done\n"
+LOCALS = "new x : 8 in new y : 8 in"
+FORMS = [
+    "skip", "skip ; skip", "skip || skip", "x := 1:8", "x := not 1:8", "x := 1:8 + 2:8", "y := !x", "y := !x + 1:8",
+    "x := 1:8 ; y := 2:8", "x := 1:8 || y := 2:8", "x := 1:8 ; x := 2:8", "x := !x + 1:8",
+    "if 1:1 then skip else skip", "if !x = 0:8 then y := 1:8 else skip", "x := (if 1:1 then 1:8 else 2:8)", "while 0:1 do skip",
+    "new z : 8 in skip", "(fun c : com . c) (x := 1:8)", "(fun c : com . c ; c) (x := 1:8)", "fst (x := 1:8, y := 1:8)",
+]
+UP, DOWN = "new i : 8 in while !i < {0}:8 do {1}", "new i : 8 in (i := {0}:8 ; while not (!i = 0:8) do {1})"
+LOOPS = {
+    UP: ["i := !i + 1:8", "(x := 1:8 ; i := !i + 1:8)"], DOWN: ["i := !i - 1:8", "(x := 1:8 ; i := !i - 1:8)"],
+}
+TABLE = re.compile(r"(?:^\|.*\n)+", re.M)
+USES = [1, 2, 4, 8, 16, 32]
+
+
+def tree(uses):
+    """Uses one after the other, with brackets as a tree that is as flat as can be."""
+    if len(uses) == 1:
+        return uses[0]
+    half = len(uses) // 2
+    return f"({tree(uses[:half])} ; {tree(uses[half:])})"
+
+
+class Measure:
+    """Measurements of forms by builds in a room."""
+
+    def __init__(self, room):
+        self.room = room
+        self.seen = {}
+
+    def of(self, form, binders=LOCALS):
+        """The cycles and cells that a form costs."""
+        cycles, cells = self.between(f"{form} ; ", binders)
+        bare_cycles, bare_cells = self.between("", binders)
+        return cycles - bare_cycles, cells - bare_cells
+
+    def between(self, form, binders):
+        key = form, binders
+        if key not in self.seen:
+            run = self.room.build({"main": f"import a : com\nimport b : com\nexport {binders} (a ; {form}b) : com\n"}, PULSES)
+            self.seen[key] = run.times("b.run")[0] - run.times("a.done")[0], run.cells
+        return self.seen[key]
+
+    def forms(self):
+        yield "| Form | Cycles | Cells |"
+        for form in FORMS:
+            cycles, cells = self.of(form)
+            yield f"| `{form.replace('||', chr(92) + '|' + chr(92) + '|')}` | {cycles} | {cells} |"
+
+    def loops(self):
+        yield "| Loop of N rounds | Cycles of a round | Cells |"
+        for loop, bodies in LOOPS.items():
+            for body in bodies:
+                (few, _), (many, cells) = (self.of(loop.format(rounds, body)) for rounds in (10, 20))
+                yield f"| `{loop.format('N', body)}` | {(many - few) // 10} | {cells} |"
+
+    def calls(self):
+        """What a procedure costs that stands in several places: p is a module of its own, which does nothing."""
+        yield "| Calls of one procedure | Cycles | Cells |"
+        for term in ("p", "p ; p", "p ; p ; p", "(p ; p) ; (p ; p)"):
+            main = f"import a : com\nimport b : com\nimport p : com\nexport a ; {term} ; b : com\n"
+            run = self.room.build({"main": main, "p": "export skip : com\n"}, PULSES, ["main p p"])
+            bare_cycles, bare_cells = self.between("", "")
+            yield f"| `{term}` | {run.times('b.run')[0] - run.times('a.done')[0] - bare_cycles} | {run.cells - bare_cells} |"
+
+    def whole(self, module, uses):
+        """The cycles of a run of a module, in which so many commands of the surroundings are done at once, and its cells."""
+        run = self.room.build({"main": module}, f"cycles {uses * (uses + 5) + 9}\nnext 0 main.run\n" + "next 0 c.done\n" * (uses if " c " in module else 0))
+        return run.times("main.done")[0], run.cells
+
+    def uses(self):
+        yield "| Uses | `c`, in a line | `c`, as a tree | Cells | `x := !x + 1:8`, in a line | as a tree | Cells |"
+        for uses in USES:
+            row = [uses]
+            for step, head in (("c", "import c : com\nexport"), ("x := !x + 1:8", "export new x : 8 in")):
+                terms = " ; ".join([step] * uses), tree([step] * uses)
+                (line, cells), (flat, same) = (self.whole(f"{head} ({term}) : com\n", uses) for term in terms)
+                assert cells == same, f"{uses} times {step}: {cells} cells in a line, and {same} as a tree"
+                row += [line, flat, cells]
+            yield f"| {' | '.join(map(str, row))} |"
+
+    def page(self, text):
+        """The page with its tables as they are measured, each behind its heading."""
+        for heading, rows in (("## Forms", self.forms()), ("## Loops", self.loops()), ("## Calls", self.calls()),
+                              ("## One name in many places", self.uses())):
+            first, *others = rows
+            table = "\n".join([first, "|" + "---|" * (first.count(" |")), *others])
+            before, after = text.split(f"\n{heading}\n")
+            after = TABLE.sub(lambda _, table=table: f"{table}\n", after, count=1)
+            text = f"{before}\n{heading}\n{after}"
+        return text
+
+
+class Page(built.Case):
+    def test_tables_are_what_is_measured(self):
+        text = PAGE.read_text()
+        self.assertEqual(Measure(self.room).page(text), text)
+
+    def test_the_build_that_it_shows(self):
+        shutil.copytree(built.TOP / "examples" / "sequence", self.room.path, dirs_exist_ok=True)
+        self.room.run(self.room.gos, "build", "b.txt")
+        with contextlib.chdir(self.room.path):
+            said = "\n".join(["$ gos-cost b.txt", *COST.said("b.txt")])
+        self.assertIn("".join(f"    {line}".rstrip() + "\n" for line in said.split("\n")), PAGE.read_text())
+
+    def test_the_square(self):
+        """What the page says of n uses in a line, n of the table."""
+        rows = [[int(it) for it in row.strip("| ").split(" | ")] for row in re.findall(r"(?m)^[|] \d.*$", PAGE.read_text())]
+        self.assertEqual([row[0] for row in rows], USES)
+        for uses, line, _, _, local, _, _ in rows:
+            self.assertEqual((line, local), (uses * (uses + 3) // 2, uses * (uses + 5)))
+
+
+class Cost(built.Case):
+    """tools/gos-cost."""
+
+    SEQUENCE = {"main": "import c : com\nimport d : com\nexport c ; d : com\n"}
+
+    def cost(self, *words):
+        said, wrong = io.StringIO(), io.StringIO()
+        with contextlib.chdir(self.room.path), contextlib.redirect_stdout(said), contextlib.redirect_stderr(wrong):
+            status = COST.main(words)
+        return said.getvalue(), wrong.getvalue(), status
+
+    def test_sequence(self):
+        self.room.build(self.SEQUENCE, "cycles 90\nnext 0 main.run\nnext 3 c.done\nnext 0 d.done\nnext 9 main.run\nnext 5 c.done\nnext 0 d.done\n")
+        self.assertEqual(self.cost("b.txt"), ("""\
+kind   cells  bits  of each width
+input      3     3  3 of 1
+reg        3     3  3 of 1
+wire       3     3  3 of 1
+all        9     9
+longest path: 0 cells: input 1 (d.done) > reg 1 (main.done)
+
+from       to         times  fewest  most  all
+main.run   main.done      2       5     7   12
+main.run   c.run          2       1     1    2
+c.run      c.done         2       2     4    6
+c.done     d.run          2       1     1    2
+d.run      d.done         2       0     0    0
+d.done     main.done      2       1     1    2
+main.done  main.run       1       8     8    8
+""", "", 0))
+        self.assertEqual(self.cost("b.txt", "c.run", "d.done")[0], """\
+from   to      times  fewest  most  all
+c.run  d.done      2       3     5    8
+""")
+
+    def test_longest_path(self):
+        self.room.build({"main": "import e : exp 8\nexport new x : 8 in x := e + not e : com\n"}, "cycles 90\nnext 0 main.run\n")
+        said = self.cost("b.txt")[0]
+        self.assertIn(" 8 cells: input 1 (e.ans) > and 1 > gate 8 > not 8 > gate 8 > add 8 > gate 8 > gate 8 > mux 8 > reg 8\n", said)
+
+    def test_a_ring(self):
+        self.room.build(self.SEQUENCE, "cycles 9\nnext 0 main.run\n")
+        self.room.write(out__net="gosnet 1\ncells 3\nor 1 1 2\nnot 1 0\ninput 1\nports 1\ngive m com 2 0\nend\n", out__trc="cycles 1\n")
+        self.assertEqual(self.cost("b.txt"), ("", "tools/gos-cost: the netlist has a ring of cells without a register\n", 1))
+
+    def test_wrong_files(self):
+        self.room.build(self.SEQUENCE, "cycles 9\nnext 0 main.run\n")
+        self.assertEqual(self.cost("c.txt")[1], "tools/gos-cost: c.txt can't be read: No such file or directory\n")
+        self.assertEqual(self.cost("main.gos")[1], "tools/gos-cost: main.gos is no build file\n")
+        self.assertEqual(self.cost("b.txt", "c.run", "z.run")[1], "tools/gos-cost: the netlist has no event z.run\n")
+        for name, text, why in (
+            ("out.trc", "x y\n", "out.trc is no trace"), ("out.trc", "3 z.run\ncycles 9\n", "the netlist has no event z.run"),
+            ("out.net", "gosnet 1\n", "out.net is no netlist"), ("out.net", "gosnet 1\ncells 1\nreg 1 7\nports 0\nend\n", "out.net is no netlist"),
+        ):
+            self.room.build(self.SEQUENCE, "cycles 9\nnext 0 main.run\n")
+            (self.room.path / name).write_text(text)
+            self.assertEqual(self.cost("b.txt"), ("", f"tools/gos-cost: {why}\n", 1))
+        with self.assertRaisesRegex(SystemExit, "usage:"):
+            self.cost()
+
+
+def write(gos):
+    """Gives the page what is measured."""
+    built.Room.gos = gos
+    with tempfile.TemporaryDirectory() as room:
+        PAGE.write_text(Measure(built.Room(room)).page(PAGE.read_text()))
+
+
+if __name__ == "__main__":
+    if sys.argv[2:] == ["--write"]:
+        write(sys.argv[1])
+    else:
+        built.main(__doc__)
