@@ -1,5 +1,6 @@
-"""Build files, and runs of the program gos: what tools/gos-play, tools/gos-why, tools/gos-bench and tools/gos-formal share."""
+"""Build files, netlists and traces as files, and runs of the program gos: what the tools share, and how they end."""
 import argparse
+import os
 import subprocess
 import sys
 from dataclasses import dataclass, field
@@ -10,6 +11,7 @@ import ports
 TOP = Path(__file__).resolve().parent.parent
 # The statuses of these tools, beside 0.
 WORDS_ARE_WRONG, FILE_IS_WRONG, RUN_IS_WRONG = 1, 2, 3
+MOST_CYCLES = 1_000_000
 
 
 class Wrong(Exception):
@@ -105,6 +107,21 @@ def read_trace(name, events):
     return pulses, cycles
 
 
+def read_run(net, trace):
+    """The ports of a netlist, and the pulses and cycles of a trace of it, of which each pulse is in its turn and of its bits."""
+    found = read_ports(net)
+    bits = {event.name: event.bits for port in found for event in port.events}
+    pulses, cycles = read_trace(trace, bits)
+    if cycles > MOST_CYCLES:
+        raise Wrong(f"{trace}: this is no trace: {cycles} cycles, and {MOST_CYCLES} are the most")
+    before = 0
+    for cycle, name, value in pulses:
+        if not before <= cycle < cycles or (value is None) == (bits[name] > 0) or (value or 0) >> bits[name]:
+            raise Wrong(f"{trace}: this is no trace of this netlist, with {name} in cycle {cycle}{'' if value is None else f' of {value}'}")
+        before = cycle
+    return found, pulses, cycles
+
+
 def call(gos, *words):
     """Runs gos, and gives the line that it prints. Each other status than 0 is an error."""
     try:
@@ -126,9 +143,13 @@ def link(gos, name, build):
 def ended(main, words):
     """What a tool ends with: the status of its main function, or that of what it found wrong, which is printed."""
     try:
-        return main(words) or 0
+        status = main(words) or 0
+        sys.stdout.flush()
+        return status
     except Wrong as wrong:
         print(wrong, file=sys.stderr)
         return wrong.status
     except BrokenPipeError:
+        # (else what is left to print is tried once more at the end)
+        os.dup2(os.open(os.devnull, os.O_WRONLY), sys.stdout.fileno())
         return 0

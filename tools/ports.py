@@ -1,7 +1,5 @@
-"""The ports of a netlist's text, and the pulses of a trace (docs/FORMATS.md): what tools/gos-vcd, tools/gos-wave and tools/gos-picture read."""
-import sys
+"""The ports of a netlist's text, and the pulses of a trace (docs/FORMATS.md)."""
 from dataclasses import dataclass
-from pathlib import Path
 
 # The events of each type: their names, and whether they have a value.
 EVENTS = {
@@ -59,15 +57,3 @@ def pulses_of(text):
         elif first:
             pulses.append((int(first), rest[0], int(rest[1]) if len(rest) > 1 else None))
     return pulses, cycles
-
-
-def read(words, usage):
-    """The events of the netlist and the pulses and cycles of the trace that two words name."""
-    if len(words) != 2:
-        sys.exit(usage)
-    events = [event for port in ports_of(Path(words[0]).read_text()) for event in port.events]
-    pulses, cycles = pulses_of(Path(words[1]).read_text())
-    unknown = {name for _, name, _ in pulses} - {event.name for event in events}
-    if unknown:
-        sys.exit(f"{words[1]} is no trace of {words[0]}, which has no event {min(unknown)}")
-    return events, pulses, cycles

@@ -3,6 +3,8 @@
 
 usage: tools/tests/test_tools.py
 """
+import contextlib
+import io
 import json
 import os
 import re
@@ -14,7 +16,10 @@ import time
 import unittest
 from pathlib import Path
 
+import built
 import standin
+
+import builds  # (built has put the folder above into the path)
 
 TOP = Path(__file__).resolve().parent.parent.parent
 TOOLS, LATCH = TOP / "tools", TOP / "examples" / "latch"
@@ -57,42 +62,143 @@ class Where(unittest.TestCase):
     def test_no_fault(self):
         self.assertEqual(self.where("", "ok weight 5").returncode, 1)
 
+    def test_line_of_standard_input(self):
+        for line, status, said in (("export d : com", 0, "m.gos:1:8: C1: nothing binds `d` here"), ("", 1, "")):
+            with tempfile.TemporaryDirectory() as room:
+                (Path(room) / "m.gos").write_text(line)
+                ran = run("bash", "-c", f"echo 'm.gos: C1 d at 7..8' | head -{1 - status} | {TOOLS}/gos-where -", cwd=room)
+            self.assertEqual((ran.returncode, ran.stdout.split("\n")[0], "printed nothing" in ran.stderr), (status, said, status == 1))
+        self.assertEqual(run("bash", "-c", f"echo ok weight 5 | {TOOLS}/gos-where -").stdout, "ok weight 5\n")
+
     def test_each_example_has_a_sentence(self):
         examples = re.findall(r"^\| `[^`]+` \| `\w+::\w+` \| (.+) \|$", (TOP / "docs" / "FORMATS.md").read_text(), re.M)
         self.assertGreater(len(examples), 40)
+        where = built.script("gos-where")
         for example in examples:
             line = re.findall(r"`([^`]+)`", example)[-1]
-            ran = self.where("", line)
-            self.assertEqual((ran.returncode, ran.stderr), (0, ""), line)
-            said = ran.stdout.removeprefix("m.gos: ")
+            with contextlib.redirect_stdout(io.StringIO()) as out:
+                self.assertEqual(where.main(["/dev/null", line]), 0, line)
+            said = out.getvalue().removeprefix("/dev/null: ")
             self.assertNotRegex(said, r"\b(NAME|TYPE|WANT|SPAN|[NWK]|LEN)\b", line)
 
 
+# Asks e, writes what comes to x, reads x, and is done; and a trace of it that breaks off.
+COPY = """gosnet 1
+cells 11
+input 1
+reg 1 6
+reg 1 0
+input 1
+input 4
+reg 1 10
+input 1
+input 4
+reg 1 3
+reg 4 4
+input 1
+ports 3
+give main com 0 1
+take e exp 4 2 3 4
+take x var 4 5 6 7 8 9 10
+end
+"""
+COPIED = "0 main.run\n1 e.ask\n3 e.ans 5\n4 x.write 5\n4 x.done\n5 x.read\ncycles 8\n"
+
+
 class Waves(unittest.TestCase):
+    def setUp(self):
+        room = tempfile.TemporaryDirectory()
+        self.addCleanup(room.cleanup)
+        self.room = Path(room.name)
+
+    def tool(self, name, *words, **files):
+        """Runs a tool in a folder with these files."""
+        for file, text in files.items():
+            (self.room / file).write_text(text)
+        return run(TOOLS / name, *words, cwd=self.room)
+
     def test_text(self):
         said = run(TOOLS / "gos-wave", LATCH / "a.net", LATCH / "trace.txt").stdout
         self.assertEqual(said, "            0 1 2\n> main.run  | . .\n< main.done . | |\n")
 
     def test_values(self):
-        with tempfile.TemporaryDirectory() as room:
-            net, trace = Path(room) / "n", Path(room) / "t"
-            net.write_text("gosnet 1\ncells 0\nports 1\ngive main exp 8 0 1 2\nend\n")
-            trace.write_text("0 main.ask\n3 main.ans 200\ncycles 5\n")
-            self.assertEqual(run(TOOLS / "gos-wave", net, trace).stdout, "           0   3\n> main.ask |   .\n< main.ans . 200\n")
-            self.assertEqual(self.pulses(run(TOOLS / "gos-vcd", net, trace).stdout), ({(0, "main.ask", None), (3, "main.ans", 200)}, 5))
+        files = {"n": "gosnet 1\ncells 0\nports 1\ngive main exp 8 0 1 2\nend\n", "t": "0 main.ask\n3 main.ans 200\ncycles 5\n"}
+        self.assertEqual(self.tool("gos-wave", "n", "t", **files).stdout, "           0   3\n> main.ask |   .\n< main.ans . 200\n")
+        self.assertEqual(self.pulses(self.tool("gos-vcd", "n", "t").stdout), ({(0, "main.ask", None), (3, "main.ans", 200)}, 5))
+
+    def test_some_cycles_and_ports(self):
+        said = self.tool("gos-wave", "--from", "3", "--to", "4", "n", "t", n=COPY, t=COPIED).stdout.split("\n")
+        self.assertEqual((said[0].split(), said[2], said[4]), (["3", "4"], "< main.done . .", "> e.ans     5 ."))
+        said = self.tool("gos-wave", "--ports", "x,main", "--to", "4", "n", "t").stdout
+        rows = ["            0 4", "> main.run  | .", "< main.done . .", "< x.read    . .", "> x.ans     . .", "< x.write   . 5", "> x.done    . |"]
+        self.assertEqual(said, "\n".join([*rows, ""]))
+        self.assertEqual(self.tool("gos-wave", "--from", "9", "n", "t").stdout.split("\n")[1], "> main.run")
+        ran = self.tool("gos-wave", "--ports", "x,y", "n", "t")
+        self.assertEqual((ran.returncode, ran.stderr), (1, "gos-wave: n has no port y, but main, e, x; gos-wave --help says more\n"))
+
+    def test_open_handshakes(self):
+        _, signals = self.signals(self.tool("gos-vcd", "n", "t", n=COPY, t=COPIED).stdout)
+        is_open = {name: "".join(values) for name, values in signals.items() if name.endswith("open")}
+        self.assertEqual(is_open, {"main.open": "11111111", "e.open": "01110000", "x.read_open": "00000111", "x.write_open": "00001000"})
+        trace = "0 main.run\n2 main.done\n2 main.run\n5 main.done\ncycles 7\n"
+        self.assertEqual("".join(self.signals(self.tool("gos-vcd", "n", "t", t=trace).stdout)[1]["main.open"]), "1111110")
+
+    def test_what_is_wrong(self):
+        self.wrong("gos-wave", "none t", 2, n=COPY, t=COPIED, o=Pictures.PLAN)
+        for words in ("none t", "n none", ". t", "n .", "t t", "n n", "n o", "/dev/null t", "n /dev/null"):
+            self.wrong("gos-wave", words, 2)
+            self.wrong("gos-vcd", words, 2)
+        for word in ("none", ".", "t", "/dev/null"):
+            self.wrong("gos-picture", word, 2)
+        for tool, words in (("gos-wave", "n"), ("gos-wave", "--from x n t"), ("gos-vcd", "n t t"), ("gos-picture", ""), ("gos-picture", "n n")):
+            self.wrong(tool, words, 1)
+        traces = ("", "x\ncycles 3\n", "0 e\ncycles 3\n", "0 main.run 1\ncycles 3\n", "1 e.ans\ncycles 3\n", "1 e.ans 16\ncycles 3\n",
+                  "1 e.ans -1\ncycles 3\n", "3 e.ask\ncycles 3\n", "2 e.ask\n1 e.ans 1\ncycles 3\n", "cycles 1000001\n")
+        for trace in traces:
+            self.wrong("gos-wave", "n t", 2, t=trace)
+            self.wrong("gos-vcd", "n t", 2, t=trace)
+        for text in (COPY[:40], COPY.replace("e exp 4 2 3 4", "e exp 4 2 3"), COPY.replace("10\nend", "11\nend"), Pictures.PLAN[:90],
+                     Pictures.PLAN.replace("p2.0", "p3.0"), Pictures.PLAN.replace("p2.0", "p0.9"), Pictures.PLAN.replace("skip", "sleep")):
+            self.wrong("gos-picture", "n", 2, n=text)
+
+    def wrong(self, tool, words, status, **files):
+        """Has a tool end with this status and a line of standard error, on words that are files in a folder with these files."""
+        for file, text in files.items():
+            (self.room / file).write_text(text)
+        places = [it if it[0] in "-x" else str(self.room / it) for it in words.split()]
+        with contextlib.redirect_stdout(io.StringIO()) as out, contextlib.redirect_stderr(io.StringIO()) as errors:
+            try:
+                ended = builds.ended(built.script(tool).main, places)
+            except SystemExit as end:
+                ended = end.code
+        self.assertEqual((ended, out.getvalue(), errors.getvalue().count("\n")), (status, "", 1), (tool, words, files, errors.getvalue()))
+
+    def test_a_reader_that_goes_away(self):
+        for tool in ("gos-wave n t", "gos-vcd n t", "gos-picture n"):
+            self.tool("gos-wave", n=COPY, t=COPIED)
+            ran = run("bash", "-c", f"trap '' PIPE; {TOOLS}/{tool} | exec 0<&-; echo ${{PIPESTATUS[0]}}", cwd=self.room)
+            self.assertEqual((ran.stdout, ran.stderr), ("0\n", ""))
 
     def test_dump(self):
         said = run(TOOLS / "gos-vcd", LATCH / "a.net", LATCH / "trace.txt").stdout
         self.assertEqual(self.pulses(said), ({(0, "main.run", None), (1, "main.done", None), (2, "main.done", None)}, 3))
 
     def test_other_trace(self):
-        with tempfile.TemporaryDirectory() as room:
-            (Path(room) / "t").write_text("0 c.run\ncycles 1\n")
-            self.assertIn("has no event c.run", run(TOOLS / "gos-vcd", LATCH / "a.net", Path(room) / "t").stderr)
+        self.assertIn("has no event c.run", self.tool("gos-vcd", LATCH / "a.net", "t", t="0 c.run\ncycles 1\n").stderr)
 
     def pulses(self, dump):
         """A value change dump, read back: the pulses in each cycle with their values, and the number of cycles."""
-        scope, name, bits, now, time = [], {}, {}, {}, 0
+        cycles, signals = self.signals(dump)
+        found = set()
+        for name, values in signals.items():
+            if not name.endswith(("value", "open")):
+                of_value = signals.get(name + "value")
+                found |= {(at, name, int(of_value[at], 2) if of_value else None) for at, value in enumerate(values) if value == "1"}
+        return found, cycles
+
+    def signals(self, dump):
+        """A value change dump, read back: the number of cycles, and what each signal is in each of them."""
+        scope, name, now, time, found = [], {}, {}, 0, {}
         head, body = dump.split("$enddefinitions $end\n")
         for words in map(str.split, head.split("\n")):
             if words[:1] == ["$scope"]:
@@ -100,26 +206,20 @@ class Waves(unittest.TestCase):
             elif words[:1] == ["$upscope"]:
                 scope.pop()
             elif words[:2] in (["$var", "wire"], ["$var", "reg"]):
-                name[words[3]], bits[words[3]] = f"{scope[-1]}.{words[4]}", words[1] == "reg"
+                name[words[3]] = f"{scope[-1]}.{words[4]}"
         self.assertEqual(scope, [])
-        found = set()
-
-        def seen():
-            for code, value in now.items():
-                if not bits[code] and value == "1":
-                    of_value = [it for it in name if name[it] == name[code] + "value"]
-                    found.add((time, name[code], int(now[of_value[0]], 2) if of_value else None))
-
         for line in body.split("\n"):
             if line.startswith("#"):
-                seen()
+                self.assertIn(int(line[1:]) - time, (0, 1))
+                for code, value in now.items() if int(line[1:]) > time else ():
+                    found.setdefault(name[code], []).append(value)
                 time = int(line[1:])
             elif line.startswith("b"):
                 value, code = line[1:].split(" ")
                 now[code] = value
             elif line and line[0] in "01" and line[1:] in name:
                 now[line[1:]] = line[0]
-        return found, time
+        return time, found
 
 
 class Pictures(unittest.TestCase):
@@ -144,6 +244,18 @@ class Pictures(unittest.TestCase):
             self.assertEqual((ran.returncode, ran.stderr), (0, ""))
             self.assertIn("main.done", (Path(room) / "o.svg").read_text())
 
+    def test_too_large_to_be_drawn(self):
+        with tempfile.TemporaryDirectory() as room:
+            cells = [*(["input 1"] * 2), *(f"not 1 {at}" for at in range(593))]
+            (Path(room) / "n").write_text("\n".join(["gosnet 1", "cells 595", *cells, "ports 1", "give main com 0 594", "end", ""]))
+            began = time.monotonic()
+            ran = run(TOOLS / "gos-picture", "n", "o.svg", cwd=room)
+            self.assertLess(time.monotonic() - began, 10)
+            self.assertEqual((ran.returncode, ran.stdout), (2, ""))
+            self.assertRegex(ran.stderr, r"^n: it has 595 cells, and more than 200 aren't drawn, .*; gos-picture n \| sfdp -Tsvg > o.svg draws .*\n$")
+            self.assertFalse((Path(room) / "o.svg").exists())
+            self.assertIn("n592 -> n594", run(TOOLS / "gos-picture", "n", cwd=room).stdout)
+
 
 class Editors(unittest.TestCase):
     def test_vim_has_all_words(self):
@@ -162,6 +274,48 @@ class Editors(unittest.TestCase):
             self.assertEqual(json.loads((folder / grammar["path"]).read_text())["scopeName"], grammar["scopeName"])
             for rule in json.loads((folder / grammar["path"]).read_text())["patterns"]:
                 re.compile(rule["match"])
+
+
+    def test_problems_and_tasks(self):
+        folder = TOP / "editors/vscode"
+        matcher, = json.loads((folder / "package.json").read_text())["contributes"]["problemMatchers"]
+        pattern = matcher["pattern"]
+        found = re.fullmatch(pattern["regexp"], "a/m.gos:2:8: C1: nothing binds `d` here")
+        self.assertEqual([found[pattern[it]] for it in ("file", "line", "column", "message")], ["a/m.gos", "2", "8", "C1: nothing binds `d` here"])
+        for line in ("export d : com", "       ^", "ok weight 5", "gos: m.gos is not there"):
+            self.assertIsNone(re.fullmatch(pattern["regexp"], line))
+        tasks = json.loads((folder / "tasks.json").read_text())["tasks"]
+        self.assertEqual([it["label"] for it in tasks], ["gos check", "gos build"])
+        for task in tasks:
+            self.assertEqual((task["command"], task["problemMatcher"]), (f"{task['label']} ${{fileBasename}} | gos-where -", f"${matcher['name']}"))
+
+    @unittest.skipUnless(shutil.which("vim"), "Vim is not installed")
+    def test_vim(self):
+        if "+eval" not in run("vim", "--version").stdout:
+            self.skipTest("this Vim is a small one")
+        said = ("filetype:&ft", "syntax:&syntax", "comment:&commentstring", "make:&makeprg")
+        echo = "call writefile([" + ", ".join(f"'{name}=' . {value}" for name, value in (it.split(":") for it in said)) + "], 'said', 'a')"
+        with tempfile.TemporaryDirectory() as room:
+            files = {"m.gos": "export d : com\n", "in.pls": "cycles 3\n", "b.txt": "# It\ngosbuild 1\n", "c.txt": "so\n", "gos": "", "gos-where": ""}
+            for name, text in files.items():
+                (Path(room) / name).write_text(text)
+            (Path(room) / "gos").write_text("#!/bin/sh\necho a preview >&2\necho 'm.gos: C1 d at 7..8'\n")
+            (Path(room) / "gos-where").write_text(f'#!/bin/sh\nexec {TOOLS}/gos-where "$@"\n')
+            for name in ("gos", "gos-where"):
+                (Path(room) / name).chmod(0o755)
+            listed = "map(getqflist(), {_, it -> bufname(it.bufnr) . ':' . it.lnum . ':' . it.col . ':' . it.text})"
+            commands = ["filetype plugin on | syntax on", *(f"edit {name} | {echo}" for name in files if "." in name),
+                        f"edit m.gos | silent make! | call writefile({listed}, 'made') | qa!"]
+            words = ["vim", "-Nu", "NONE", "-i", "NONE", "-n", "-es", "--cmd", f"set rtp^={TOP}/editors/vim"]
+            ran = run(*words, *(it for command in commands for it in ("-c", command)), cwd=room, PATH=f"{room}:{os.environ['PATH']}")
+            self.assertEqual(ran.returncode, 0, ran.stderr)
+            said = (Path(room) / "said").read_text().split("\n")
+            self.assertEqual((Path(room) / "made").read_text(), "m.gos:1:8:C1: nothing binds `d` here\n")
+        sorts = {said[at].split("=")[1]: said[at + 1:at + 4] for at in range(0, len(said) - 1, 4)}
+        make = "make=({} %:S \\| gos-where -)"
+        for sort, command in (("gos", make.format("gos check")), ("gospulses", "make=make"), ("gosbuild", make.format("gos build"))):
+            self.assertEqual(sorts[sort], [f"syntax={sort}", "comment=# %s", command])
+        self.assertIn("text", sorts)
 
 
 class Standin(unittest.TestCase):
@@ -268,11 +422,89 @@ class Script(Standin):
             ran = self.do("gos check m.gos", GOS_STATUS=str(status))
             self.assertEqual((ran.returncode, ran.stderr), (status, said))
 
-    def test_two_names_of_one_file(self):
+    def refused(self, command, said):
+        """Has a command refused with status 70, before anything is run."""
+        ran = self.do(command)
+        self.assertEqual((ran.stdout, ran.stderr, ran.returncode), ("", f"gos: {said}; nothing is done\n", 70))
+
+    def build_file(self, net="out.net", trace="out.trc", objects="main.gos main.obj"):
+        lines = [f"inst i{at} {it}\n" for at, it in enumerate(objects.split(", "))]
+        (self.room / "b.txt").write_text(f"gosbuild 1\n{''.join(lines)}root i0\nnet {net}\nverilog out.v\npulses in.pls\ntrace {trace}\n")
+
+    def test_two_names_of_one_file_that_is_written(self):
+        read, twice = "are one file, which gos {} reads and would write over", "are one file, which gos {} would write twice"
+        self.refused("gos compile a.gos ./a.gos", "a.gos and ./a.gos " + read.format("compile"))
+        self.refused("touch a.gos; ln a.gos b.gos; gos compile a.gos b.gos", "a.gos and b.gos " + read.format("compile"))
+        self.refused("ln -s a.gos c.gos; gos compile c.gos a.gos", "c.gos and a.gos " + read.format("compile"))
+        self.refused("ln -s none d.gos; gos sim out.net none d.gos", "none and d.gos " + read.format("sim"))
+        self.build_file(net=".//b.txt")
+        self.refused("gos link b.txt", "b.txt and .//b.txt " + read.format("link"))
+        self.build_file(net="./main.obj")
+        self.refused("gos link b.txt", "main.obj and ./main.obj " + read.format("link"))
+        self.refused("gos build b.txt", "main.obj and ./main.obj " + twice.format("build"))
+        self.build_file(objects="main.gos main.obj, lib.gos ./main.gos")
+        self.refused("gos build b.txt", "main.gos and ./main.gos " + read.format("build"))
+        self.build_file(trace="x/../in.pls")
+        self.refused("mkdir x; gos build b.txt", "in.pls and x/../in.pls " + read.format("build"))
+        self.refused("touch demo.v; ln demo.v demo_l2.obj; gos demo 2", "demo.v and demo_l2.obj " + twice.format("demo"))
+        self.assertEqual(self.repository.runs("try"), [])
+
+    def test_two_names_that_do_no_harm(self):
         self.do("prove")
-        self.assertEqual(self.do("gos compile a.gos ./a.gos").stderr, "gos: a.gos and ./a.gos are one file\n")
-        (self.room / "b.txt").write_text("gosbuild 1\ninst m m.gos .//b.txt\nroot m\n")
-        self.assertEqual(self.do("gos link b.txt").stderr, "gos: b.txt and .//b.txt are one file\n")
+        self.build_file(trace="./out.net", objects="main.gos main.obj, ./main.gos lib.obj")
+        # (a trace is not written by link, a source may be read twice, and the program itself refuses one name twice)
+        for command in ("link b.txt", "sim a.net ./a.net out.trc", "compile a.gos a.gos", "compile a.gos ./a.gos x", "check a.gos",
+                        "compile ./a.gos /dev/null", "demo 1"):
+            ran = self.do(f"gos {command}")
+            self.assertEqual((ran.stdout, ran.stderr, ran.returncode), (f"ok {command}\n", "", 0))
+        self.build_file(objects="main.gos main.obj, ./main.gos lib.obj")
+        self.assertEqual(self.do("gos build b.txt").returncode, 0)
+        self.build_file(objects=", ".join(f"m{at}.gos m{at}.obj" for at in range(300)) + ", ./m7.gos m.obj, m8.gos ./m9.obj")
+        self.refused("gos build b.txt", "m9.obj and ./m9.obj are one file, which gos build would write twice")
+
+    def test_a_name_that_is_none_of_a_file(self):
+        self.do("prove")
+        rule = ": the name of a file has ASCII letters, digits, _ . - and / alone, and 1 to 255 bytes\n"
+        for command, why in (("check 'a b.gos'", "`a b.gos` has a space"), ("compile a.gos 'ä.obj'", "`ä.obj` has a letter beyond ASCII"),
+                             ("check 'a+b'", "`a+b` has '+'"), ("build ''", "`` has 0 bytes")):
+            ran = self.do(f"gos {command}", GOS_STATUS="1")
+            self.assertEqual((ran.stderr, ran.returncode), (f"gos: {why}{rule}", 1))
+        for command in ("check a b", "turn 'a b'", "", "check a.gos"):
+            self.assertEqual(self.do(f"gos {command}", GOS_STATUS="1").stderr, "")
+        for objects, why in (("ä.gos m.obj", "`ä.gos`, in line 2 of b.txt, has a letter beyond ASCII"), ("m.gos m.obj # here", ""),
+                             ("m.gos m.obj, a b.gos n.obj", "line 3 of b.txt has too many words, as where a name has a space"), ("m.gos m.obj", "")):
+            self.build_file(objects=objects)
+            for command in ("link", "build"):
+                self.assertEqual(self.do(f"gos {command} b.txt", GOS_STATUS="2").stderr, f"gos: {why}{rule}" if why else "")
+
+    def test_help(self):
+        ran = self.do("gos --help")
+        self.assertEqual((ran.returncode, ran.stderr), (0, ""))
+        formats = (TOP / "docs/FORMATS.md").read_text()
+        self.assertEqual(ran.stdout.split("\n")[0], re.search(r"^    (usage: gos .*)$", formats, re.M)[1])
+        commands = re.findall(r"^\| `([a-z]+ [A-Z ]+)` \|", formats.split("\n## ")[1], re.M)
+        self.assertEqual(len(commands), 6)
+        for command in commands:
+            self.assertRegex(ran.stdout, rf"(?m)^  {command}  ")
+        for status in (*range(6), 70, 127):
+            self.assertRegex(ran.stdout, rf"(?m)  {status}  ")
+        self.assertEqual(self.repository.runs("try"), [])
+
+    def test_version(self):
+        wanted = [f"sources {self.do(f'{self.top}/tools/lib/record').stdout.split()[1]}", "there is no program of these sources yet", ""]
+        self.assertEqual(self.do("gos --version").stdout.split("\n"), ["gos", *wanted])
+        self.do("gos")
+        self.assertIn("\nthe program is a preview, which is not proved\n", self.do("gos --version").stdout)
+        self.do("prove")
+        git = "git -c user.name=x -c user.email=x -C"
+        self.do(f"git init -q {self.top}; {git} {self.top} add gos; {git} {self.top} commit -qm x; {git} {self.top} tag v1.5")
+        ran = self.do("gos --version")
+        self.assertEqual((ran.stdout.split("\n"), ran.stderr), (["gos v1.5", wanted[0], "the program is proved", ""], ""))
+
+    def test_other_words_are_the_programs(self):
+        self.do("prove")
+        for words in ("", "--help check", "--version 1", "-h", "help"):
+            self.assertEqual(self.do(f"gos {words}").stdout, f"ok {words}\n")
 
     def test_a_preview_gets_the_largest_stack(self):
         hard = self.do("ulimit -H -s").stdout

@@ -21,5 +21,4 @@ highlight default link gosNumber Number
 highlight default link gosSign Operator
 highlight default link gosComment Comment
 
-setlocal commentstring=#\ %s
 let b:current_syntax = "gos"

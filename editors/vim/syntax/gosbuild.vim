@@ -11,5 +11,4 @@ highlight default link gosbuildStatement Statement
 highlight default link gosbuildNumber Number
 highlight default link gosbuildComment Comment
 
-setlocal commentstring=#\ %s
 let b:current_syntax = "gosbuild"

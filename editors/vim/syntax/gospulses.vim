@@ -13,5 +13,4 @@ highlight default link gospulsesEvent Type
 highlight default link gospulsesNumber Number
 highlight default link gospulsesComment Comment
 
-setlocal commentstring=#\ %s
 let b:current_syntax = "gospulses"
