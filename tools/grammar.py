@@ -48,9 +48,9 @@ class Token:
     stop: int
 
 
-def tokens_of(data, stop=None):
-    """The tokens of a source that begin before `stop`; and the place of the first byte there with which none begins, or none."""
-    found, at, stop = [], 0, len(data) if stop is None else stop
+def tokens_of(data, stop=None, start=0):
+    """The tokens of a source that begin in `start..stop`; and the place of the first byte there with which none begins, or none."""
+    found, at, stop = [], start, len(data) if stop is None else stop
     while at < stop:
         token = TOKEN.match(data, at)
         if not token:
