@@ -2,7 +2,7 @@
 use Rattle.std.specs.Prelude.{◌≡◌, ◌≢◌, ◌⊎◌, List, [], ◌∷◌, ◌++◌, Bool, true, false, Option, Some, None, Ok, if◌then◌else◌}
 use Rattle.std.specs.Str.{bytes_eq}
 use Rattle.std.proofs.Common.{refl, sym, subst, ◌∙◌, inl, inr}
-use Rattle.std.proofs.lemmas.Slice.Eq.{bytes_eq-Decides}
+use Rattle.gos_types.proofs.BytesLemmas.{bytes_eq_same, same_bytes_eq}
 use Rattle.gos_lex.specs.declared.token.Span.{Span}
 use Rattle.gos_model.specs.Terms.{Name}
 use Rattle.gos_check.specs.declared.free.Occurrence.{Occurrence}
@@ -18,21 +18,15 @@ abbrev pub IsNone : Name → List Name → Type 0
 IsNone x [] = Unit {0}
 IsNone x (y ∷ ys) = (y ≢ x) × IsNone x ys
 
-pub same_true : (x y : Name) → x ≡ y → bytes_eq x y ≡ true
-same_true x y e = (bytes_eq-Decides x y).1 e
-
-true_same : (x y : Name) → bytes_eq x y ≡ true → x ≡ y
-true_same x y e = (bytes_eq-Decides x y).0 e
-
 false_other : (x y : Name) → bytes_eq x y ≡ false → x ≡ y → ⊥
-false_other x y h e = let t : bytes_eq x y ≡ true = same_true x y e in cc
+false_other x y h e = let t : bytes_eq x y ≡ true = same_bytes_eq x y e in cc
 
 -- a test of two names that differ
 pub other_false : (x y : Name) → (x ≡ y → ⊥) → bytes_eq x y ≡ false
 other_false x y other = tested (bytes_eq x y) refl
   where
     tested : (b : Bool) → bytes_eq x y ≡ b → bytes_eq x y ≡ false
-    tested true e = absurd (other (true_same x y e))
+    tested true e = absurd (other (bytes_eq_same x y e))
     tested false e = e
 
 -- a test of names is one of two
@@ -40,7 +34,7 @@ pub name_cases : {P : Type 0} (x y : Name) → ((x ≡ y) → bytes_eq x y ≡ t
 name_cases {P} x y same other = tested (bytes_eq x y) refl
   where
     tested : (b : Bool) → bytes_eq x y ≡ b → P
-    tested true e = same (true_same x y e) e
+    tested true e = same (bytes_eq_same x y e) e
     tested false e = other (false_other x y e) e
 
 -- a name without a place is not there

@@ -2,12 +2,15 @@
 use Rattle.std.specs.Prelude.{◌≡◌, ◌≢◌, ◌⊎◌, ℕ, ◌+◌, ◌<◌, ◌≤◌, List, [], ◌∷◌, ◌++◌, false, Option, Some, None}
 use Rattle.std.specs.Str.{bytes_eq}
 use Rattle.std.proofs.Common.{arith, refl, sym, ap, subst, ◌∙◌, inl, inr}
+use Rattle.std.proofs.lemmas.Bool.{eq-eqb, ne_eqb}
 use Rattle.gos_types.specs.Types.{Type', Var, Fun}
+use Rattle.gos_types.proofs.BytesLemmas.{same_bytes_eq}
 use Rattle.gos_model.specs.Terms as terms
 use Rattle.gos_model.specs.Terms.{Name, Term}
 use Rattle.gos_model.specs.Typing.{Imports}
 use Rattle.gos_model.specs.Weight.{node_type}
 use Rattle.gos_model.specs.Sources.{use_of, binder_of, bound_or_import, one_further}
+use Rattle.gos_model.proofs.NumberLemmas.{number_cases}
 use Rattle.gos_check.specs.declared.linear.Split.{Split}
 use Rattle.gos_check.specs.declared.opens.Open.{Open}
 use Rattle.gos_check.specs.Scopes.{Binders}
@@ -16,8 +19,8 @@ use Rattle.gos_check.specs.Nodes.{Binding, OfFun, OfNew, OneForm, OfFst, OfSnd, 
 use Rattle.gos_check.specs.Linearity.{times, split_in, sides, used, all_sides, made, IsOneOf, Comes, itself, by_left, by_right, IsSplitBetween, SidesApart}
 use Rattle.gos_check.specs.inner.Opens.{number_in, others, merged_splits, merged_names, merged_next, binder_number, binder_next}
 use Rattle.gos_check.specs.inner.Numbering.{one_type, two_type, binder_type, Result, closed_result, use_result, binder_result, one_result, two_result, inner_splits, inner_names, inner_next, choice_result}
-use Rattle.gos_check.proofs.NameLemmas.{name_cases, same_true}
-use Rattle.gos_check.proofs.TimesLemmas.{number_cases, times_same, times_other, times-append, split_in-append, sides-append, inside-append, inside_other, eq_true, eq_false}
+use Rattle.gos_check.proofs.NameLemmas.{name_cases}
+use Rattle.gos_check.proofs.TimesLemmas.{times_same, times_other, times-append, split_in-append, sides-append, inside-append, inside_other}
 use Rattle.gos_check.proofs.MergeLemmas.{numbers, Differ, Gives, Fits, differ_others, number_others, number_times, taken, others_count, merged_differ, merged_upto, merged_fresh, merged_count, merged_gives, split_where}
 
 -- a number is none of some, or it is in an interval
@@ -139,8 +142,8 @@ use_good i g n t x e =
           (λ same f. rw f (omega arith, omega arith, omega arith, inr (omega (arith, same), omega (arith, same))))
           (λ other f. rw f (omega arith, omega arith, omega arith, inl (omega arith)));
       differ = (tt, tt);
-      term = λ env h. h x n (rw (same_true x x refl) refl);
-      types = λ env h. e ∙ ap (node_type i (types_of g)) (sym (h x n (rw (same_true x x refl) refl)));
+      term = λ env h. h x n (rw (same_bytes_eq x x refl) refl);
+      types = λ env h. e ∙ ap (node_type i (types_of g)) (sym (h x n (rw (same_bytes_eq x x refl) refl)));
       ty = e;
       apart = tt;
     }
@@ -245,7 +248,7 @@ binder_gives names x os n env d once old gives = looked (number_in os x) refl
     other_name : (c k : ℕ) (y : Name) → (x ≡ y → ⊥) → bytes_eq x y ≡ false → number_in os y ≡ Some k → k ≢ c → below c env k ≡ use_of (x ∷ names) y
     other_name c k y other f q ne =
         let out : env k ≡ use_of names y = gives y k (number_others x y os other ∙ q) in
-        rw (eq_false k c ne, f) (ap shifted out ∙ shift_use y (binder_of names y))
+        rw (ne_eqb k c ne, f) (ap shifted out ∙ shift_use y (binder_of names y))
 
     looked : (r : Option ℕ) → number_in os x ≡ r → Gives (use_of (x ∷ names)) os (below (binder_number r n) env)
     looked None h y k q =
@@ -257,7 +260,7 @@ binder_gives names x os n env d once old gives = looked (number_in os x) refl
         (λ e t.
         let z : Some c ≡ Some k = sym (subst (λ (v : Name). number_in os v ≡ Some c) e h) ∙ q in
         let same : k ≡ c = cc in
-        rw (eq_true k c same, t) refl)
+        rw (eq-eqb k c same, t) refl)
         (λ other f.
         other_name c k y other f q (λ z.
         let there : 0 < times k (numbers (others x os)) = number_times (others x os) y k (number_others x y os other ∙ q) in

@@ -1,15 +1,17 @@
 -- A node in which two numbers are exchanged means the same where their meanings are exchanged too.
 use Rattle.std.specs.Prelude.{◌≡◌, ℕ, ◌+◌, ◌<◌, List, [], ◌∷◌, ◌++◌, ◌||◌, map, nat_eq, if◌then◌else◌}
 use Rattle.std.proofs.Common.{refl, sym, ap, subst, ◌∙◌, inl, inr}
+use Rattle.std.proofs.lemmas.Bool.{eq-eqb, ne_eqb}
 use Rattle.gos_types.specs.Types.{Type'}
 use Rattle.gos_model.specs.Terms as terms
 use Rattle.gos_model.specs.Typing.{Imports}
 use Rattle.gos_model.specs.Weight.{node_type}
+use Rattle.gos_model.proofs.NumberLemmas.{number_cases}
 use Rattle.gos_check.specs.declared.linear.Split.{Split}
 use Rattle.gos_check.specs.Nodes.{Numbered, Closed, Use, Under, One, Two, If, Meaning, shifted, below, inside_one, inside, meaning, HasTypes, bound_type, binder_term, one_term, two_term}
 use Rattle.gos_check.specs.Linearity.{times, split_in, sides, used, all_sides, made, IsOneOf, Comes, itself, by_left, by_right, IsSplitBetween, SidesApart}
 use Rattle.gos_check.specs.inner.Numbering.{exchanged, renamed_split, renamed}
-use Rattle.gos_check.proofs.TimesLemmas.{number_cases, times-append, eq_true, eq_false}
+use Rattle.gos_check.proofs.TimesLemmas.{times-append}
 
 -- a function that undoes itself
 abbrev pub UndoesItself : (ℕ → ℕ) → Type 0
@@ -18,15 +20,15 @@ UndoesItself f = (k : ℕ) → f (f k) ≡ k
 pub exchange_back : (a b : ℕ) → UndoesItself (exchanged a b)
 exchange_back a b k =
     number_cases k a
-    (λ e t. rw t (number_cases b a (λ q u. rw u (q ∙ sym e)) (λ other f. rw (f, eq_true b b refl) (sym e))))
-    (λ other f. rw f (number_cases k b (λ e t. rw t (rw (eq_true a a refl) (sym e))) (λ differs g. rw g (rw (f, g) refl))))
+    (λ e t. rw t (number_cases b a (λ q u. rw u (q ∙ sym e)) (λ other f. rw (f, eq-eqb b b refl) (sym e))))
+    (λ other f. rw f (number_cases k b (λ e t. rw t (rw (eq-eqb a a refl) (sym e))) (λ differs g. rw g (rw (f, g) refl))))
 
 -- to compare with the image is to compare the image
 same_test : (f : ℕ → ℕ) → UndoesItself f → (k n : ℕ) → nat_eq (f k) n ≡ nat_eq k (f n)
 same_test f back k n =
     number_cases (f k) n
-    (λ e t. t ∙ sym (eq_true k (f n) (sym (back k) ∙ ap f e)))
-    (λ other g. g ∙ sym (eq_false k (f n) (λ e. other (ap f e ∙ back n))))
+    (λ e t. t ∙ sym (eq-eqb k (f n) (sym (back k) ∙ ap f e)))
+    (λ other g. g ∙ sym (ne_eqb k (f n) (λ e. other (ap f e ∙ back n))))
 
 pub both_test : (f : ℕ → ℕ) → UndoesItself f → (k n : ℕ) → nat_eq (f k) (f n) ≡ nat_eq k n
 both_test f back k n = same_test f back k (f n) ∙ ap (λ (j : ℕ). nat_eq k j) (back n)

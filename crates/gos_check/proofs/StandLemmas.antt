@@ -3,7 +3,9 @@ use Rattle.std.specs.Prelude.{◌≡◌, ◌≢◌, ◌⊎◌, ℕ, suc, ◌+◌
 use Rattle.std.specs.Str.{bytes_eq}
 use Rattle.std.proofs.Common.{arith, refl, sym, ap, subst, ◌∙◌, inl, inr}
 use Rattle.std.proofs.lemmas.List.{length-map}
+use Rattle.std.proofs.lemmas.Bool.{eq-eqb, ne_eqb}
 use Rattle.gos_types.specs.Types.{Type', Com, Exp, Var}
+use Rattle.gos_types.proofs.BytesLemmas.{same_bytes_eq}
 use Rattle.gos_syntax.specs.Trees as trees
 use Rattle.gos_syntax.specs.Trees.{Tree, tree_of}
 use Rattle.gos_syntax.specs.Modules.{SeenImport, SeenModule}
@@ -12,6 +14,7 @@ use Rattle.gos_model.specs.Terms.{Name}
 use Rattle.gos_model.specs.Typing.{Imports, import_type, Typed}
 use Rattle.gos_model.specs.Weight.{or_com, node_type}
 use Rattle.gos_model.specs.Sources.{use_of, binder_of, bound_or_import, one_further, op_of, term_of, import_of, program_of}
+use Rattle.gos_model.proofs.NumberLemmas.{number_cases}
 use Rattle.gos_check.specs.declared.opens.Open.{Open}
 use Rattle.gos_check.specs.Scopes.{Binders, type_at}
 use Rattle.gos_check.specs.inner.Walked.{names_of, types_of}
@@ -19,8 +22,8 @@ use Rattle.gos_check.specs.Nodes.{OfFst, OfSnd, OfDeref, OfNot, OfApp, OfBoth, O
 use Rattle.gos_check.specs.Linearity.{times, used, all_sides, made, SidesApart, import_at, StandsFor}
 use Rattle.gos_check.specs.inner.Opens.{number_in, others, next_if, outside, merged_names}
 use Rattle.gos_check.specs.inner.Numbering.{Result, numbered, exchanged, raised, import_number, with_place, placed, inner_names, inner_next}
-use Rattle.gos_check.proofs.NameLemmas.{name_cases, same_true, other_false}
-use Rattle.gos_check.proofs.TimesLemmas.{number_cases, times_same, eq_true, eq_false}
+use Rattle.gos_check.proofs.NameLemmas.{name_cases, other_false}
+use Rattle.gos_check.proofs.TimesLemmas.{times_same}
 use Rattle.gos_check.proofs.MergeLemmas.{numbers, Lacks, Differ, Gives, lacks_none, lacks_others, number_others, number_times}
 use Rattle.gos_check.proofs.NumberLemmas.{Good, closed_good, use_good, one_good, two_good, fun_good, new_good, choice_good}
 use Rattle.gos_check.proofs.RenameLemmas.{exchange_back, meaning_renamed, types_renamed, used_times, all_sides_times, made_times, apart_renamed}
@@ -275,7 +278,7 @@ pulled_place is (o ∷ os) env x p h l far =
         let other : p ≢ q = λ same.
         let one : terms.Import o.name ≡ terms.Import x = sym b.1 ∙ (subst (λ (v : ℕ). import_at (map import_of is) v ≡ terms.Import x) same a.1) in
         l.0 (cc) in
-        rw (eq_false p o.number (λ z. omega (arith, z, old, a.0)), eq_false p q other) refl
+        rw (ne_eqb p o.number (λ z. omega (arith, z, old, a.0)), ne_eqb p q other) refl
 
 -- before the numbers are placed, each name's number stands for its import
 pulled_gives : (is : List SeenImport) (os : List Open) → Differ os
@@ -288,7 +291,7 @@ pulled_gives is (o ∷ os) d once far all x k h =
     (λ e t.
     let z : Some o.number ≡ Some k = sym (rw t refl) ∙ h in
     let number : o.number ≡ k = cc in
-    let p = all o.name (o.number, rw (same_true o.name o.name refl) refl) in
+    let p = all o.name (o.number, rw (same_bytes_eq o.name o.name refl) refl) in
     let a = place_at is o.name p.0 p.1 in
     subst (λ (j : ℕ). pulled is (o ∷ os) (import_at (map import_of is)) j ≡ terms.Import x) number
     (ap (λ (r : Option ℕ). pulled is os (import_at (map import_of is)) (swapped r o.number o.number)) p.1
@@ -306,12 +309,12 @@ pulled_gives is (o ∷ os) d once far all x k h =
     (λ y w. all y (still y w)) x k q)
   where
     to_place : (p : ℕ) → exchanged o.number p o.number ≡ p
-    to_place p = rw (eq_true o.number o.number refl) refl
+    to_place p = rw (eq-eqb o.number o.number refl) refl
 
     stays : (r : Option ℕ) → import_number is o.name ≡ r → (k : ℕ) → length is ≤ k → k ≢ o.number → swapped r o.number k ≡ k
     stays None e k new ne = refl
     stays (Some p) e k new ne =
-        let a = place_at is o.name p e in rw (eq_false k o.number ne, eq_false k p (λ z. omega (arith, z, a.0, new))) refl
+        let a = place_at is o.name p e in rw (ne_eqb k o.number ne, ne_eqb k p (λ z. omega (arith, z, a.0, new))) refl
 
     still : (y : Name) → IsOpen y os → IsOpen y (o ∷ os)
     still y w = name_cases o.name y (λ e t. (o.number, rw t refl)) (λ other f. (w.0, rw f w.1))

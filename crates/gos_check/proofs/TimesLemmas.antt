@@ -1,17 +1,18 @@
 -- How often numbers are in lists, and what splits leave as it is.
 use Rattle.std.specs.Prelude.{◌≡◌, ◌≢◌, ℕ, zero, suc, ◌+◌, ◌<◌, List, [], ◌∷◌, ◌++◌, Contains}
 use Rattle.std.proofs.Common.{arith, refl, sym, ap, subst, ◌∙◌}
-pub use Rattle.gos_model.proofs.NumberLemmas.{eq_true, eq_false, true_eq, false_ne, number_cases}
+use Rattle.std.proofs.lemmas.Bool.{eq-eqb, ne_eqb}
+use Rattle.gos_model.proofs.NumberLemmas.{number_cases}
 use Rattle.gos_check.specs.declared.linear.Split.{Split}
 use Rattle.gos_check.specs.Nodes.{Meaning, inside_one, inside}
 use Rattle.gos_check.specs.Linearity.{times, split_in, sides}
 
 -- a number is once in front of what comes after it
 pub times_same : (n : ℕ) (ns : List ℕ) → times n (n ∷ ns) ≡ 1 + times n ns
-times_same n ns = rw (eq_true n n refl) refl
+times_same n ns = rw (eq-eqb n n refl) refl
 
 pub times_other : (k n : ℕ) (ns : List ℕ) → n ≢ k → times k (n ∷ ns) ≡ times k ns
-times_other k n ns h = rw (eq_false n k h) (omega arith)
+times_other k n ns h = rw (ne_eqb n k h) (omega arith)
 
 -- what isn't in a list is not its first member
 pub times_none : (k n : ℕ) (ns : List ℕ) → times k (n ∷ ns) ≡ 0 → (k ≢ n) × (times k ns ≡ 0)
@@ -51,14 +52,14 @@ inside-append (s ∷ ss) ts env = inside-append ss ts (inside_one s env)
 
 -- a split changes its sides alone
 pub one_other : (s : Split) (env : Meaning) (k : ℕ) → k ≢ s.left → k ≢ s.right → inside_one s env k ≡ env k
-one_other s env k l r = rw (eq_false k s.left l, eq_false k s.right r) refl
+one_other s env k l r = rw (ne_eqb k s.left l, ne_eqb k s.right r) refl
 
 pub one_left : (s : Split) (env : Meaning) → inside_one s env s.left ≡ env s.of
-one_left s env = rw (eq_true s.left s.left refl) refl
+one_left s env = rw (eq-eqb s.left s.left refl) refl
 
 pub one_right : (s : Split) (env : Meaning) → inside_one s env s.right ≡ env s.of
 one_right s env =
-    number_cases s.right s.left (λ e t. rw t refl) (λ other f. rw (f, eq_true s.right s.right refl) refl)
+    number_cases s.right s.left (λ e t. rw t refl) (λ other f. rw (f, eq-eqb s.right s.right refl) refl)
 
 -- splits change their sides alone
 pub inside_other : (ss : List Split) (env : Meaning) (k : ℕ) → times k (sides ss) ≡ 0 → inside ss env k ≡ env k

@@ -4,12 +4,14 @@
 -- Read first: BoundLemmas. Each number is made once, and what is bound is made before.
 use Rattle.std.specs.Prelude.{◌≡◌, ◌≢◌, ℕ, ◌+◌, ◌≤◌, ◌<◌, ◌⊎◌, ◌||◌, Bool, true, false, List, [], ◌∷◌, ◌++◌, nat_eq, if◌then◌else◌}
 use Rattle.std.proofs.Common.{refl, ap, sym, ◌∙◌, subst, arith, inl, inr, true≢false}
+use Rattle.std.proofs.lemmas.Bool.{eq-eqb, ne_eqb}
 use Rattle.gos_types.specs.Types.{Type'}
 use Rattle.gos_model.specs.Terms as terms
 use Rattle.gos_model.specs.Terms.{Term}
 use Rattle.gos_model.specs.Typing.{Imports}
 use Rattle.gos_model.specs.Weight.{node_type}
-use Rattle.gos_check.proofs.TimesLemmas.{number_cases, eq_true, eq_false, times_none, times-append}
+use Rattle.gos_model.proofs.NumberLemmas.{number_cases}
+use Rattle.gos_check.proofs.TimesLemmas.{times_none, times-append}
 use Rattle.gos_check.specs.declared.linear.Split.{Split}
 use Rattle.gos_check.specs.Linearity.{times, sides, made}
 use Rattle.gos_check.specs.Nodes.{Numbered, Closed, Use, Under, One, Two, If, Meaning, below, shifted, inside, inside_one, HasTypes, bound_type}
@@ -33,10 +35,10 @@ Agree types (If t ss m n p) = SplitsAgree ss types × Agree types m × Agree typ
 
 -- what isn't made keeps its type
 type_there : (n : ℕ) (t : Type') (types : Types) → with_type n t types n ≡ t
-type_there n t types = rw (eq_true n n refl) refl
+type_there n t types = rw (eq-eqb n n refl) refl
 
 type_elsewhere : (n : ℕ) (t : Type') (types : Types) (k : ℕ) → k ≢ n → with_type n t types k ≡ types k
-type_elsewhere n t types k h = rw (eq_false k n h) refl
+type_elsewhere n t types k h = rw (ne_eqb k n h) refl
 
 other_way : (k n : ℕ) → n ≢ k → k ≢ n
 other_way k n h e = h (sym e)
@@ -120,13 +122,13 @@ splits_agree env (s ∷ ss) types last later once before (one, bound) comes =
     left_once : 1 + (times s.left (s.right ∷ sides ss) + times s.left later) ≤ 1
     left_once =
         let all = once s.left in
-        let there : times s.left (sides (s ∷ ss)) ≡ 1 + times s.left (s.right ∷ sides ss) = rw (eq_true s.left s.left refl) refl in
+        let there : times s.left (sides (s ∷ ss)) ≡ 1 + times s.left (s.right ∷ sides ss) = rw (eq-eqb s.left s.left refl) refl in
         omega (arith, all, there)
 
     right_once : 1 + (times s.right (sides ss) + times s.right later) + (if nat_eq s.left s.right then 1 else 0) ≤ 1
     right_once =
         let all = once s.right in
-        let there : times s.right (s.right ∷ sides ss) ≡ 1 + times s.right (sides ss) = rw (eq_true s.right s.right refl) refl in
+        let there : times s.right (s.right ∷ sides ss) ≡ 1 + times s.right (sides ss) = rw (eq-eqb s.right s.right refl) refl in
         omega (arith, all, there)
 
     at_left : last s.left ≡ types s.of
@@ -136,7 +138,7 @@ splits_agree env (s ∷ ss) types last later once before (one, bound) comes =
 
     differ : s.right ≢ s.left
     differ e =
-        let same : 0 + (if nat_eq s.left s.right then 1 else 0) ≡ 1 = rw (eq_true s.left s.right (sym e)) refl in
+        let same : 0 + (if nat_eq s.left s.right then 1 else 0) ≡ 1 = rw (eq-eqb s.left s.right (sym e)) refl in
         omega (arith, right_once, same)
 
     at_right : last s.right ≡ types s.of
@@ -156,7 +158,7 @@ before_below : (n : ℕ) (env : Meaning) (here later : List ℕ) → Once (n ∷
 before_below n env here later once before k h =
     let all = once k in
     number_cases k n
-    (λ e t. let there : times k (n ∷ here) ≡ 1 + times k here = rw (eq_true n k (sym e)) refl in omega (arith, all, there))
+    (λ e t. let there : times k (n ∷ here) ≡ 1 + times k here = rw (eq-eqb n k (sym e)) refl in omega (arith, all, there))
     (λ e t. let none = before k (shifted_bound (env k) (subst (λ (b : Bool). is_bound (if b then terms.Bound 0 else shifted (env k)) ≡ true) t h)) in
     omega (arith, none))
 
@@ -196,7 +198,7 @@ agree (Under t ss b n m) env types last later once before (bound, rest) comes = 
     n_once =
         let all = once n in
         let one = parted n in
-        let there : times n (n ∷ made m) ≡ 1 + times n (made m) = rw (eq_true n n refl) refl in
+        let there : times n (n ∷ made m) ≡ 1 + times n (made m) = rw (eq-eqb n n refl) refl in
         omega (arith, all, one, there)
 agree (One t ss f m) env types last later once before (bound, rest) comes = (
   splits_agree env ss types last behind

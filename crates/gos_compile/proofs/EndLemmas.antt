@@ -2,27 +2,18 @@
 use Rattle.std.specs.Prelude.{◌≡◌, ℕ, zero, suc, ◌+◌, ◌*◌, ◌≤◌, ◌<◌, Bool, true, false, not, ◌&&◌, ◌||◌, List, [], ◌∷◌, ◌++◌, Option, None, Some, length, slice_get, if◌then◌else◌}
 use Rattle.std.proofs.Common.{refl, ap, sym, ◌∙◌, subst, arith, true≢false, length-append}
 use Rattle.gos_types.specs.declared.shakes.Role.{Role}
-use Rattle.gos_types.specs.declared.shakes.Role.TheVariants.{Serve, Ask}
+use Rattle.gos_types.specs.declared.shakes.Role.TheVariants.{Ask}
+use Rattle.gos_types.proofs.RoleLemmas.{ask_is_not_serve}
 use Rattle.gos_model.specs.Typing.{Imports}
-use Rattle.gos_check.proofs.TimesLemmas.{eq_true}
 use Rattle.gos_plan.specs.Kinds.{Part, Contact, asks, serves, contacts_of, part_contacts}
 use Rattle.gos_plan.specs.Plans.{End, PartEnd, ImportEnd, ResultEnd, Joint, Plan, contact_at, contacts_of_part, contacts_of_import, turned_if, same_end, is_free, AreRight, IsRight}
 use Rattle.gos_realises.specs.realises.Regular.{count}
 use Rattle.gos_realises.specs.realises.Slim.{all_shakes}
-use Rattle.gos_plan.proofs.JointLemmas.{same_is}
-
--- an end that asks is none that serves
-ask_serve : Ask ≡ Serve → ⊥
-ask_serve e = cc
+use Rattle.gos_plan.proofs.JointLemmas.{same_is, same_itself}
 
 abbrev role_or : Option Contact → Role
 role_or None = Ask
 role_or (Some c) = c.role
-
-same_self : (e : End) → same_end e e ≡ true
-same_self (PartEnd i h) = rw (eq_true i i refl, eq_true h h refl) refl
-same_self (ImportEnd i h) = rw (eq_true i i refl, eq_true h h refl) refl
-same_self (ResultEnd h) = eq_true h h refl
 
 -- how often an end is in a list
 abbrev appears : End → List End → ℕ
@@ -58,7 +49,7 @@ without_one x (y ∷ ys) h = by (same_end y x) refl (without_one x ys) h
 shorter : (xs ys : List End) → ((e : End) → appears e xs ≤ appears e ys) → length xs ≤ length ys
 shorter [] ys h = omega arith
 shorter (x ∷ xs) ys h =
-    let there : appears x (x ∷ xs) ≡ 1 + appears x xs = rw (same_self x) refl in
+    let there : appears x (x ∷ xs) ≡ 1 + appears x xs = rw (same_itself x) refl in
     let all = h x in
     let (counts, size) = without_one x ys (omega (arith, all, there)) in
     let rest = shorter xs (without x ys) (λ e. let one = counts e in let more = h e in omega (arith, one, more)) in
@@ -113,14 +104,14 @@ fresh p before (j ∷ js) (((q, v, asks_there, serves_there), free_asking, free_
             absurd (true≢false (sym same ∙ other))
 
     turned : (x : End) → same_end x e ≡ true → same_end e x ≡ true
-    turned x h = let same : x ≡ e = same_is x e h in ap (λ (y : End). same_end e y) same ∙ same_self e
+    turned x h = let same : x ≡ e = same_is x e h in ap (λ (y : End). same_end e y) same ∙ same_itself e
 
     not_both : j.asking ≡ e → j.serving ≡ e → ⊥
     not_both one other =
         let there : contact_at p j.asking ≡ Some (serves q v) =
         subst (λ (x : End). contact_at p x ≡ Some (serves q v)) (other ∙ sym one) serves_there
         in
-        ask_serve (ap (λ (o : Option Contact). role_or o) (sym asks_there ∙ there))
+        ask_is_not_serve (ap (λ (o : Option Contact). role_or o) (sym asks_there ∙ there))
 
     by : (a b : Bool) → same_end j.asking e ≡ a → same_end j.serving e ≡ b → IsFresh p (j ∷ before) js e
         → ((if a then 1 else 0) + ((if b then 1 else 0) + appears e (ends_of js)) ≤ 1)
@@ -197,7 +188,7 @@ row_has : (f : ℕ → End) (from h n : ℕ) → h < n → 0 < appears (f (from 
 row_has f from h zero low = absurd (omega (arith, low))
 row_has f from zero (suc n) low =
     let same : f (from + 0) ≡ f from = ap f (omega arith) in
-    let here : same_end (f from) (f (from + 0)) ≡ true = ap (λ (x : End). same_end (f from) x) same ∙ same_self (f from) in
+    let here : same_end (f from) (f (from + 0)) ≡ true = ap (λ (x : End). same_end (f from) x) same ∙ same_itself (f from) in
     rw here (omega arith)
 row_has f from (suc h) (suc n) low =
     let there : 0 < appears (f (suc from + h)) (end_row f (suc from) n) = row_has f (suc from) h n (omega (arith, low)) in

@@ -4,12 +4,13 @@
 -- these would have to be split in turn; but there are fewer splits than sides.
 use Rattle.std.specs.Prelude.{◌≡◌, ℕ, zero, suc, ◌+◌, ◌≤◌, ◌<◌, ◌⊎◌, ◌||◌, Bool, true, false, List, [], ◌∷◌, ◌++◌, length, nat_eq, if◌then◌else◌}
 use Rattle.std.proofs.Common.{true≢false, refl, ap, sym, ◌∙◌, subst, arith, inl, inr}
+use Rattle.std.proofs.lemmas.Bool.{eq-eqb}
 use Rattle.gos_model.specs.Terms as terms
 use Rattle.gos_model.specs.Terms.{Term}
 use Rattle.gos_model.specs.Typing.{Imports}
 use Rattle.gos_model.specs.Moves.{Program}
-use Rattle.gos_model.proofs.NumberLemmas.{either}
-use Rattle.gos_check.proofs.TimesLemmas.{number_cases, eq_true, times_same, times-append, split_in-append, sides-append}
+use Rattle.gos_model.proofs.NumberLemmas.{either, number_cases}
+use Rattle.gos_check.proofs.TimesLemmas.{times_same, times-append, split_in-append, sides-append}
 use Rattle.gos_check.specs.declared.linear.Split.{Split}
 use Rattle.gos_check.specs.Linearity.{times, split_in, sides, used, made, all_sides, import_at, StandsFor}
 use Rattle.gos_check.specs.Nodes.{Numbered, Closed, Use, Under, One, Two, If, Meaning, below, shifted, inside, inside_one}
@@ -87,10 +88,10 @@ sides_counted k env (s ∷ ss) = by (is_bound (env s.of)) (sides_counted k (insi
     by true h = omega (arith, h)
     by false h = omega (arith, h)
 
-split_times : (k : ℕ) (ss ts : List Split) → times k (split_in (ss ++ ts)) ≡ times k (split_in ss) + times k (split_in ts)
+pub split_times : (k : ℕ) (ss ts : List Split) → times k (split_in (ss ++ ts)) ≡ times k (split_in ss) + times k (split_in ts)
 split_times k ss ts = ap (λ (ns : List ℕ). times k ns) (split_in-append ss ts) ∙ times-append k (split_in ss) (split_in ts)
 
-sides_times : (k : ℕ) (ss ts : List Split) → times k (sides (ss ++ ts)) ≡ times k (sides ss) + times k (sides ts)
+pub sides_times : (k : ℕ) (ss ts : List Split) → times k (sides (ss ++ ts)) ≡ times k (sides ss) + times k (sides ts)
 sides_times k ss ts = ap (λ (ns : List ℕ). times k ns) (sides-append ss ts) ∙ times-append k (sides ss) (sides ts)
 
 -- a number that is bound behind splits is bound before, or a side of one that is kept
@@ -98,10 +99,10 @@ pub side_bound : (k : ℕ) (env : Meaning) (s : Split) → is_bound (inside_one 
     → (is_bound (env k) ≡ true) ⊎ ((0 < times k (sides (s ∷ []))) × (is_bound (env s.of) ≡ true))
 side_bound k env s =
     number_cases k s.left
-    (λ e t h. inr (rw (sym e, eq_true k k refl) (omega arith), subst (λ (b : Bool). is_bound (if b || nat_eq k s.right then env s.of else env k) ≡ true) t h))
+    (λ e t h. inr (rw (sym e, eq-eqb k k refl) (omega arith), subst (λ (b : Bool). is_bound (if b || nat_eq k s.right then env s.of else env k) ≡ true) t h))
     (λ e t. number_cases k s.right
     (λ f u h. inr (
-      rw (sym f, eq_true k k refl) (omega arith),
+      rw (sym f, eq-eqb k k refl) (omega arith),
       subst (λ (b : Bool). is_bound (if b then env s.of else env k) ≡ true) u
           (subst (λ (b : Bool). is_bound (if b || nat_eq k s.right then env s.of else env k) ≡ true) t h),
     ))
@@ -170,7 +171,7 @@ below_bound : (k n : ℕ) (env : Meaning) (x : ℕ) → (is_bound (below n env k
     → (is_bound (env k) ≡ true) ⊎ (0 < (if nat_eq n k then 1 else 0) + x)
 below_bound k n env x (inr h) = inr (omega (arith, h))
 below_bound k n env x (inl h) =
-    number_cases k n (λ e t. inr (rw (eq_true n k (sym e)) (omega arith)))
+    number_cases k n (λ e t. inr (rw (eq-eqb n k (sym e)) (omega arith)))
     (λ e t. inl (shifted_bound (env k) (subst (λ (b : Bool). is_bound (if b then terms.Bound 0 else shifted (env k)) ≡ true) t h)))
 
 -- what is used elsewhere than at a lost split is bound before, or made elsewhere than at one
@@ -418,7 +419,7 @@ sides_length : (ss : List Split) → length (sides ss) ≡ length ss + length (s
 sides_length [] = omega arith
 sides_length (s ∷ ss) = let h = sides_length ss in omega (arith, h)
 
-split_length : (ss : List Split) → length (split_in ss) ≡ length ss
+pub split_length : (ss : List Split) → length (split_in ss) ≡ length ss
 split_length [] = refl
 split_length (s ∷ ss) = ap (λ (n : ℕ). suc n) (split_length ss)
 

@@ -8,10 +8,10 @@ mod ShakeLemmas
 pub mod ThinLemmas
 mod RangeLemmas
 mod SmallPlanLemmas
-mod KnownLemmas
+pub mod KnownLemmas
 pub mod BoundLemmas
 pub mod AgreeLemmas
-mod LoadLemmas
+pub mod LoadLemmas
 mod TypedLemmas
 mod EndLemmas
 mod SlimLemmas

@@ -6,6 +6,7 @@ use Rattle.std.specs.Prelude.{◌≡◌, ◌≢◌, ℕ, zero, suc, ◌+◌, ◌
 use Rattle.std.proofs.Common.{refl, ap, sym, ◌∙◌, arith, length-append, true≢false}
 use Rattle.std.proofs.lemmas.List.{length-map}
 use Rattle.gos_types.specs.Types.{Type', type_of}
+use Rattle.gos_types.proofs.BytesLemmas.{same_bytes_eq}
 use Rattle.gos_syntax.specs.Modules.{SeenImport}
 use Rattle.gos_model.specs.Terms as terms
 use Rattle.gos_model.specs.Terms.{Name, Term}
@@ -13,7 +14,7 @@ use Rattle.gos_model.specs.Typing.{Imports, Imported}
 use Rattle.gos_model.specs.Weight as weights
 use Rattle.gos_model.specs.Weight.{node_type, weight}
 use Rattle.gos_model.specs.Sources.{import_of}
-use Rattle.gos_check.proofs.NameLemmas.{same_true, other_false}
+use Rattle.gos_check.proofs.NameLemmas.{other_false}
 use Rattle.gos_check.proofs.TimesLemmas.{times-append}
 use Rattle.gos_check.specs.declared.linear.Split.{Split}
 use Rattle.gos_check.specs.Accepted.{IsNew, NamesDiffer}
@@ -24,6 +25,7 @@ use Rattle.gos_plan.specs.Kinds as kinds
 use Rattle.gos_plan.specs.Kinds.{Part, part_contacts, contacts_of, other_side}
 use Rattle.gos_realises.specs.realises.Regular.{count}
 use Rattle.gos_realises.specs.realises.Slim.{all_shakes}
+use Rattle.gos_realises.proofs.realises.CountLemmas.{shakes-append}
 use Rattle.gos_compile.specs.Wiring.{Types, type_of_node, shares, closed_part, binder_part, one_part, two_part, parts_of, import_types, all_types}
 use Rattle.gos_compile.specs.inner.Loads.{share_load, splits_load, load}
 use Rattle.gos_compile.proofs.KnownLemmas.{is_bound, UsesBound, none_lost, total, total-append, total_fewer}
@@ -106,7 +108,7 @@ all_twice types (If t ss m n p) (agrees, more, moren, morep) =
     omega (arith, parted, parted_three, parted_two, one, test, left, right)
 
 -- a side is made where it stands
-sides_made : (k : ℕ) (m : Numbered) → times k (all_sides m) ≤ times k (made m)
+pub sides_made : (k : ℕ) (m : Numbered) → times k (all_sides m) ≤ times k (made m)
 sides_made k (Closed t ss c) = omega arith
 sides_made k (Use t ss n) = omega arith
 sides_made k (Under t ss b n m) =
@@ -158,10 +160,6 @@ few_splits types m agrees once used_there =
 splits_total : (types : Types) (ss : List Split) → splits_load ss types ≡ total (share_load types) (split_in ss)
 splits_total types [] = refl
 splits_total types (s ∷ ss) = let rest = splits_total types ss in omega (arith, rest)
-
-pub shakes-append : (ks ls : List Part) → all_shakes (ks ++ ls) ≡ all_shakes ks + all_shakes ls
-shakes-append [] ls = omega arith
-shakes-append (k ∷ ks) ls = let rest = shakes-append ks ls in omega (arith, rest)
 
 pub share_shakes : (t : Type') → length (part_contacts (kinds.Share t)) ≡ 3 * count t
 share_shakes t =
@@ -286,7 +284,7 @@ import_past x t is new k bound = by (import_at (map import_of is) k) bound (else
 
 imports_typed : (is : List SeenImport) → NamesDiffer is → AreTyped (map import_of is) [] (import_at (map import_of is)) (import_types (map import_of is))
 imports_typed [] differ k h = absurd (true≢false (sym h))
-imports_typed (i ∷ is) (new, differ) zero h = rw (same_true i.name i.name refl) refl
+imports_typed (i ∷ is) (new, differ) zero h = rw (same_bytes_eq i.name i.name refl) refl
 imports_typed (i ∷ is) (new, differ) (suc k) h =
     imports_typed is differ k h ∙ sym (import_past i.name (type_of i.ty) is new k h)
 

@@ -2,11 +2,12 @@
 --
 -- Read first: Ranges of gos_plan; Accepted and Checked of gos_check. A typed term has types with widths, and each number of
 -- it a type that is small.
-use Rattle.std.specs.Prelude.{◌≡◌, ℕ, zero, suc, ◌≤◌, ◌<◌, ◌^◌, ◌⊎◌, Bool, true, false, not, ◌&&◌, List, [], ◌∷◌, ◌++◌, All, length, map, nat_eq, if◌then◌else◌, Some, slice_get}
+use Rattle.std.specs.Prelude.{◌≡◌, ℕ, zero, suc, ◌≤◌, ◌<◌, ◌^◌, ◌⊎◌, Bool, true, false, not, List, [], ◌∷◌, ◌++◌, All, length, map, nat_eq, if◌then◌else◌, Some, slice_get}
 use Rattle.std.specs.Str.{bytes_eq}
 use Rattle.std.specs.List.{AllByRecursion, list_all}
 use Rattle.std.proofs.Common.{refl, ap, sym, ◌∙◌, subst, arith, inl, inr, true≢false}
 use Rattle.std.proofs.lemmas.List.Elements.{All-nil, All-cons}
+use Rattle.std.proofs.lemmas.Bool.{eq-eqb, and_parts}
 use Rattle.gos_types.specs.declared.types.Ty.{Ty}
 use Rattle.gos_types.specs.Types.{Type', Com, Exp, Var, Pair, Fun, type_of}
 use Rattle.gos_types.specs.Handshakes.{handshakes_of}
@@ -16,7 +17,6 @@ use Rattle.gos_model.specs.Terms.{Name, Op, Term}
 use Rattle.gos_model.specs.Typing.{Imports, Typed, import_type}
 use Rattle.gos_model.specs.Laws.{NodeHasType}
 use Rattle.gos_model.specs.Sources as sources
-use Rattle.gos_check.proofs.TimesLemmas.{eq_true}
 use Rattle.gos_check.specs.declared.linear.Split.{Split}
 use Rattle.gos_check.specs.Accepted.{KeepsLimits, AreWritten}
 use Rattle.gos_check.specs.Checked.{SeenLinear, IsChecked}
@@ -274,7 +274,7 @@ parts_range (If t ss m n p) types all (own, fit, fitn, fitp) =
 
 -- the program's kinds
 not_none : (w : ℕ) → not (nat_eq w 0) ≡ true → (w ≡ 0) ⊎ IsWidth w → IsWidth w
-not_none w plain (inl e) = absurd (true≢false (sym plain ∙ ap (λ (b : Bool). not b) (eq_true w 0 e)))
+not_none w plain (inl e) = absurd (true≢false (sym plain ∙ ap (λ (b : Bool). not b) (eq-eqb w 0 e)))
 not_none w plain (inr h) = h
 
 kind_range : (k : Kind) → is_plain k ≡ true → HasRange (part_of k) → IsInRange k
@@ -293,14 +293,10 @@ kind_range (declared_kinds.Deref w) p h = h
 kind_range (declared_kinds.Local w v) p h = h
 kind_range (declared_kinds.Share t) p h = h
 
-both_true : (a b : Bool) → (a && b) ≡ true → (a ≡ true) × (b ≡ true)
-both_true true b h = (refl, h)
-both_true false b h = absurd (true≢false (sym h))
-
 kinds_range : (ks : List Kind) → list_all is_plain ks ≡ true → AllByRecursion HasRange (map part_of ks) → All IsInRange ks
 kinds_range [] p h = All-nil IsInRange
 kinds_range (k ∷ ks) p (r, h) =
-    let (one, rest) = both_true (is_plain k) (list_all is_plain ks) p in
+    let (one, rest) = and_parts (is_plain k) (list_all is_plain ks) p in
     All-cons IsInRange k ks (kind_range k one r) (kinds_range ks rest h)
 
 -- the program's imports

@@ -1,13 +1,13 @@
 -- Rows of points grow at their end; and how many handshakes a type has.
 use Rattle.std.specs.Prelude.{◌≡◌, ℕ, zero, suc, ◌+◌, ◌≤◌, List, [], ◌∷◌, ◌++◌}
-use Rattle.std.proofs.Common.{refl, ap, ◌∙◌, append_assoc, arith, length-append}
-use Rattle.std.proofs.lemmas.List.{length-map}
+use Rattle.std.proofs.Common.{ap, ◌∙◌, append_assoc, arith}
 use Rattle.gos_types.specs.Types.{Type', Com, Exp, Var, Pair, Fun}
 use Rattle.gos_check.specs.Nodes.{argument_of}
 use Rattle.gos_ties.specs.declared.points.Place.{Place}
 use Rattle.gos_ties.specs.declared.points.Point.{Point}
 use Rattle.gos_realises.specs.realises.Regular.{count}
 use Rattle.gos_ties.specs.Ties.{point}
+use Rattle.gos_realises.proofs.realises.CountLemmas.{count_fun}
 use Rattle.gos_compile.specs.Wiring.{row}
 
 row_longer : (place : Place) (h n k : ℕ) → k ≡ h + n → row place h n ++ point place k ∷ [] ≡ row place h (suc n)
@@ -20,13 +20,6 @@ pub row_more : (place : Place) (n m : ℕ) (start points : List Point) → m ≡
 row_more place n m start points e is =
     let f : m ≡ suc n = omega (arith, e) in
     rw (is, f) (append_assoc start (row place 0 n) (point place n ∷ []) ∙ ap (λ (ps : List Point). start ++ ps) (row_longer place 0 n n (omega arith)))
-
--- a product and a function have the handshakes of both sides
-pub count_pair : (a b : Type') → count (Pair a b) ≡ count a + count b
-count_pair a b = simp (length-append, length-map) refl
-
-pub count_fun : (a b : Type') → count (Fun a b) ≡ count a + count b
-count_fun a b = simp (length-append, length-map) refl
 
 pub argument_fewer : (t : Type') → count (argument_of t) ≤ count t
 argument_fewer Com = omega arith

@@ -2,15 +2,14 @@
 --
 -- Which ends ask and which serve is read off the plan. In the last plan points have classes, which ties keep, so that
 -- a path connects no ends of different classes.
-use Rattle.std.specs.Prelude.{◌≡◌, ℕ, zero, suc, ◌⊎◌, List, [], ◌∷◌, Option, Some, None}
+use Rattle.std.specs.Prelude.{◌≡◌, ℕ, zero, suc, ◌⊎◌, List, [], ◌∷◌, Some}
 use Rattle.std.proofs.Common.{refl, ap, sym, ◌∙◌, subst, arith, inl, inr}
-use Rattle.gos_types.specs.declared.shakes.Role.{Role}
-use Rattle.gos_types.specs.declared.shakes.Role.TheVariants.{Serve, Ask}
 use Rattle.gos_model.specs.Terms as terms
 use Rattle.gos_types.specs.Types.{Com}
 use Rattle.gos_check.specs.Nodes.{Closed}
-use Rattle.gos_plan.specs.Kinds.{Contact, asks, serves}
+use Rattle.gos_plan.specs.Kinds.{asks, serves}
 use Rattle.gos_plan.specs.Plans.{End, PartEnd, ImportEnd, ResultEnd, Joint, contact_at}
+use Rattle.gos_plan.proofs.ContactLemmas.{asks_is_not_serves, serves_is_not_asks}
 use Rattle.gos_ties.specs.declared.points.Place.{Place}
 use Rattle.gos_ties.specs.declared.points.Place.TheVariants as places
 use Rattle.gos_ties.specs.declared.points.Point.{Point}
@@ -19,24 +18,10 @@ use Rattle.gos_ties.specs.Ties.{point, at, Meet, Path, here, along, Connects, jo
 use Rattle.gos_compile.specs.Wiring.{all_ties}
 use Rattle.gos_compile.specs.SmallPlans.{skip_plan, SkipIsPlanned, same_term, same_plan, SameIsPlanned, two_imports, both_term, both_plan, BothIsPlanned}
 
--- an end that serves asks not, and the other way round
-abbrev role_or : Option Contact → Role
-role_or None = Ask
-role_or (Some c) = c.role
-
-serve_ask : Serve ≡ Ask → ⊥
-serve_ask e = cc
-
-no_ask : (m n q v : ℕ) → Some (serves m n) ≡ Some (asks q v) → ⊥
-no_ask m n q v e = serve_ask (ap (λ (o : Option Contact). role_or o) e)
-
-no_serve : (m n q v : ℕ) → Some (asks m n) ≡ Some (serves q v) → ⊥
-no_serve m n q v e = serve_ask (sym (ap (λ (o : Option Contact). role_or o) e))
-
 -- the plan of skip
 
 skip_asks : (a : End) (q v : ℕ) → contact_at skip_plan a ≡ Some (asks q v) → a ≡ ResultEnd 0
-skip_asks (PartEnd zero zero) q v e = absurd (no_ask 0 0 q v e)
+skip_asks (PartEnd zero zero) q v e = absurd (serves_is_not_asks 0 0 q v e)
 skip_asks (PartEnd zero (suc h)) q v e = cc
 skip_asks (PartEnd (suc i) h) q v e = cc
 skip_asks (ImportEnd i h) q v e = cc
@@ -48,7 +33,7 @@ skip_serves (PartEnd zero zero) q v e = refl
 skip_serves (PartEnd zero (suc h)) q v e = cc
 skip_serves (PartEnd (suc i) h) q v e = cc
 skip_serves (ImportEnd i h) q v e = cc
-skip_serves (ResultEnd zero) q v e = absurd (no_serve 0 0 q v e)
+skip_serves (ResultEnd zero) q v e = absurd (asks_is_not_serves 0 0 q v e)
 skip_serves (ResultEnd (suc h)) q v e = cc
 
 pub skip_is_planned : SkipIsPlanned
@@ -77,7 +62,7 @@ skip_is_planned =
 same_asks : (a : End) (q v : ℕ) → contact_at same_plan a ≡ Some (asks q v) → a ≡ ResultEnd 1
 same_asks (PartEnd i h) q v e = cc
 same_asks (ImportEnd i h) q v e = cc
-same_asks (ResultEnd zero) q v e = absurd (no_ask 0 0 q v e)
+same_asks (ResultEnd zero) q v e = absurd (serves_is_not_asks 0 0 q v e)
 same_asks (ResultEnd (suc zero)) q v e = refl
 same_asks (ResultEnd (suc (suc h))) q v e = cc
 
@@ -85,7 +70,7 @@ same_serves : (a : End) (q v : ℕ) → contact_at same_plan a ≡ Some (serves 
 same_serves (PartEnd i h) q v e = cc
 same_serves (ImportEnd i h) q v e = cc
 same_serves (ResultEnd zero) q v e = refl
-same_serves (ResultEnd (suc zero)) q v e = absurd (no_serve 0 0 q v e)
+same_serves (ResultEnd (suc zero)) q v e = absurd (asks_is_not_serves 0 0 q v e)
 same_serves (ResultEnd (suc (suc h))) q v e = cc
 
 pub same_is_planned : SameIsPlanned
@@ -121,20 +106,20 @@ same_is_planned =
 both_asks : (a : End) (q v : ℕ) → contact_at both_plan a ≡ Some (asks q v) → (a ≡ ResultEnd 0) ⊎ (a ≡ PartEnd 0 0) ⊎ (a ≡ PartEnd 0 1)
 both_asks (PartEnd zero zero) q v e = inr (inl refl)
 both_asks (PartEnd zero (suc zero)) q v e = inr (inr refl)
-both_asks (PartEnd zero (suc (suc zero))) q v e = absurd (no_ask 0 0 q v e)
+both_asks (PartEnd zero (suc (suc zero))) q v e = absurd (serves_is_not_asks 0 0 q v e)
 both_asks (PartEnd zero (suc (suc (suc h)))) q v e = cc
 both_asks (PartEnd (suc i) h) q v e = cc
-both_asks (ImportEnd zero zero) q v e = absurd (no_ask 0 0 q v e)
+both_asks (ImportEnd zero zero) q v e = absurd (serves_is_not_asks 0 0 q v e)
 both_asks (ImportEnd zero (suc h)) q v e = cc
-both_asks (ImportEnd (suc zero) zero) q v e = absurd (no_ask 0 0 q v e)
+both_asks (ImportEnd (suc zero) zero) q v e = absurd (serves_is_not_asks 0 0 q v e)
 both_asks (ImportEnd (suc zero) (suc h)) q v e = cc
 both_asks (ImportEnd (suc (suc i)) h) q v e = cc
 both_asks (ResultEnd zero) q v e = inl refl
 both_asks (ResultEnd (suc h)) q v e = cc
 
 both_serves : (a : End) (q v : ℕ) → contact_at both_plan a ≡ Some (serves q v) → (a ≡ PartEnd 0 2) ⊎ (a ≡ ImportEnd 0 0) ⊎ (a ≡ ImportEnd 1 0)
-both_serves (PartEnd zero zero) q v e = absurd (no_serve 0 0 q v e)
-both_serves (PartEnd zero (suc zero)) q v e = absurd (no_serve 0 0 q v e)
+both_serves (PartEnd zero zero) q v e = absurd (asks_is_not_serves 0 0 q v e)
+both_serves (PartEnd zero (suc zero)) q v e = absurd (asks_is_not_serves 0 0 q v e)
 both_serves (PartEnd zero (suc (suc zero))) q v e = inl refl
 both_serves (PartEnd zero (suc (suc (suc h)))) q v e = cc
 both_serves (PartEnd (suc i) h) q v e = cc
@@ -143,7 +128,7 @@ both_serves (ImportEnd zero (suc h)) q v e = cc
 both_serves (ImportEnd (suc zero) zero) q v e = inr (inr refl)
 both_serves (ImportEnd (suc zero) (suc h)) q v e = cc
 both_serves (ImportEnd (suc (suc i)) h) q v e = cc
-both_serves (ResultEnd zero) q v e = absurd (no_serve 0 0 q v e)
+both_serves (ResultEnd zero) q v e = absurd (asks_is_not_serves 0 0 q v e)
 both_serves (ResultEnd (suc h)) q v e = cc
 
 -- classes of its points

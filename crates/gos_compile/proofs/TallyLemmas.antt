@@ -1,10 +1,11 @@
 -- No point of a module's ties is in more than two of them, and no end in more than one.
 use Rattle.std.specs.Prelude.{◌≡◌, ℕ, zero, suc, ◌+◌, ◌-◌, ◌≤◌, ◌<◌, Bool, true, false, List, [], ◌∷◌, ◌++◌, length, take, drop, nat_eq, if◌then◌else◌}
 use Rattle.std.proofs.Common.{refl, ap, ◌∙◌, arith}
-use Rattle.gos_check.proofs.TimesLemmas.{number_cases, eq_false}
+use Rattle.std.proofs.lemmas.Bool.{ne_eqb}
 use Rattle.gos_check.specs.declared.linear.Split.{Split}
 use Rattle.gos_check.specs.Nodes.{Numbered, Closed, Use, Under, One, Two, If, Binding, OfFun, OfNew, OneForm, OfFst, OfSnd, OfDeref, OfNot, TwoForm, OfApp, OfBoth, OfSeq, OfPar, OfWhile, OfAssign, OfBin, argument_of}
 use Rattle.gos_types.specs.Types.{Type'}
+use Rattle.gos_model.proofs.NumberLemmas.{number_cases}
 use Rattle.gos_ties.specs.declared.points.Place.{Place}
 use Rattle.gos_ties.specs.declared.points.Place.TheVariants as places
 use Rattle.gos_ties.specs.declared.points.Point.{Point}
@@ -49,7 +50,7 @@ row_beyond : (q : Point) (place : Place) (h n : ℕ) → q.shake < h → occurs 
 row_beyond q place h zero low = refl
 row_beyond q place h (suc n) low =
     let rest = row_beyond q place (suc h) n (omega (arith, low)) in
-    let none : nat_eq h q.shake ≡ false = eq_false h q.shake (λ e. let f : h ≡ q.shake = e in omega (arith, f, low)) in
+    let none : nat_eq h q.shake ≡ false = ne_eqb h q.shake (λ e. let f : h ≡ q.shake = e in omega (arith, f, low)) in
     rw none (omega (arith, rest))
 
 pub row_once : (q : Point) (place : Place) (h n : ℕ) → occurs q (row place h n) ≤ place_once q.place place

@@ -4,7 +4,8 @@
 -- as it is used and made.
 use Rattle.std.specs.Prelude.{◌≡◌, ℕ, zero, suc, ◌+◌, ◌≤◌, ◌<◌, List, [], ◌∷◌, ◌++◌, length, nat_eq, if◌then◌else◌, false, Some}
 use Rattle.std.proofs.Common.{refl, ap, arith, length-append}
-use Rattle.gos_check.proofs.TimesLemmas.{number_cases, eq_false, times-append}
+use Rattle.std.proofs.lemmas.Bool.{ne_eqb}
+use Rattle.gos_check.proofs.TimesLemmas.{times-append}
 use Rattle.gos_check.specs.declared.linear.Split.{Split}
 use Rattle.gos_check.specs.Nodes.{Numbered, Closed, Use, Under, One, Two, If, Binding, OfFun, OfNew, OneForm, OfFst, OfSnd, OfDeref, OfNot, TwoForm, OfApp, OfBoth, OfSeq, OfPar, OfWhile, OfAssign, OfBin}
 use Rattle.gos_check.specs.Linearity.{times, split_in, sides, used, made, StandsFor}
@@ -13,6 +14,7 @@ use Rattle.gos_model.specs.Terms as terms
 use Rattle.gos_model.specs.Terms.{Term}
 use Rattle.gos_model.specs.Typing.{Imports}
 use Rattle.gos_model.specs.Moves.{Program}
+use Rattle.gos_model.proofs.NumberLemmas.{number_cases}
 use Rattle.gos_plan.specs.Plans.{End}
 use Rattle.gos_ties.specs.declared.points.Place.{Place}
 use Rattle.gos_ties.specs.declared.points.Place.TheVariants as places
@@ -47,7 +49,7 @@ pub span_beyond : (k i n : ℕ) → k < i → span k i n ≡ 0
 span_beyond k i zero low = refl
 span_beyond k i (suc n) low =
     let rest = span_beyond k (suc i) n (omega (arith, low)) in
-    let other : nat_eq i k ≡ false = eq_false i k (λ e. let f : i ≡ k = e in omega (arith, f, low)) in
+    let other : nat_eq i k ≡ false = ne_eqb i k (λ e. let f : i ≡ k = e in omega (arith, f, low)) in
     rw other (omega (arith, rest))
 
 pub span_once : (k i n : ℕ) → span k i n ≤ 1
@@ -61,7 +63,7 @@ pub span_past : (k i n : ℕ) → i + n ≤ k → span k i n ≡ 0
 span_past k i zero low = refl
 span_past k i (suc n) low =
     let rest = span_past k (suc i) n (omega (arith, low)) in
-    let other : nat_eq i k ≡ false = eq_false i k (λ e. let f : i ≡ k = e in omega (arith, f, low)) in
+    let other : nat_eq i k ≡ false = ne_eqb i k (λ e. let f : i ≡ k = e in omega (arith, f, low)) in
     rw other (omega (arith, rest))
 
 -- the parts of a term

@@ -67,7 +67,7 @@ pub(crate) fn lead_row(
 }
 
 // How many handshakes a type has.
-#[tactic(auto, using(crate::proofs::RowLemmas::count_pair, crate::proofs::RowLemmas::count_fun))]
+#[tactic(auto, using(gos_realises::proofs::realises::CountLemmas::count_pair, gos_realises::proofs::realises::CountLemmas::count_fun))]
 pub(crate) fn shakes(ty: &Ty) -> u32
     requires { count (type_of ty.now) ≤ most }
     ensures { result ≡ count (type_of ty.now) }

@@ -1,7 +1,10 @@
 -- A build has one answer: its bind lines mean one list of services or have one first fault, and so it is with what stands behind them.
 use Rattle.std.specs.Prelude.{◌≡◌, ◌≢◌, ◌⊎◌, ℕ, zero, suc, ◌+◌, ◌≤◌, ◌<◌, List, [], ◌∷◌, ◌++◌, length, Option, Some, None, slice_get}
 use Rattle.std.proofs.Common.{refl, sym, ◌∙◌, ap, subst, arith, inl, inr}
+use Rattle.std.proofs.lemmas.Bool.{cases_lt}
+use Rattle.std.proofs.lemmas.Option.{slice_get_within}
 use Rattle.gos_model.specs.Typing.{Imported}
+use Rattle.gos_model.proofs.NumberLemmas.{number_cases}
 use Rattle.gos_plan.specs.Plans.{Plan}
 use Rattle.gos_plan.specs.Seen.{SeenPlan}
 use Rattle.gos_plan.specs.Size.{plan_size}
@@ -15,8 +18,6 @@ use Rattle.gos_link.specs.declared.fault.LinkFault.TheVariants as faults
 use Rattle.gos_link.specs.Services.{instance_named, BindsOn}
 use Rattle.gos_link.specs.Linked.{Port, IsDone, IsFirstHigher, IsSecond, IsPlaced, IsNamed, IsGrounded, IsLight, IsWrongWhole, count_ports, first_unplaced, outcome_of, plans_of, ports_of, whole_of}
 use Rattle.gos_link.specs.Answers.{IsSameFault, LinkedIsOne, HasOneFault, LinkedHasNoFault}
-use Rattle.gos_link.proofs.NumberLemmas.{number_cases, order}
-use Rattle.gos_link.proofs.PlaceLemmas.{within}
 use Rattle.gos_link.proofs.PortLemmas.{same_at}
 use Rattle.gos_link.proofs.FewLemmas.{same_size}
 use Rattle.gos_link.proofs.StageLemmas.{both_are, same_some, some_none, one_stage, never_passes, one_meaning, one_wrong, right_or_wrong}
@@ -63,8 +64,8 @@ second_is_one ports a b c d one other =
     let names : a.name ≡ c.name = one.same ∙ (ap (λ (p : Port). p.name) second ∙ sym other.same) in
     number_cases one.first other.first
     (λ f u. (same_at ports one.first other.first a c f one.at_first other.at_first, second))
-    (λ f u. absurd (apart f names (order one.first other.first))))
-    (λ e t. absurd (earlier e (order one.second other.second)))
+    (λ f u. absurd (apart f names (cases_lt one.first other.first))))
+    (λ e t. absurd (earlier e (cases_lt one.second other.second)))
   where
     earlier : one.second ≢ other.second → (one.second < other.second) ⊎ (other.second ≤ one.second) → ⊥
     earlier e (inl low) = other.different one.first one.second a b one.before low one.at_first one.at_second one.same
@@ -81,7 +82,7 @@ higher_is_one : (imports : List LeftImport) (l m : LeftImport) → IsFirstHigher
 higher_is_one imports l m one other =
     number_cases one.number other.number
     (λ e t. same_at imports one.number other.number l m e one.at other.at)
-    (λ e t. absurd (earlier e (order one.number other.number)))
+    (λ e t. absurd (earlier e (cases_lt one.number other.number)))
   where
     earlier : one.number ≢ other.number → (one.number < other.number) ⊎ (other.number ≤ one.number) → ⊥
     earlier e (inl low) = one.higher (other.ground one.number l low one.at)
@@ -172,14 +173,14 @@ module _ (joins_one : JoiningIsOne) (b : Build) (ps : List SeenPlan) (ss : List 
   clash (suc (suc zero)) f (root, one, other, e, placed, second) (k, named) =
       let same : root ≡ k = one_root root k placed.finds_root named.placed.finds_root in
       let there = subst (λ (n : ℕ). IsSecond (all_ports n) one other) same second in
-      named.names there.first there.second one other there.before (within (all_ports k) there.second other there.at_second) there.at_first there.at_second there.same
+      named.names there.first there.second one other there.before (slice_get_within (all_ports k) there.second other there.at_second) there.at_first there.at_second there.same
   clash (suc (suc (suc zero))) f (root, e, named, never) (k, again, done) =
       let same : root ≡ k = one_root root k named.placed.finds_root again.placed.finds_root in
       never (subst (λ (n : ℕ). result_done n) (sym same) done)
   clash (suc (suc (suc (suc zero)))) f (root, l, e, named, done, higher) (k, grounded) =
       let same : root ≡ k = one_root root k named.placed.finds_root grounded.named.placed.finds_root in
       let there = subst (λ (n : ℕ). IsFirstHigher (all_left (whole_of ps ss n)) l) same higher in
-      there.higher (grounded.imports there.number l (within (all_left (whole_of ps ss k)) there.number l there.at) there.at)
+      there.higher (grounded.imports there.number l (slice_get_within (all_left (whole_of ps ss k)) there.number l there.at) there.at)
   clash (suc (suc (suc (suc (suc zero))))) f (root, e, grounded, heavy) (k, light) = let low = light.weight in absurd (omega (arith, heavy, low))
   clash (suc (suc (suc (suc (suc (suc zero)))))) f (root, p, e, light, joining, large) (k, q, also, other, (small, few)) =
       let same : root ≡ k = one_root root k light.grounded.named.placed.finds_root also.grounded.named.placed.finds_root in

@@ -1,8 +1,7 @@
 -- How the bind lines of a build read on, line by line.
-use Rattle.std.proofs.Common.{◌≡◌, ◌<◌, ℕ, List, [], ◌∷◌, ◌++◌, refl, sym, subst, Option, Some, None, append-nil, append_assoc, length, zero, suc, arith, map}
+use Rattle.std.proofs.Common.{◌≡◌, ◌<◌, ℕ, List, [], ◌∷◌, ◌++◌, refl, sym, subst, Option, Some, None, append-nil, append_assoc, length, map}
 use Rattle.std.proofs.lemmas.List.Quantifiers.{position-Some}
 use Rattle.std.specs.Str.{bytes_eq}
-use Rattle.std.specs.Prelude.{slice_get}
 use Rattle.gos_types.specs.declared.types.Ty.TheVariants.{Com}
 use Rattle.gos_plan.specs.declared.plan.PlanImport.{PlanImport}
 use Rattle.gos_lex.specs.Lines.{Word}
@@ -22,11 +21,6 @@ instance_low is name k e =
 
 pub import_low : (is : List PlanImport) (name : Word) (k : ℕ) → import_named is name ≡ Some k → k < length is
 import_low is name k e = (position-Some (λ i. bytes_eq i.name name) is k (record { name = []; ty = Com }) e).0
-
-pub there_is : {X : Type 0} (xs : List X) (k : ℕ) → k < length xs → (x : X) × (slice_get xs k ≡ Some x)
-there_is [] k low = absurd (omega (arith, low))
-there_is (x ∷ xs) zero low = (x, refl)
-there_is (x ∷ xs) (suc k) low = there_is xs k (omega (arith, low))
 
 pub user_low : (is : List Instance) (ps : List SeenPlan) (b : Bind) (s : Service) → Means is ps b s → s.user < length is
 user_low is ps b s (p, q, x, line, all, type) = instance_low is b.user s.user all.both.finds_user

@@ -4,7 +4,9 @@ use Rattle.std.proofs.Common.{refl, sym, ◌∙◌, ap, subst, arith, cond, appe
 use Rattle.std.specs.List.{position_or_len}
 use Rattle.std.proofs.lemmas.List.Sums.{position_or_len_is}
 use Rattle.std.proofs.lemmas.Option.{slice_get-map, slice_get_within, get_or_from_slice_get}
+use Rattle.std.proofs.lemmas.Bool.{eq-eqb}
 use Rattle.gos_model.specs.Typing.{Imported}
+use Rattle.gos_model.proofs.NumberLemmas.{number_cases}
 use Rattle.gos_plan.specs.Plans.{Plan}
 use Rattle.gos_plan.specs.Seen.{SeenPlan, plan_of, import_of}
 use Rattle.gos_link.specs.declared.build.Instance.{Instance}
@@ -15,7 +17,6 @@ use Rattle.gos_link.specs.Linked.{plans_of, is_used, is_placed, first_unplaced}
 use Rattle.gos_link.specs.inner.Opens.{number_bound}
 use Rattle.gos_link.specs.inner.Tops.{AreTops, top_at}
 use Rattle.gos_link.specs.inner.Wired.{number_used, AreJoinable}
-use Rattle.gos_link.proofs.NumberLemmas.{eq_true, number_cases}
 
 none : Service
 none = record { line = 0; user = 0; import = 0; giver = 0 }
@@ -37,7 +38,7 @@ position_none p ss fails =
     let test : nat_lt (length ss) (length ss) ≡ false = grind arith in
     ap (λ (n : ℕ). cond (nat_lt n (length ss)) (Some n) None) all ∙ rw test refl
 
-if_none : (b : Bool) (n : ℕ) (o : Option ℕ) → (if b then Some n else o) ≡ None → (b ≡ false) × (o ≡ None)
+pub if_none : (b : Bool) (n : ℕ) (o : Option ℕ) → (if b then Some n else o) ≡ None → (b ≡ false) × (o ≡ None)
 if_none true n o e = absurd (cc e)
 if_none false n o e = (refl, e)
 
@@ -80,7 +81,7 @@ right_at is ps before (b ∷ bs) (r ∷ ss) (right, rest) (suc t) s at =
     (c, subst (λ (ts : List Service). IsRightBind is ps ts c s) (append_assoc before (r ∷ []) (take t ss)) found)
 
 both_same : (a b c d : ℕ) → a ≡ b → c ≡ d → (nat_eq a b && nat_eq c d) ≡ true
-both_same a b c d e f = rw (eq_true a b e, eq_true c d f) refl
+both_same a b c d e f = rw (eq-eqb a b e, eq-eqb c d f) refl
 
 pub joinable : (is : List Instance) (ps : List SeenPlan) (bs : List Bind) (ss : List Service) (root : ℕ) (p : SeenPlan) → BindsOn is ps [] bs ss None
     → first_used ss root ≡ None → slice_get ps root ≡ Some p → AreJoinable (plans_of ps) ss root
@@ -116,13 +117,13 @@ joinable is ps bs ss root p binds unused found =
     used t s at =
         let (b, r) = right t s at in
         let low : t < length ss = slice_get_within ss t s at in
-        position_found (λ q. nat_eq q.giver s.giver) ss t s at (eq_true s.giver s.giver refl)
+        position_found (λ q. nat_eq q.giver s.giver) ss t s at (eq-eqb s.giver s.giver refl)
         (λ k less. unused_before ss t s.giver r.unused k less (omega (arith, less, low)))
 
 -- where all have their places the root serves nothing
-placed_at : (root : ℕ) (ss : List Service) (k : ℕ) (is : List Instance) → first_unplaced root ss k is ≡ None → (j : ℕ) → j < length is → is_placed root ss (k + j) ≡ true
-placed_at root ss k [] e j low = absurd (omega (arith, low))
-placed_at root ss k (i ∷ is) e j low = by (is_placed root ss k) refl j low (λ m h. placed_at root ss (k + 1) is h m)
+pub is_placed_at : (root : ℕ) (ss : List Service) (k : ℕ) (is : List Instance) → first_unplaced root ss k is ≡ None → (j : ℕ) → j < length is → is_placed root ss (k + j) ≡ true
+is_placed_at root ss k [] e j low = absurd (omega (arith, low))
+is_placed_at root ss k (i ∷ is) e j low = by (is_placed root ss k) refl j low (λ m h. is_placed_at root ss (k + 1) is h m)
   where
     by : (b : Bool) → is_placed root ss k ≡ b → (j : ℕ) → j < suc (length is)
         → ((m : ℕ) → first_unplaced root ss (k + 1) is ≡ None → m < length is → is_placed root ss ((k + 1) + m) ≡ true) → is_placed root ss (k + j) ≡ true
@@ -136,7 +137,7 @@ pub root_unused : (is : List Instance) (ss : List Service) (root : ℕ) (tops : 
     → first_unplaced root ss 0 is ≡ None → first_used ss root ≡ None
 root_unused is ss root tops known low placed =
     let top : ℕ = top_at tops root in
-    let there = placed_at root ss 0 is placed top (known.below root low) in
+    let there = is_placed_at root ss 0 is placed top (known.below root low) in
     let number : 0 + top ≡ top = omega arith in
     number_cases top root
     (λ e b. ap (first_used ss) (sym e) ∙ known.last root)

@@ -3,8 +3,11 @@
 -- In its plan an end is in one joint at most; so a point is in no more ties than there are places at it.
 use Rattle.std.specs.Prelude.{◌≡◌, ℕ, suc, ◌+◌, ◌≤◌, ◌<◌, ◌⊎◌, Bool, true, false, not, ◌&&◌, ◌||◌, IsTrue, List, [], ◌∷◌, ◌++◌, length, Option, Some, None, slice_get, nat_eq, if◌then◌else◌}
 use Rattle.std.proofs.Common.{refl, sym, ◌∙◌, ap, subst, arith, inl, inr}
+use Rattle.std.proofs.lemmas.Bool.{eq-eqb, ne_eqb}
 use Rattle.gos_types.specs.declared.shakes.Role.{Role}
-use Rattle.gos_types.specs.declared.shakes.Role.TheVariants.{Serve, Ask}
+use Rattle.gos_types.specs.declared.shakes.Role.TheVariants.{Ask}
+use Rattle.gos_types.proofs.RoleLemmas.{ask_is_not_serve}
+use Rattle.gos_model.proofs.NumberLemmas.{number_cases}
 use Rattle.gos_plan.specs.Kinds.{Contact, asks, serves}
 use Rattle.gos_plan.specs.Plans.{End, Joint, Plan, contact_at, same_end, is_free, Fits, AreRight, IsRight}
 use Rattle.gos_plan.specs.Joining.{Place, place}
@@ -17,7 +20,6 @@ use Rattle.gos_ties.specs.Ties.{end_of_place}
 use Rattle.gos_ties.specs.Counted.{place_once, once, meetings, IsThin}
 use Rattle.gos_link.specs.declared.services.Service.{Service}
 use Rattle.gos_link.specs.inner.Wired.{rank, parts_before, stays_before, point_of, ties_in, ties_from, AllRight, AreJoinable}
-use Rattle.gos_link.proofs.NumberLemmas.{eq_true, eq_false, number_cases}
 use Rattle.gos_link.proofs.ServiceLemmas.{In}
 use Rattle.gos_link.proofs.PointLemmas.{contact_in, IsThere, back, back_at, of_service, back_tells}
 
@@ -32,9 +34,6 @@ one_end e f = one_if (same_end e f)
 abbrev pub stands : End → List Joint → ℕ
 stands e [] = 0
 stands e (j ∷ js) = one_end e j.asking + one_end e j.serving + stands e js
-
-pub role_differs : Ask ≡ Serve → ⊥
-role_differs e = cc e
 
 abbrev pub role_or : Option Contact → Role
 role_or None = Ask
@@ -71,7 +70,7 @@ seldom p before (j ∷ js) e ((fits, asking, serving), rest) = by (seldom p (j �
     differ same =
         let (q, v, asked, served) = fits in
         let both : Some (asks q v) ≡ Some (serves q v) = sym asked ∙ (ap (contact_at p) same ∙ served) in
-        role_differs (ap role_or both)
+        ask_is_not_serve (ap role_or both)
 
     free_no : IsTrue (is_free e before) → is_free e before ≡ false → ⊥
     free_no t f = let wrong : true ≡ false = sym t ∙ f in absurd (cc wrong)
@@ -125,7 +124,7 @@ sums_more (x ∷ xs) n j js =
 hit : (xs : List Place) (n : ℕ) (e : End) → In xs (place n e) → 1 ≤ hits xs n e
 hit [] n e h = absurd h
 hit (x ∷ xs) n e (inl is) =
-    let plan : nat_eq x.plan n ≡ true = eq_true x.plan n (ap (λ (y : Place). y.plan) is) in
+    let plan : nat_eq x.plan n ≡ true = eq-eqb x.plan n (ap (λ (y : Place). y.plan) is) in
     let same : same_end x.end e ≡ true = ap (λ (y : Place). same_end y.end e) is ∙ same_itself e in
     rw (plan, same) (omega arith)
 hit (x ∷ xs) n e (inr h) = let rest = hit xs n e h in omega (arith, rest)
@@ -201,7 +200,7 @@ single_beyond : (x : Place) (n : ℕ) (ps : List Plan) → x.plan < n → single
 single_beyond x n [] low = refl
 single_beyond x n (p ∷ ps) low =
     let rest = single_beyond x (n + 1) ps (omega (arith, low)) in
-    let other : nat_eq x.plan n ≡ false = eq_false x.plan n (λ e. let f : x.plan ≡ n = e in omega (arith, f, low)) in
+    let other : nat_eq x.plan n ≡ false = ne_eqb x.plan n (λ e. let f : x.plan ≡ n = e in omega (arith, f, low)) in
     rw other (omega (arith, rest))
 
 -- the plans are right, one after another

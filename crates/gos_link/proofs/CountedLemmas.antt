@@ -3,6 +3,7 @@ use Rattle.std.specs.Prelude.{◌≡◌, ℕ, zero, suc, ◌+◌, ◌*◌, ◌<�
 use Rattle.std.proofs.Common.{refl, sym, ◌∙◌, ap, subst, arith, length-append}
 use Rattle.std.proofs.lemmas.List.{length-map}
 use Rattle.std.proofs.lemmas.List.Elements.{All-head, All-tail}
+use Rattle.std.proofs.lemmas.Option.{slice_get_within}
 use Rattle.gos_types.specs.Types.{type_of}
 use Rattle.gos_types.specs.Handshakes.{handshakes_of}
 use Rattle.gos_model.specs.Typing.{Imported}
@@ -25,7 +26,6 @@ use Rattle.gos_link.specs.Answers.{all_joints}
 use Rattle.gos_link.specs.inner.Counts.{all_imports, AreCounted, HasRoom, HaveRoom, IsCountable}
 use Rattle.gos_link.specs.inner.Wired.{AllRight, AreJoinable}
 use Rattle.gos_link.proofs.FewLemmas.{few_joined}
-use Rattle.gos_link.proofs.PlaceLemmas.{within}
 use Rattle.gos_link.proofs.TieLemmas.{drop_at}
 
 -- each line means one service
@@ -126,12 +126,12 @@ room_at p start n (PartEnd i h) c fits low is = by (slice_get p.parts i) refl is
   where
     by : (o : Option Part) → slice_get p.parts i ≡ o → slice_get (contacts_of_part o) h ≡ Some c → start + i < 2 ^ 32
     by None none e = absurd (cc e)
-    by (Some k) at e = let inside = within p.parts i k at in omega (arith, inside, fits)
+    by (Some k) at e = let inside = slice_get_within p.parts i k at in omega (arith, inside, fits)
 room_at p start n (ImportEnd i h) c fits low is = by (slice_get p.imports i) refl is
   where
     by : (o : Option Imported) → slice_get p.imports i ≡ o → slice_get (contacts_of_import o) h ≡ Some c → i < n
     by None none e = absurd (cc e)
-    by (Some x) at e = let inside = within p.imports i x at in omega (arith, inside, low)
+    by (Some x) at e = let inside = slice_get_within p.imports i x at in omega (arith, inside, low)
 room_at p start n (ResultEnd h) c fits low is = tt
 
 pub have_room : (p : Plan) (start n : ℕ) (before js : List Joint) → start + length p.parts < 2 ^ 32 → length p.imports ≤ n → AreRight p before js

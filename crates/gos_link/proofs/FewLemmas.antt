@@ -4,7 +4,9 @@
 -- two joints. So the joints have no more ends than ties have points, and both have two each.
 use Rattle.std.specs.Prelude.{◌≡◌, ◌≢◌, ℕ, zero, suc, ◌+◌, ◌*◌, ◌≤◌, ◌<◌, ◌⊎◌, List, [], ◌∷◌, length, Some, nat_eq, if◌then◌else◌}
 use Rattle.std.proofs.Common.{refl, sym, ◌∙◌, ap, subst, arith, inl, inr, length-append}
+use Rattle.gos_types.proofs.RoleLemmas.{ask_is_not_serve}
 use Rattle.gos_model.specs.Typing.{Imported}
+use Rattle.gos_model.proofs.NumberLemmas.{number_cases}
 use Rattle.gos_plan.specs.Kinds.{Part, asks, serves}
 use Rattle.gos_plan.specs.Plans.{End, Joint, Plan, contact_at, IsRight}
 use Rattle.gos_plan.specs.Size.{shakes_of, plan_size}
@@ -16,28 +18,18 @@ use Rattle.gos_ties.specs.declared.points.Point.{Point}
 use Rattle.gos_ties.specs.declared.points.Tie.{Tie}
 use Rattle.gos_ties.specs.Ties.{at, Meet}
 use Rattle.gos_ties.specs.Ties as tied
-use Rattle.gos_ties.specs.Counted.{place_once, once, meetings}
+use Rattle.gos_ties.specs.Counted.{once, meetings}
+use Rattle.gos_ties.proofs.ThinLemmas.{once_itself}
+use Rattle.gos_ties.proofs.JointLemmas.{same_at}
 use Rattle.gos_link.specs.declared.services.Service.{Service}
 use Rattle.gos_link.specs.Linked.{wiring_of}
 use Rattle.gos_link.specs.Answers.{all_joints}
 use Rattle.gos_link.specs.inner.Wired.{rank, ties_in, ties_from, AllRight, AreJoinable}
-use Rattle.gos_link.proofs.NumberLemmas.{eq_true, number_cases}
 use Rattle.gos_link.proofs.ServiceLemmas.{In, in_contained, contains_in}
 use Rattle.gos_link.proofs.PointLemmas.{spot_of}
 use Rattle.gos_link.proofs.PathLemmas.{path_tied}
-use Rattle.gos_link.proofs.CountLemmas.{one_end, stands, role_or, role_differs, seldom, once_cases}
-use Rattle.gos_link.proofs.JoinedLemmas.{one_at, Bears, there_at}
-
--- a point is once in itself
-place_self : (p : spot.Place) → place_once p p ≡ 1
-place_self (spots.Part k) = rw (eq_true k k refl) refl
-place_self (spots.Import k) = rw (eq_true k k refl) refl
-place_self spots.Result = refl
-place_self (spots.Number k) = rw (eq_true k k refl) refl
-place_self (spots.Node k) = rw (eq_true k k refl) refl
-
-once_self : (q : Point) → once q q ≡ 1
-once_self q = rw (eq_true q.shake q.shake refl, place_self q.place) refl
+use Rattle.gos_link.proofs.CountLemmas.{one_end, stands, role_or, seldom, once_cases}
+use Rattle.gos_link.proofs.JoinedLemmas.{Bears, there_at}
 
 -- how often a point is in a list
 abbrev appears : Point → List Point → ℕ
@@ -75,7 +67,7 @@ without_one q (p ∷ ps) some =
 shorter : (ps qs : List Point) → ((q : Point) → appears q ps ≤ appears q qs) → length ps ≤ length qs
 shorter [] qs few = omega arith
 shorter (p ∷ ps) qs few =
-    let self = once_self p in
+    let self = once_itself p in
     let here = few p in
     let less = without_one p qs (omega (arith, self, here)) in
     let size = less.size in
@@ -109,7 +101,7 @@ end_once e f =
     elim (once_cases (at e) (at f)) [
       | inl none ↦ omega (arith, none)
       | inr (same, few) ↦
-          (let here : one_end e f ≡ 1 = ap (λ (x : End). one_end e x) (sym (one_at e f same)) ∙ rw (same_itself e) refl in omega (arith, few, here))
+          (let here : one_end e f ≡ 1 = ap (λ (x : End). one_end e x) (sym (same_at e f same)) ∙ rw (same_itself e) refl in omega (arith, few, here))
     ]
 
 spots_count : (e : End) (js : List Joint) → appears (at e) (spots_of js) ≤ stands e js
@@ -139,12 +131,12 @@ end_of q (j ∷ js) some =
 meet_met : (ts : List Tie) (a b : Point) → Meet ts a b → (1 ≤ meetings a ts) × (1 ≤ meetings b ts)
 meet_met [] a b m = absurd m
 meet_met (t ∷ ts) a b (inl e) =
-    let one : once a t.one ≡ 1 = ap (λ (u : Tie). once a u.one) e ∙ once_self a in
-    let other : once b t.other ≡ 1 = ap (λ (u : Tie). once b u.other) e ∙ once_self b in
+    let one : once a t.one ≡ 1 = ap (λ (u : Tie). once a u.one) e ∙ once_itself a in
+    let other : once b t.other ≡ 1 = ap (λ (u : Tie). once b u.other) e ∙ once_itself b in
     (omega (arith, one), omega (arith, other))
 meet_met (t ∷ ts) a b (inr (inl e)) =
-    let one : once a t.other ≡ 1 = ap (λ (u : Tie). once a u.other) e ∙ once_self a in
-    let other : once b t.one ≡ 1 = ap (λ (u : Tie). once b u.one) e ∙ once_self b in
+    let one : once a t.other ≡ 1 = ap (λ (u : Tie). once a u.other) e ∙ once_itself a in
+    let other : once b t.one ≡ 1 = ap (λ (u : Tie). once b u.one) e ∙ once_itself b in
     (omega (arith, one), omega (arith, other))
 meet_met (t ∷ ts) a b (inr (inr m)) = let (one, other) = meet_met ts a b m in (omega (arith, one), omega (arith, other))
 
@@ -193,8 +185,8 @@ module _ (ps : List Plan) (ss : List Service) (root : ℕ) (known : AreJoinable 
       (subst (λ (p : Point). tied.Path (ties_from ss root 0 0 0 ps) (spot_of ps ss root (origin (wiring_of ps ss root) j.asking)) p) other.spot spots) in
       ends_met (ties_from ss root 0 0 0 ps) (at j.asking) (at j.serving) path
       (λ e.
-      let both : Some (asks q v) ≡ Some (serves q v) = sym asked ∙ (ap (contact_at r) (one_at j.asking j.serving e) ∙ served) in
-      role_differs (ap role_or both))
+      let both : Some (asks q v) ≡ Some (serves q v) = sym asked ∙ (ap (contact_at r) (same_at j.asking j.serving e) ∙ served) in
+      ask_is_not_serve (ap role_or both))
 
   -- the joints of the joining
   pub few_joined : (r : Plan) → IsJoining (wiring_of ps ss root) r → length r.joints ≤ all_joints ps
@@ -234,9 +226,9 @@ in_few r q right other within =
     there p j [] has is = absurd has
     there p j (k ∷ js) (inr has) is = let rest = there p j js has is in omega (arith, rest)
     there p j (k ∷ js) (inl same) (inl is) =
-        let here : once p (at k.asking) ≡ 1 = ap (λ (x : Point). once p x) (ap (λ (i : Joint). at i.asking) same ∙ sym is) ∙ once_self p in omega (arith, here)
+        let here : once p (at k.asking) ≡ 1 = ap (λ (x : Point). once p x) (ap (λ (i : Joint). at i.asking) same ∙ sym is) ∙ once_itself p in omega (arith, here)
     there p j (k ∷ js) (inl same) (inr is) =
-        let here : once p (at k.serving) ≡ 1 = ap (λ (x : Point). once p x) (ap (λ (i : Joint). at i.serving) same ∙ sym is) ∙ once_self p in omega (arith, here)
+        let here : once p (at k.serving) ≡ 1 = ap (λ (x : Point). once p x) (ap (λ (i : Joint). at i.serving) same ∙ sym is) ∙ once_itself p in omega (arith, here)
 
     at_end : (p : Point) (e : End) → p ≡ at e → appears p (spots_of r.joints) ≤ 1
     at_end p e is =

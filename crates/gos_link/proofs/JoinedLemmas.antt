@@ -1,6 +1,6 @@
 -- A plan of the joints that the ties make is the joining.
-use Rattle.std.specs.Prelude.{◌≡◌, ◌≢◌, ◌↔◌, ℕ, ◌+◌, List, [], ◌∷◌, map, Option, Some, Contains, slice_get, unwrap_or}
-use Rattle.std.proofs.Common.{refl, sym, ◌∙◌, ap, subst, arith, inl, inr}
+use Rattle.std.specs.Prelude.{◌≡◌, ◌≢◌, ◌↔◌, ℕ, ◌+◌, List, [], ◌∷◌, map, Option, Some, Contains, slice_get}
+use Rattle.std.proofs.Common.{sym, ◌∙◌, ap, subst, arith, inl, inr}
 use Rattle.gos_model.specs.Typing.{Imported}
 use Rattle.gos_types.specs.Types.{Type'}
 use Rattle.gos_plan.specs.Kinds.{Contact, Part, contacts_of, asks, serves, turned_contact}
@@ -8,8 +8,9 @@ use Rattle.gos_plan.specs.Plans.{End, PartEnd, ImportEnd, ResultEnd, Joint, Plan
 use Rattle.gos_plan.specs.Seen.{SeenPlan, plan_of, joint_of}
 use Rattle.gos_plan.specs.Joining.{all_parts, all_weight, all_left, origin, Path, Connects, contacts_of_result, IsJoining}
 use Rattle.gos_ties.specs.declared.points.Point.{Point}
-use Rattle.gos_ties.specs.Ties.{at, end_at}
+use Rattle.gos_ties.specs.Ties.{at}
 use Rattle.gos_ties.specs.Ties as tied
+use Rattle.gos_ties.proofs.JointLemmas.{same_at}
 use Rattle.gos_link.specs.declared.services.Service.{Service}
 use Rattle.gos_link.specs.Linked.{outcome_of, wiring_of}
 use Rattle.gos_link.specs.inner.Wired.{ties_from, AllRight, AreJoinable}
@@ -17,15 +18,6 @@ use Rattle.gos_link.proofs.ServiceLemmas.{In, in_contained, contains_in}
 use Rattle.gos_link.proofs.PointLemmas.{spot_of, joined, Stands, stands}
 use Rattle.gos_link.proofs.PathLemmas.{path_tied, tied_path}
 use Rattle.gos_link.proofs.WalkLemmas.{ends_turn}
-
--- ends of one point are one
-at_end : (e : End) → end_at (at e) ≡ Some e
-at_end (PartEnd i h) = refl
-at_end (ImportEnd i h) = refl
-at_end (ResultEnd h) = refl
-
-pub one_at : (a b : End) → at a ≡ at b → a ≡ b
-one_at a b e = ap (λ (o : Option End). unwrap_or o a) (sym (at_end a) ∙ (ap (λ (p : Point). end_at p) e ∙ at_end b))
 
 -- the joints of gos_ties are in the list
 has_in : (js : List Joint) (j : Joint) → tied.Has js j → In js j
@@ -85,7 +77,7 @@ module _ (ps : List Plan) (ss : List Service) (root : ℕ) (known : AreJoinable 
           let one = there_at r bears a c at_a in
           let other = there_at r bears b d at_b in
           ends_turn ps ss root known right (origin (wiring_of ps ss root) a) (origin (wiring_of ps ss root) b) c d n one.contact other.contact one.apart other.apart
-          (λ e. apart (one_at a b (sym one.spot ∙ (ap (spot_of ps ss root) e ∙ other.spot)))) path
+          (λ e. apart (same_at a b (sym one.spot ∙ (ap (spot_of ps ss root) e ∙ other.spot)))) path
 
       forth : (a b : End) → Contains r.joints (record { asking = a; serving = b }) → Connects (wiring_of ps ss root) r a b
       forth a b has =

@@ -2,8 +2,9 @@
 use Rattle.std.specs.Prelude.{◌≡◌, ℕ, ◌<◌, List, [], ◌∷◌, length, map, Some, None, option_map, slice_get}
 use Rattle.std.proofs.Common.{refl, sym, ◌∙◌, ap, subst, arith, inl, inr}
 use Rattle.std.proofs.lemmas.List.{length-map}
-use Rattle.std.proofs.lemmas.Option.{slice_get-map}
+use Rattle.std.proofs.lemmas.Option.{slice_get-map, slice_get_within}
 use Rattle.gos_types.specs.Types.{Type', type_of}
+use Rattle.gos_types.proofs.ListLemmas.{element_at}
 use Rattle.gos_plan.specs.Seen.{SeenPlan, plan_of}
 use Rattle.gos_plan.specs.Joining.{LeftImport, all_left}
 use Rattle.gos_link.specs.declared.build.Build.{Build}
@@ -17,16 +18,16 @@ use Rattle.gos_link.specs.inner.Judged.{IsJudged}
 use Rattle.gos_link.specs.inner.Opens.{open_seen, opens_among}
 use Rattle.gos_link.specs.inner.Ports.{AllDiffer, IsOpenTwice}
 use Rattle.gos_link.specs.inner.Tops.{AreTops}
-use Rattle.gos_link.proofs.BindLemmas.{instance_low, there_is}
+use Rattle.gos_link.proofs.BindLemmas.{instance_low}
 use Rattle.gos_link.proofs.BoundLemmas.{joinable, root_unused}
-use Rattle.gos_link.proofs.PlaceLemmas.{within, open_at}
+use Rattle.gos_link.proofs.PlaceLemmas.{open_at}
 use Rattle.gos_link.proofs.ServiceLemmas.{opens_left}
 
 -- an import that stays is one of a plan
 pub plan_low : (ss : List Service) (ps : List SeenPlan) (k : ℕ) (l : LeftImport) → slice_get (opens_among ss 0 (plans_of ps)) k ≡ Some l → l.plan < length ps
 plan_low ss ps k l at =
     let r = open_at ss 0 (plans_of ps) k l at in
-    let low = within (plans_of ps) r.plan r.of r.is in
+    let low = slice_get_within (plans_of ps) r.plan r.of r.is in
     let size = length-map ps plan_of in
     let plan = r.plan_is in
     omega (arith, low, size, plan)
@@ -37,7 +38,7 @@ pub judged : (b : Build) (ps : List SeenPlan) (ss : List Service) (root : ℕ) �
 judged b ps ss root each binds (tops, known) placed =
     let low = instance_low b.instances.items b.root root placed.finds_root in
     let unused = root_unused b.instances.items ss root tops known low placed.placed in
-    let (p, at) = there_is ps root (let below : root < length ps = omega (arith, low, each) in below) in
+    let (p, at) = element_at ps root (let below : root < length ps = omega (arith, low, each) in below) in
     record { each = each; placed = placed; joinable = joinable b.instances.items ps b.binds.items ss root p binds unused at }
 
 module _ (b : Build) (ps : List SeenPlan) (ss : List Service) (root : ℕ) (known : IsJudged b ps ss root) where
@@ -53,7 +54,7 @@ module _ (b : Build) (ps : List SeenPlan) (ss : List Service) (root : ℕ) (know
   pub root_at : (p : SeenPlan) → (root < length ps → slice_get ps root ≡ Some p) → outcome_of (slice_get (plans_of ps) root) ≡ type_of p.outcome
   root_at p read =
       let (q, at) = known.joinable.some_root in
-      let low = within (plans_of ps) root q at in
+      let low = slice_get_within (plans_of ps) root q at in
       let size = length-map ps plan_of in
       ap outcome_of (slice_get-map plan_of ps root ∙ ap (option_map plan_of) (read (omega (arith, low, size))))
 

@@ -10,7 +10,7 @@ mod PointLemmas
 mod PathLemmas
 mod WalkLemmas
 mod CountLemmas
-mod BoundLemmas
+pub mod BoundLemmas
 mod JoinedLemmas
 mod FewLemmas
 mod TieLemmas

@@ -8,6 +8,7 @@ use Rattle.gos_ties.specs.declared.points.Point.{Point}
 use Rattle.gos_ties.specs.declared.points.Tie.{Tie}
 use Rattle.gos_ties.specs.Ties.{tie, Meet}
 use Rattle.gos_ties.specs.Ties as tied
+use Rattle.gos_ties.proofs.RightLemmas.{meet_back}
 use Rattle.gos_link.specs.declared.services.Service.{Service}
 use Rattle.gos_link.specs.Linked.{wiring_of}
 use Rattle.gos_link.specs.inner.Wired.{rank, parts_before, stays_before, point_in, point_of, ties_in, ties_from, AllRight, AreJoinable}
@@ -30,12 +31,6 @@ meet_either [] us a b m = inr m
 meet_either (t ∷ ts) us a b (inl e) = inl (inl e)
 meet_either (t ∷ ts) us a b (inr (inl e)) = inl (inr (inl e))
 meet_either (t ∷ ts) us a b (inr (inr m)) = elim (meet_either ts us a b m) [ inl h ↦ inl (inr (inr h)) | inr h ↦ inr h ]
-
-meet_back : (ts : List Tie) (a b : Point) → Meet ts a b → Meet ts b a
-meet_back [] a b m = m
-meet_back (t ∷ ts) a b (inl e) = inr (inl e)
-meet_back (t ∷ ts) a b (inr (inl e)) = inl e
-meet_back (t ∷ ts) a b (inr (inr m)) = inr (inr (meet_back ts a b m))
 
 -- points meet where a joint's ends lie
 abbrev Turned : (End → Point) → Joint → Point → Point → Type 0

@@ -1,6 +1,8 @@
 -- The numbers of parts and of imports that stay: each has one, and each number that there is belongs to one.
 use Rattle.std.specs.Prelude.{◌≡◌, ℕ, zero, suc, ◌+◌, ◌-◌, ◌<◌, ◌⊎◌, true, false, List, [], ◌∷◌, ◌++◌, length, Option, Some, None, slice_get, nat_lt}
 use Rattle.std.proofs.Common.{refl, sym, ◌∙◌, ap, subst, arith, inl, inr}
+use Rattle.std.proofs.lemmas.Option.{slice_get_within}
+use Rattle.gos_types.proofs.ListLemmas.{found_in_front, found_behind}
 use Rattle.gos_model.specs.Typing.{Imported}
 use Rattle.gos_plan.specs.Kinds.{Part}
 use Rattle.gos_plan.specs.Plans.{PartEnd, Plan}
@@ -9,16 +11,6 @@ use Rattle.gos_link.specs.declared.services.Service.{Service}
 use Rattle.gos_link.specs.inner.Opens.{number_bound, opens_in, opens_among}
 use Rattle.gos_link.specs.inner.Wired.{rank, parts_before, stays_before}
 
--- elements of two lists
-front_at : {X : Type 0} (xs ys : List X) (i : ℕ) (x : X) → slice_get xs i ≡ Some x → slice_get (xs ++ ys) i ≡ Some x
-front_at [] ys i x e = absurd (cc e)
-front_at (y ∷ xs) ys zero x e = e
-front_at (y ∷ xs) ys (suc i) x e = front_at xs ys i x e
-
-behind_at : {X : Type 0} (xs ys : List X) (i : ℕ) → slice_get (xs ++ ys) (length xs + i) ≡ slice_get ys i
-behind_at [] ys i = let e : 0 + i ≡ i = omega arith in ap (slice_get ys) e
-behind_at (x ∷ xs) ys i = let e : suc (length xs) + i ≡ suc (length xs + i) = omega arith in ap (slice_get (x ∷ (xs ++ ys))) e ∙ behind_at xs ys i
-
 -- an element of two lists is one of the first or of the second
 either_at : {X : Type 0} (xs ys : List X) (i : ℕ) (x : X) → slice_get (xs ++ ys) i ≡ Some x
     → (slice_get xs i ≡ Some x) ⊎ ((j : ℕ) × (i ≡ length xs + j) × (slice_get ys j ≡ Some x))
@@ -26,11 +18,6 @@ either_at [] ys i x e = inr (i, omega arith, e)
 either_at (y ∷ xs) ys zero x e = inl e
 either_at (y ∷ xs) ys (suc i) x e =
     elim (either_at xs ys i x e) [ inl h ↦ inl h | inr (j, n, h) ↦ inr (j, omega (arith, n), h) ]
-
-pub within : {X : Type 0} (xs : List X) (i : ℕ) (x : X) → slice_get xs i ≡ Some x → i < length xs
-within [] i x e = absurd (cc e)
-within (y ∷ xs) zero x e = omega arith
-within (y ∷ xs) (suc i) x e = let h = within xs i x e in omega (arith, h)
 
 -- a part of the whole
 pub record PartAt (k : ℕ) (ps : List Plan) (g : ℕ) (part : Part) : Type 0 where
@@ -59,11 +46,11 @@ part_stands k [] n p i h kind e f = absurd (cc e)
 part_stands k (q ∷ ps) zero p i h kind e f =
     let same : q ≡ p = cc e in
     let here : slice_get q.parts i ≡ Some kind = subst (λ (r : Plan). slice_get r.parts i ≡ Some kind) (sym same) f in
-    let low : i < length q.parts = within q.parts i kind here in
+    let low : i < length q.parts = slice_get_within q.parts i kind here in
     let none : 0 + i ≡ i = omega arith in
     let test : nat_lt (0 + i) (length q.parts) ≡ true = grind (arith, low, none) in
     let sum : k ≡ k + 0 = omega arith in (
-      ap (slice_get (q.parts ++ all_parts ps)) none ∙ front_at q.parts (all_parts ps) i kind here,
+      ap (slice_get (q.parts ++ all_parts ps)) none ∙ found_in_front q.parts (all_parts ps) i kind here,
       rw test ((λ t. place (sum t) (PartEnd (none t) h))),
     )
 part_stands k (q ∷ ps) (suc n) p i h kind e f =
@@ -73,7 +60,7 @@ part_stands k (q ∷ ps) (suc n) p i h kind e f =
     let less : ((length q.parts + parts_before ps n) + i) - length q.parts ≡ m = omega arith in
     let test : nat_lt ((length q.parts + parts_before ps n) + i) (length q.parts) ≡ false = grind arith in
     let plans : suc k + n ≡ k + suc n = omega arith in (
-      ap (slice_get (q.parts ++ all_parts ps)) sum ∙ (behind_at q.parts (all_parts ps) m ∙ at),
+      ap (slice_get (q.parts ++ all_parts ps)) sum ∙ (found_behind q.parts (all_parts ps) m ∙ at),
       rw test (ap (λ (x : ℕ). part_place (suc k) ps x h) less ∙ (stands ∙ ap (λ (x : ℕ). place x (PartEnd i h)) plans)),
     )
 
@@ -231,7 +218,7 @@ open_stands ss k (q ∷ ps) zero p i x e f none =
     let same_rank : rank ss (k + 0) i ≡ rank ss k (0 + i) = (λ t. rank ss (sum t) (sym number t)) in
     let place : 0 + rank ss (k + 0) i ≡ r = omega (arith, ranks, same_rank) in
     ap (slice_get (opens_in ss k 0 q.imports ++ opens_among ss (k + 1) ps)) place
-    ∙ (front_at (opens_in ss k 0 q.imports) (opens_among ss (k + 1) ps) r (record { plan = k; number = 0 + i; import = x }) at
+    ∙ (found_in_front (opens_in ss k 0 q.imports) (opens_among ss (k + 1) ps) r (record { plan = k; number = 0 + i; import = x }) at
     ∙ (λ t. Some (record { plan = sym sum t; number = number t; import = x })))
 open_stands ss k (q ∷ ps) (suc n) p i x e f none =
     let plans : (k + 1) + n ≡ k + suc n = omega arith in
@@ -244,5 +231,5 @@ open_stands ss k (q ∷ ps) (suc n) p i x e f none =
     let place : (rank ss k (length q.imports) + stays_before ss (k + 1) ps n) + rank ss (k + suc n) i ≡ length (opens_in ss k 0 q.imports) + m =
     omega (arith, all, whole, ranks) in
     ap (slice_get (opens_in ss k 0 q.imports ++ opens_among ss (k + 1) ps)) place
-    ∙ (behind_at (opens_in ss k 0 q.imports) (opens_among ss (k + 1) ps) m
+    ∙ (found_behind (opens_in ss k 0 q.imports) (opens_among ss (k + 1) ps) m
     ∙ (rest ∙ (λ t. Some (record { plan = plans t; number = i; import = x }))))

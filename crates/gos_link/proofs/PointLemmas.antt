@@ -1,8 +1,10 @@
 -- Points tell places: an end of a plan lies at its point alone, and at one point lie one place or two that are linked.
 use Rattle.std.specs.Prelude.{◌≡◌, ◌≢◌, ℕ, ◌+◌, ◌<◌, ◌⊎◌, true, List, [], ◌∷◌, length, map, Option, Some, None, slice_get, option_map, nat_eq}
-use Rattle.std.proofs.Common.{refl, sym, ◌∙◌, ap, subst, arith, inl, inr}
-use Rattle.std.proofs.lemmas.Option.{slice_get-map}
+use Rattle.std.proofs.Common.{refl, sym, ◌∙◌, ap, subst, arith, inl, inr, zero-add}
+use Rattle.std.proofs.lemmas.Option.{slice_get-map, slice_get_within}
+use Rattle.std.proofs.lemmas.Bool.{eq-eqb, ne_eqb}
 use Rattle.gos_model.specs.Typing.{Imported}
+use Rattle.gos_model.proofs.NumberLemmas.{number_cases}
 use Rattle.gos_plan.specs.Kinds.{Part, Contact, contacts_of}
 use Rattle.gos_plan.specs.Plans.{End, PartEnd, ImportEnd, ResultEnd, Joint, Plan, contact_at, contacts_of_part, contacts_of_import, turned_if}
 use Rattle.gos_plan.specs.Joining.{Place, place, Link, all_parts, all_weight, LeftImport, all_left, part_place, left_place, origin, Linked}
@@ -14,9 +16,8 @@ use Rattle.gos_link.specs.declared.services.Service.{Service}
 use Rattle.gos_link.specs.Linked.{imports_of, shakes_at, link_at, links_of, outcome_of, wiring_of}
 use Rattle.gos_link.specs.inner.Opens.{number_bound, opens_among}
 use Rattle.gos_link.specs.inner.Wired.{number_used, rank, stays_before, place_bound, place_used, place_of_result, point_of, AreJoinable}
-use Rattle.gos_link.proofs.NumberLemmas.{eq_true, eq_false, number_cases}
 use Rattle.gos_link.proofs.ServiceLemmas.{In, in_contained, contains_in, link_tells, link_in, bound_tells, used_tells, opens_left}
-use Rattle.gos_link.proofs.PlaceLemmas.{within, part_at, part_stands, open_at, open_stands}
+use Rattle.gos_link.proofs.PlaceLemmas.{part_at, part_stands, open_at, open_stands}
 
 -- the handshake at a place, where there is one
 abbrev pub contact_in : Option Plan → End → Option Contact
@@ -49,9 +50,6 @@ back_at ps ss root (spots.Node t) h = of_service (slice_get ss t) h
 abbrev pub back : List Plan → List Service → ℕ → Point → List Place
 back ps ss root q = back_at ps ss root q.place q.shake
 
-zero_more : (n : ℕ) → 0 + n ≡ n
-zero_more n = omega arith
-
 -- what a handshake at an end tells of the end
 part_there : (ps : List Plan) (n i h : ℕ) → IsThere ps (place n (PartEnd i h))
     → (p : Plan) × (part : Part) × (slice_get ps n ≡ Some p) × (slice_get p.parts i ≡ Some part)
@@ -74,7 +72,7 @@ import_there ps n i h (c, e) = by_plan (slice_get ps n) refl e
     by_import : (p : Plan) (o : Option Imported) → slice_get ps n ≡ Some p → slice_get p.imports i ≡ o → slice_get (contacts_of_import o) h ≡ Some c
         → (p : Plan) × (x : Imported) × (slice_get ps n ≡ Some p) × (slice_get p.imports i ≡ Some x) × (h < length (contacts_of x.ty))
     by_import p None is has e = absurd (cc e)
-    by_import p (Some x) is has e = (p, x, is, has, within (contacts_of x.ty) h c e)
+    by_import p (Some x) is has e = (p, x, is, has, slice_get_within (contacts_of x.ty) h c e)
 
     by_plan : (o : Option Plan) → slice_get ps n ≡ o → contact_in o (ImportEnd i h) ≡ Some c
         → (p : Plan) × (x : Imported) × (slice_get ps n ≡ Some p) × (slice_get p.imports i ≡ Some x) × (h < length (contacts_of x.ty))
@@ -93,7 +91,7 @@ module _ (ps : List Plan) (ss : List Service) (root : ℕ) (known : AreJoinable 
       by_end (PartEnd i h) is =
           let (p, part, of, has) = part_there ps x.plan i h (subst (λ (y : Place). IsThere ps y) (sym (at (PartEnd i h) is)) there) in
           let stands = (part_stands 0 ps x.plan p i h part of has).1 in
-          inl (stands ∙ (ap (λ (n : ℕ). place n (PartEnd i h)) (zero_more x.plan) ∙ at (PartEnd i h) is))
+          inl (stands ∙ (ap (λ (n : ℕ). place n (PartEnd i h)) (zero-add x.plan) ∙ at (PartEnd i h) is))
       by_end (ImportEnd i h) is = by (number_bound ss x.plan i) refl
         where
           by : (o : Option ℕ) → number_bound ss x.plan i ≡ o → In (back_at ps ss root (place_bound o (stays_before ss 0 ps x.plan + rank ss x.plan i)) h) x
@@ -102,7 +100,7 @@ module _ (ps : List Plan) (ss : List Service) (root : ℕ) (known : AreJoinable 
               rw found (inl ((λ j. place (user j) (ImportEnd (import j) h)) ∙ at (ImportEnd i h) is))
           by None e =
               let (p, y, of, has, low) = import_there ps x.plan i h (subst (λ (y : Place). IsThere ps y) (sym (at (ImportEnd i h) is)) there) in
-              let plan : 0 + x.plan ≡ x.plan = zero_more x.plan in
+              let plan : 0 + x.plan ≡ x.plan = zero-add x.plan in
               let stands = open_stands ss 0 ps x.plan p i y of has (ap (λ (n : ℕ). number_bound ss n i) plan ∙ e) in
               let found : slice_get (opens_among ss 0 ps) (stays_before ss 0 ps x.plan + rank ss x.plan i) ≡ Some (record { plan = 0 + x.plan; number = i; import = y }) =
               ap (λ (n : ℕ). slice_get (opens_among ss 0 ps) (stays_before ss 0 ps x.plan + rank ss n i)) (sym plan) ∙ stands in
@@ -184,7 +182,7 @@ module _ (ps : List Plan) (ss : List Service) (root : ℕ) (known : AreJoinable 
       ap (λ (m : Link). spot_of ps ss root m.one) is ∙ ap (λ (o : Option ℕ). point (place_bound o (stays_before ss 0 ps s.user + rank ss s.user s.import)) h) (known.bound t s found)
       in
       let apart : s.giver ≢ root = (λ e. let wrong : Some t ≡ None = sym (known.used t s found) ∙ (ap (number_used ss) e ∙ known.unused) in absurd (cc wrong)) in
-      let result : place_of_result ss root s.giver ≡ spots.Node t = rw (eq_false s.giver root apart) (ap (place_used s.giver) (known.used t s found)) in
+      let result : place_of_result ss root s.giver ≡ spots.Node t = rw (ne_eqb s.giver root apart) (ap (place_used s.giver) (known.used t s found)) in
       let other : spot_of ps ss root l.other ≡ point (spots.Node t) h =
       ap (λ (m : Link). spot_of ps ss root m.other) is ∙ ap (λ (p : spot.Place). point p h) result
       in
@@ -238,7 +236,7 @@ module _ (ps : List Plan) (ss : List Service) (root : ℕ) (known : AreJoinable 
           let r = part_at 0 ps g part found in
           let placed = (part_stands 0 ps r.plan r.of r.number h part r.is r.has).1 in
           let is : part_place 0 ps g h ≡ place r.plan (PartEnd r.number h) =
-          ap (λ (m : ℕ). part_place 0 ps m h) r.sum ∙ (placed ∙ ap (λ (n : ℕ). place n (PartEnd r.number h)) (zero_more r.plan))
+          ap (λ (m : ℕ). part_place 0 ps m h) r.sum ∙ (placed ∙ ap (λ (n : ℕ). place n (PartEnd r.number h)) (zero-add r.plan))
           in
           record {
             spot = ap (spot_of ps ss root) is ∙ ap (λ (m : ℕ). point (spots.Part m) h) (sym r.sum);
@@ -265,13 +263,13 @@ module _ (ps : List Plan) (ss : List Service) (root : ℕ) (known : AreJoinable 
           slice_get-map (λ (l : LeftImport). l.import) (all_left (wiring_of ps ss root)) o ∙ ap (option_map (λ (l : LeftImport). l.import)) found in
           let here : slice_get (contacts_of l.import.ty) h ≡ Some c = sym (ap (λ (i : Option Imported). slice_get (contacts_of_import i) h) some) ∙ e in
           let r = open_at ss 0 ps o l (ap (λ (ls : List LeftImport). slice_get ls o) (sym (opens_left ps ss root known)) ∙ found) in
-          let plan : l.plan ≡ r.plan = r.plan_is ∙ zero_more r.plan in
+          let plan : l.plan ≡ r.plan = r.plan_is ∙ zero-add r.plan in
           let is : origin (wiring_of ps ss root) (ImportEnd o h) ≡ place r.plan (ImportEnd l.number h) =
           ap (λ (i : Option LeftImport). left_place i h) found ∙ ap (λ (n : ℕ). place n (ImportEnd l.number h)) plan
           in
-          let unbound : number_bound ss r.plan l.number ≡ None = ap (λ (n : ℕ). number_bound ss n l.number) (sym (zero_more r.plan)) ∙ r.unbound in
+          let unbound : number_bound ss r.plan l.number ≡ None = ap (λ (n : ℕ). number_bound ss n l.number) (sym (zero-add r.plan)) ∙ r.unbound in
           let sum : stays_before ss 0 ps r.plan + rank ss r.plan l.number ≡ o =
-          sym (r.sum ∙ ap (λ (n : ℕ). stays_before ss 0 ps r.plan + rank ss n l.number) (zero_more r.plan))
+          sym (r.sum ∙ ap (λ (n : ℕ). stays_before ss 0 ps r.plan + rank ss n l.number) (zero-add r.plan))
           in
           record {
             spot =
@@ -296,9 +294,9 @@ module _ (ps : List Plan) (ss : List Service) (root : ℕ) (known : AreJoinable 
                 ]);
           }
   stands js (ResultEnd h) c e =
-      let is : place root (ResultEnd (0 + h)) ≡ place root (ResultEnd h) = ap (λ (n : ℕ). place root (ResultEnd n)) (zero_more h) in
+      let is : place root (ResultEnd (0 + h)) ≡ place root (ResultEnd h) = ap (λ (n : ℕ). place root (ResultEnd n)) (zero-add h) in
       let (p, found) = known.some_root in
-      let root_is : nat_eq root root ≡ true = eq_true root root refl in
+      let root_is : nat_eq root root ≡ true = eq-eqb root root refl in
       record {
         spot = ap (spot_of ps ss root) is ∙ rw root_is refl;
         contact =

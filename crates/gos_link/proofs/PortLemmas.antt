@@ -17,8 +17,8 @@ use Rattle.gos_link.specs.declared.fault.LinkFault.TheVariants as faults
 use Rattle.gos_link.specs.Linked.{Port, AreDifferent, AreGround, IsSecond, name_of, port_of}
 use Rattle.gos_link.specs.inner.Opens.{open_seen}
 use Rattle.gos_lex.specs.NameTables.{number_at, added}
+use Rattle.gos_model.proofs.NumberLemmas.{number_cases}
 use Rattle.gos_link.specs.inner.Ports.{port_seen, AllDiffer, IsOpenTwice, IsTable}
-use Rattle.gos_link.proofs.NumberLemmas.{number_cases}
 
 -- the element at a place is one
 pub same_at : {X : Type 0} (xs : List X) (i j : ℕ) (x y : X) → i ≡ j → slice_get xs i ≡ Some x → slice_get xs j ≡ Some y → x ≡ y

@@ -5,8 +5,10 @@ use Rattle.std.proofs.lemmas.List.{length-map}
 use Rattle.std.proofs.lemmas.List.Quantifiers.{position-Some}
 use Rattle.std.proofs.lemmas.Option.{slice_get-get_or}
 use Rattle.std.proofs.lemmas.Bool.Decides.{nat_tests}
+use Rattle.std.proofs.lemmas.Bool.{eq-eqb}
 use Rattle.gos_types.specs.Types.{Type', Com, Exp, Var, Pair, Fun}
 use Rattle.gos_model.specs.Typing.{Imported}
+use Rattle.gos_model.proofs.NumberLemmas.{number_cases}
 use Rattle.gos_plan.specs.Kinds.{contacts_of}
 use Rattle.gos_plan.specs.Plans.{Plan, contacts_of_import}
 use Rattle.gos_plan.specs.Joining.{Link, is_at_import, is_joined, LeftImport, left_in, left_among, all_left}
@@ -14,7 +16,6 @@ use Rattle.gos_link.specs.declared.services.Service.{Service}
 use Rattle.gos_link.specs.Linked.{imports_of, shakes_at, link_at, links_from, links_of, wiring_of}
 use Rattle.gos_link.specs.inner.Opens.{number_bound, opens_in, opens_among}
 use Rattle.gos_link.specs.inner.Wired.{number_used, AreJoinable}
-use Rattle.gos_link.proofs.NumberLemmas.{eq_true, number_cases}
 
 -- one of a list
 abbrev pub In : {X : Type 0} → List X → X → Type 0
@@ -151,7 +152,7 @@ module _ (ps : List Plan) (ss : List Service) (root : ℕ) (known : AreJoinable 
       by (Some t) e =
           let (s, at, user, import) = bound_tells ss k i t e in
           joined_here k i (link_at s 0) (links_of ps ss) (link_in ps ss t s 0 at (some_at t s at))
-          (rw (eq_true s.user k user, eq_true s.import i import) refl)
+          (rw (eq-eqb s.user k user, eq-eqb s.import i import) refl)
       by None e =
           not_joined k i (links_of ps ss)
           (λ l j.

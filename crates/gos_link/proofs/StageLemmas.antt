@@ -4,8 +4,10 @@
 -- line has to have passed those before it.
 use Rattle.std.specs.Prelude.{◌≡◌, ◌≢◌, ◌⊎◌, ℕ, zero, suc, ◌≤◌, ◌<◌, List, ◌∷◌, Option, Some, None, slice_get}
 use Rattle.std.proofs.Common.{refl, sym, ◌∙◌, ap, subst, arith, inl, inr}
+use Rattle.std.proofs.lemmas.Bool.{cases_lt}
 use Rattle.gos_types.specs.declared.types.Ty.{Ty}
 use Rattle.gos_types.specs.Types.{type_of}
+use Rattle.gos_model.proofs.NumberLemmas.{number_cases}
 use Rattle.gos_plan.specs.declared.plan.PlanImport.{PlanImport}
 use Rattle.gos_plan.specs.Seen.{SeenPlan}
 use Rattle.gos_link.specs.declared.build.Instance.{Instance}
@@ -15,7 +17,6 @@ use Rattle.gos_link.specs.declared.fault.LinkFault.{LinkFault}
 use Rattle.gos_link.specs.declared.fault.LinkFault.TheVariants as faults
 use Rattle.gos_link.specs.Services.{instance_named, import_named, NamesBoth, NamesAll, Means, first_bound, first_used, HasRing, IsRightBind, IsWrongBind}
 use Rattle.gos_link.specs.Answers.{IsSameFault}
-use Rattle.gos_link.proofs.NumberLemmas.{number_cases, order}
 use Rattle.gos_link.proofs.PortLemmas.{same_at}
 
 -- a fault is itself
@@ -52,7 +53,7 @@ module _ (Passed : ℕ → Type 0) (down : (n : ℕ) → Passed (suc n) → Pass
   -- what stops at two stages stops at one
   pub one_stage : (Stopped : ℕ → LinkFault → Type 0) → ((n : ℕ) (f : LinkFault) → Stopped n f → Passed n)
       → ((n : ℕ) (f : LinkFault) → Stopped n f → Passed (suc n) → ⊥) → (m n : ℕ) (f g : LinkFault) → Stopped m f → Stopped n g → m ≡ n
-  one_stage Stopped before clash m n f g a b = number_cases m n (λ e t. e) (λ e t. less e (order m n))
+  one_stage Stopped before clash m n f g a b = number_cases m n (λ e t. e) (λ e t. less e (cases_lt m n))
     where
       less : m ≢ n → (m < n) ⊎ (n ≤ m) → m ≡ n
       less apart (inl low) = absurd (clash m f a (lower n (suc m) (omega (arith, low)) (before n g b)))

@@ -3,6 +3,7 @@ use Rattle.std.specs.Prelude.{◌≡◌, ℕ, zero, suc, ◌+◌, ◌<◌, ◌�
 use Rattle.std.proofs.Common.{refl, sym, ◌∙◌, ap, subst, arith, inl, inr, append-nil, append_assoc, length-append}
 use Rattle.std.proofs.lemmas.List.{length-map}
 use Rattle.std.proofs.lemmas.Option.{slice_get-map}
+use Rattle.gos_model.proofs.NumberLemmas.{number_cases}
 use Rattle.gos_plan.specs.Plans.{Plan, IsRight}
 use Rattle.gos_plan.specs.declared.plan.PlanImport.{PlanImport}
 use Rattle.gos_plan.specs.declared.plan.Joint as declared_joint
@@ -14,7 +15,6 @@ use Rattle.gos_ties.specs.Ties.{tie}
 use Rattle.gos_link.specs.declared.services.Service.{Service}
 use Rattle.gos_link.specs.inner.Opens.{number_bound, if_open, opens_in}
 use Rattle.gos_link.specs.inner.Wired.{rank, stays, place_of_import, point_in, ties_in, ties_from, PlacesAre}
-use Rattle.gos_link.proofs.NumberLemmas.{number_cases}
 
 -- the list from a place on
 pub drop_at : {X : Type 0} (xs : List X) (k : ℕ) (x : X) → slice_get xs k ≡ Some x → drop k xs ≡ x ∷ drop (k + 1) xs

@@ -2,10 +2,11 @@
 use Rattle.std.specs.Prelude.{◌≡◌, ◌≢◌, ◌<◌, ◌⊎◌, ℕ, zero, suc, List, [], ◌∷◌, ◌++◌, None, Some, length, map, unwrap_or, slice_get}
 use Rattle.std.proofs.Common.{refl, ap, sym, ◌∙◌, subst, arith, inl, inr}
 use Rattle.std.proofs.lemmas.List.{length-map}
+use Rattle.std.proofs.lemmas.Bool.{eq-eqb, ne_eqb}
+use Rattle.gos_model.proofs.NumberLemmas.{number_cases}
 use Rattle.gos_link.specs.declared.services.Service.{Service}
 use Rattle.gos_link.specs.Services.{HasService, Gives, once, on, HasRing, first_used}
 use Rattle.gos_link.specs.inner.Tops.{top_at, Leads, stays, gives, AreTops, moved}
-use Rattle.gos_link.proofs.NumberLemmas.{eq_true, eq_false, number_cases}
 
 -- services, one more at the end
 has_left : (ss : List Service) (t s : Service) → HasService ss s → HasService (ss ++ t ∷ []) s
@@ -30,7 +31,7 @@ used_before (r ∷ ss) t k h =
     (λ e b. let (rest, other) = used_before ss t k (sym (rw b refl) ∙ h) in (rw b rest, other))
 
 unused_more : (ss : List Service) (t : Service) (k : ℕ) → first_used ss k ≡ None → k ≢ t.giver → first_used (ss ++ t ∷ []) k ≡ None
-unused_more [] t k h other = rw (eq_false t.giver k (λ e. other (sym e))) refl
+unused_more [] t k h other = rw (ne_eqb t.giver k (λ e. other (sym e))) refl
 unused_more (r ∷ ss) t k h other =
     number_cases r.giver k (λ e b. let wrong : Some r.line ≡ None = sym (rw b refl) ∙ h in absurd cc)
     (λ e b. rw b (unused_more ss t k (sym (rw b refl) ∙ h) other))
@@ -137,10 +138,10 @@ module _ (n : ℕ) (ss : List Service) (tops : List ℕ) (known : AreTops n ss t
       apart e = ringless (one_closed t e)
 
       f_other : (k : ℕ) → k ≢ t.giver → f k ≡ k
-      f_other k e = rw (eq_false k t.giver e) refl
+      f_other k e = rw (ne_eqb k t.giver e) refl
 
       f_giver : (k : ℕ) → k ≡ t.giver → f k ≡ top_at tops t.user
-      f_giver k e = rw (eq_true k t.giver e) refl
+      f_giver k e = rw (eq-eqb k t.giver e) refl
 
       below : (k : ℕ) → k < n → top_at new k < n
       below k low =

@@ -3,15 +3,15 @@
 -- From an end that is in no link joints and links lead on in turn, and each turns the handshake.
 use Rattle.std.specs.Prelude.{◌≡◌, ◌≢◌, ℕ, zero, suc, ◌||◌, ◌⊎◌, Bool, true, false, List, [], Option, Some, None, Contains, slice_get}
 use Rattle.std.proofs.Common.{refl, sym, ◌∙◌, ap, subst, inl, inr}
-use Rattle.gos_types.specs.declared.shakes.Role.{Role}
-use Rattle.gos_types.specs.declared.shakes.Role.TheVariants.{Serve, Ask}
-use Rattle.gos_types.specs.Handshakes.{turned}
+use Rattle.gos_types.proofs.BoolLemmas.{or_true}
 use Rattle.gos_model.specs.Typing.{Imported}
 use Rattle.gos_plan.specs.Kinds.{Contact, asks, serves, contacts_of, turned_contact}
 use Rattle.gos_plan.specs.Plans.{End, ImportEnd, ResultEnd, Joint, Plan, contact_at, contacts_of_import, turned_if, same_end, stands_in, Fits, IsRight}
 use Rattle.gos_plan.specs.Joining.{Place, place, Link, Wiring, JoinedWithin, Linked, Path}
-use Rattle.gos_plan.proofs.JointLemmas.{same_itself, one_joint, contained}
+use Rattle.gos_plan.proofs.JointLemmas.{same_itself, one_joint, contained, ends_are_apart}
 use Rattle.gos_plan.proofs.JointLemmas as joints
+use Rattle.gos_plan.proofs.ContactLemmas.{turned_contact_twice}
+use Rattle.gos_plan.proofs.WiringLemmas.{linked_back, joined_back, place_is}
 use Rattle.gos_link.specs.declared.services.Service.{Service}
 use Rattle.gos_link.specs.Linked.{links_of, wiring_of}
 use Rattle.gos_link.specs.inner.Opens.{number_bound}
@@ -23,63 +23,24 @@ use Rattle.gos_link.proofs.PointLemmas.{contact_in, contact_of}
 abbrev Ends : Joint → End → End → Type 0
 Ends j a b = ((a ≡ j.asking) × (b ≡ j.serving)) ⊎ ((a ≡ j.serving) × (b ≡ j.asking))
 
-ask_is_not_serve : Ask ≡ Serve → ⊥
-ask_is_not_serve e = cc e
-
-abbrev role_or : Option Contact → Role
-role_or None = Ask
-role_or (Some c) = c.role
-
-ends_differ : (p : Plan) (j : Joint) → Fits p j → j.asking ≡ j.serving → ⊥
-ends_differ p j (q, v, asked, served) e =
-    let same : Some (asks q v) ≡ Some (serves q v) = sym asked ∙ (ap (contact_at p) e ∙ served) in
-    ask_is_not_serve (ap role_or same)
-
 other_end : (p : Plan) (j : Joint) → Fits p j → (e b c : End) → Ends j e b → Ends j e c → b ≡ c
 other_end p j fit e b c (inl (at, is)) (inl (at_too, is_too)) = is ∙ sym is_too
-other_end p j fit e b c (inl (at, is)) (inr (at_too, is_too)) = absurd (ends_differ p j fit (sym at ∙ at_too))
-other_end p j fit e b c (inr (at, is)) (inl (at_too, is_too)) = absurd (ends_differ p j fit (sym at_too ∙ at))
+other_end p j fit e b c (inl (at, is)) (inr (at_too, is_too)) = absurd (ends_are_apart p j fit (sym at ∙ at_too))
+other_end p j fit e b c (inr (at, is)) (inl (at_too, is_too)) = absurd (ends_are_apart p j fit (sym at_too ∙ at))
 other_end p j fit e b c (inr (at, is)) (inr (at_too, is_too)) = is ∙ sym is_too
-
-or_right : (b : Bool) → (b || true) ≡ true
-or_right true = refl
-or_right false = refl
 
 stands : (j : Joint) (e b : End) → Ends j e b → stands_in e j ≡ true
 stands j e b (inl (at, is)) =
     subst (λ (x : End). stands_in x j ≡ true) (sym at) (ap (λ (t : Bool). t || same_end j.asking j.serving) (same_itself j.asking))
 stands j e b (inr (at, is)) =
     subst (λ (x : End). stands_in x j ≡ true) (sym at)
-    (ap (λ (t : Bool). same_end j.serving j.asking || t) (same_itself j.serving) ∙ or_right (same_end j.serving j.asking))
-
-place_is : (a b : Place) → a.plan ≡ b.plan → a.end ≡ b.end → a ≡ b
-place_is a b e f = λ t. place (e t) (f t)
-
-joined_back : (w : Wiring) (a b : Place) → JoinedWithin w a b → JoinedWithin w b a
-joined_back w a b (p, j, same, is, has, ways) = (
-  p,
-  j,
-  sym same,
-  subst (λ (k : ℕ). slice_get w.plans k ≡ Some p) same is,
-  has,
-  elim ways [ inl (e, f) ↦ inr (f, e) | inr (e, f) ↦ inl (f, e) ],
-)
-
-linked_back : (w : Wiring) (a b : Place) → Linked w a b → Linked w b a
-linked_back w a b (l, has, ways) = (l, has, elim ways [ inl (e, f) ↦ inr (f, e) | inr (e, f) ↦ inl (f, e) ])
+    (ap (λ (t : Bool). same_end j.serving j.asking || t) (same_itself j.serving) ∙ or_true (same_end j.serving j.asking))
 
 -- what a place leads to: by a joint at last, or by a link or not at all
 pub data Walk (w : Wiring) (a : Place) : Bool → Place → Type 0 where
   begins : Walk w a false a
   joins : (y z : Place) → Walk w a false y → JoinedWithin w y z → Walk w a true z
   links : (y z : Place) → Walk w a true y → Linked w y z → Walk w a false z
-
-role_twice : (r : Role) → turned (turned r) ≡ r
-role_twice Serve = refl
-role_twice Ask = refl
-
-turned_twice : (c : Contact) → turned_contact (turned_contact c) ≡ c
-turned_twice c = λ t. record { role = role_twice c.role t; ask_bits = c.ask_bits; answer_bits = c.answer_bits }
 
 abbrev turned_by : Bool → Contact → Contact
 turned_by true c = turned_contact c
@@ -183,7 +144,7 @@ module _ (ps : List Plan) (ss : List Service) (root : ℕ) (known : AreJoinable 
       turned_back : (o : Option Contact) → turned_if o ≡ Some c → o ≡ Some (turned_contact c)
       turned_back None e = absurd (cc e)
       turned_back (Some d) e =
-          let same : turned_contact d ≡ c = cc e in ap Some (sym (turned_twice d) ∙ ap turned_contact same)
+          let same : turned_contact d ≡ c = cc e in ap Some (sym (turned_contact_twice d) ∙ ap turned_contact same)
 
       by : Meant y z → contact_of ps z ≡ Some (turned_contact c)
       by (t, s, h, at, inl (e, f)) =
@@ -199,7 +160,7 @@ module _ (ps : List Plan) (ss : List Service) (root : ℕ) (known : AreJoinable 
   walk_turns a c at_a _ _ begins = at_a
   walk_turns a c at_a _ z (joins y _ walk j) = joined_turns y z c j (walk_turns a c at_a false y walk)
   walk_turns a c at_a _ z (links y _ walk l) =
-      linked_turns y z (turned_contact c) l (walk_turns a c at_a true y walk) ∙ ap Some (turned_twice c)
+      linked_turns y z (turned_contact c) l (walk_turns a c at_a true y walk) ∙ ap Some (turned_contact_twice c)
 
   -- one step more
   abbrev IsWalked : Place → Place → Type 0

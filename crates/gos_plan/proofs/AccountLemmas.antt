@@ -5,6 +5,7 @@
 use Rattle.std.specs.Prelude.{Option, None}
 use Rattle.std.proofs.Common.{◌≡◌, ℕ, ◌+◌, Bool, true, false, List, [], ◌∷◌, ◌++◌, Some, slice_get, refl, sym, ◌∙◌, ap, subst, arith, nat_eq, if◌then◌else◌}
 use Rattle.gos_types.specs.Events.{Direction, Request, Answer}
+use Rattle.gos_model.proofs.NumberLemmas.{nat_eq_itself}
 use Rattle.gos_plan.specs.Kinds.{Part, Contact}
 use Rattle.gos_plan.specs.Firing.{State, Slot, Token, Row, firing}
 use Rattle.gos_plan.specs.Plans.{End, PartEnd, ImportEnd, ResultEnd, Joint, Plan, IsRight, contacts_of_part, contact_at}
@@ -16,7 +17,7 @@ use Rattle.gos_plan.specs.Accounts.{AddsUp, PartsPut, HeldTokens, PartsFillPlace
 use Rattle.gos_plan.proofs.JointLemmas.{IsIn, contained}
 use Rattle.gos_plan.proofs.RowLemmas.{role_taking}
 use Rattle.gos_plan.proofs.AskingLemmas.{RoleIs, row_roles}
-use Rattle.gos_plan.proofs.TurnLemmas.{token_state, fired_state, nat_eq_self}
+use Rattle.gos_plan.proofs.TurnLemmas.{token_state, fired_state}
 use Rattle.gos_plan.proofs.ProjectionLemmas.{parts_fire}
 use Rattle.gos_plan.proofs.HeldLemmas as holding
 use Rattle.gos_plan.proofs.PlaceLemmas.{worth, Side, asking_side, serving_side, took, filled, empty_before, takes_so, fire_step, turns_at}
@@ -50,7 +51,7 @@ split p values puts i k t r v xs s w is fires value leads all = of_own own
     state l = ap (λ (x : Tokens). x.state l) leads ∙ fired_state p i r v s l
 
     own : Gives k (values i) (s.state i) (t ∷ firings_of i xs) (puts i)
-    own = subst (λ (b : Bool). Gives k (values i) (s.state i) (if b then t ∷ firings_of i xs else firings_of i xs) (puts i)) (nat_eq_self i) (all i k is)
+    own = subst (λ (b : Bool). Gives k (values i) (s.state i) (if b then t ∷ firings_of i xs else firings_of i xs) (puts i)) (nat_eq_itself i) (all i k is)
 
     of_own : Gives k (values i) (s.state i) (t ∷ firings_of i xs) (puts i) → Split p values puts i r v xs w
     of_own (y, us, fire, puts_is, rest_gives) = record { rest = us; is_split = puts_so'; others = others }

@@ -8,6 +8,7 @@ use Rattle.gos_types.specs.declared.shakes.Role.{Role}
 use Rattle.gos_types.specs.declared.shakes.Role.TheVariants.{Serve, Ask}
 use Rattle.gos_types.specs.Types.{Type'}
 use Rattle.gos_types.specs.Handshakes.{turned}
+use Rattle.gos_types.proofs.ListLemmas.{found_in_front}
 use Rattle.gos_plan.specs.Kinds.{Part, Share, Contact, contacts_of, other_side, turned_contact, part_contacts}
 use Rattle.gos_plan.specs.Firing.{Phase, Rest, State, at, Slot, Req, Ans, Token, Row, rows, shared_rows, share_rows, firing}
 use Rattle.gos_plan.specs.Tokens.{shake_of}
@@ -71,11 +72,6 @@ unshared_rows k p n v u =
     (λ r keeps. (having k (shake_of r.takes) (role_taking r.takes) keeps.0, putting k (r.puts v) _ _ keeps.1)) (table k p n v u)
 
 -- where the handshakes of a Share stand: the source's, and behind them those of each caller
-pub front : (xs ys : List Contact) (j : ℕ) (c : Contact) → slice_get xs j ≡ Some c → slice_get (xs ++ ys) j ≡ Some c
-front [] ys j c e = absurd (grind (arith, e))
-front (x ∷ xs) ys zero c e = e
-front (x ∷ xs) ys (suc j) c e = front xs ys j c e
-
 pub behind : (xs ys : List Contact) (m n : ℕ) → n ≡ length xs + m → slice_get (xs ++ ys) n ≡ slice_get ys m
 behind [] ys m n e = let same : n ≡ m = omega (arith, e) in ap (slice_get ys) same
 behind (x ∷ xs) ys m zero e = absurd (omega (arith, e))
@@ -84,7 +80,7 @@ behind (x ∷ xs) ys m (suc n) e = behind xs ys m n (omega (arith, e))
 -- the handshake of the source, and that of a caller: the callers are 0 and 1
 pub source_at : (t : Type') (j : ℕ) (c : Contact) → slice_get (contacts_of t) j ≡ Some c → slice_get (part_contacts (Share t)) j ≡ Some (turned_contact c)
 source_at t j c there =
-    front (other_side (contacts_of t)) (contacts_of t ++ contacts_of t) j (turned_contact c)
+    found_in_front (other_side (contacts_of t)) (contacts_of t ++ contacts_of t) j (turned_contact c)
     (slice_get-map turned_contact (contacts_of t) j ∙ ap (option_map turned_contact) there)
 
 sources : (t : Type') → length (other_side (contacts_of t)) ≡ length (contacts_of t)
@@ -93,7 +89,7 @@ sources t = length-map (contacts_of t) turned_contact
 pub first_caller_at : (t : Type') (j : ℕ) (c : Contact) → slice_get (contacts_of t) j ≡ Some c → slice_get (part_contacts (Share t)) (length (contacts_of t) + j) ≡ Some c
 first_caller_at t j c there =
     behind (other_side (contacts_of t)) (contacts_of t ++ contacts_of t) j (length (contacts_of t) + j) (omega (arith, sources t))
-    ∙ front (contacts_of t) (contacts_of t) j c there
+    ∙ found_in_front (contacts_of t) (contacts_of t) j c there
 
 pub second_caller_at : (t : Type') (j : ℕ) (c : Contact) → slice_get (contacts_of t) j ≡ Some c
     → slice_get (part_contacts (Share t)) (length (contacts_of t) + length (contacts_of t) + j) ≡ Some c

@@ -2,8 +2,9 @@
 --
 -- A joint is closed, or its request lies in its place, or it is being served, or its answer lies in its place. A token put
 -- or taken at an end turns whether that end is engaged, and each joint stays in one of the four.
-use Rattle.std.specs.Prelude.{not, ◌||◌, Option, None}
+use Rattle.std.specs.Prelude.{not, Option, None}
 use Rattle.std.proofs.Common.{◌≡◌, ℕ, Bool, true, false, [], Some, refl, sym, ◌∙◌, ap, subst, arith, if◌then◌else◌}
+use Rattle.std.proofs.lemmas.Bool.{or_right}
 use Rattle.gos_types.specs.declared.shakes.Role.{Role}
 use Rattle.gos_types.specs.declared.shakes.Role.TheVariants.{Serve, Ask}
 use Rattle.gos_types.specs.Events.{Direction, Request, Answer}
@@ -43,10 +44,6 @@ abbrev pub before_putting : Role → Bool
 before_putting Serve = true
 before_putting Ask = false
 
-or_second : (x y : Bool) → y ≡ true → (x || y) ≡ true
-or_second true y h = refl
-or_second false y h = h
-
 -- the other joints stay as they are
 untouched : (p : Plan) (engaged : End → Bool) (s : Tokens) (j k : Joint) (e : End) (way : Direction) (held : Option ℕ) → IsRight p
     → IsIn j p.joints → stands_in e j ≡ true → IsIn k p.joints → same_end k.asking j.asking ≡ false
@@ -71,7 +68,7 @@ untouched p engaged s j k e way held r i t h n b =
     apart' : (b : Bool) → same_end k.serving e ≡ b → same_end k.serving e ≡ false
     apart' false u = u
     apart' true u =
-        let x : stands_in e k ≡ true = subst (λ (d : End). stands_in d k ≡ true) (same_is k.serving e u) (or_second (same_end k.serving k.asking) (same_end k.serving k.serving) (same_itself k.serving)) in
+        let x : stands_in e k ≡ true = subst (λ (d : End). stands_in d k ≡ true) (same_is k.serving e u) (or_right (same_end k.serving k.asking) (same_end k.serving k.serving) (same_itself k.serving)) in
         absurd (other x)
 
 -- so all joints are balanced where the one is
@@ -245,7 +242,7 @@ unjoined p engaged s e b n j i =
     apart' : (x : Bool) → same_end j.serving e ≡ x → same_end j.serving e ≡ false
     apart' false u = u
     apart' true u =
-        let x : stands_in e j ≡ true = subst (λ (d : End). stands_in d j ≡ true) (same_is j.serving e u) (or_second (same_end j.serving j.asking) (same_end j.serving j.serving) (same_itself j.serving)) in
+        let x : stands_in e j ≡ true = subst (λ (d : End). stands_in d j ≡ true) (same_is j.serving e u) (or_right (same_end j.serving j.asking) (same_end j.serving j.serving) (same_itself j.serving)) in
         absurd (has_place p.joints j e i x n)
 
 -- putting a token turns its end, finds the joint empty, and keeps all joints balanced

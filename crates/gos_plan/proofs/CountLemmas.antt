@@ -146,7 +146,7 @@ none_taken f values way (ImportEnd i h) = refl
 none_taken f values way (ResultEnd h) = refl
 
 -- outputs and inputs
-port_apart : (d : End) (i h : ℕ) → IsPortEnd d → same_end d (PartEnd i h) ≡ false
+pub port_apart : (d : End) (i h : ℕ) → IsPortEnd d → same_end d (PartEnd i h) ≡ false
 port_apart (PartEnd j g) i h port = absurd port
 port_apart (ImportEnd j g) i h port = refl
 port_apart (ResultEnd g) i h port = refl

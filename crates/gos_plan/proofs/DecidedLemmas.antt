@@ -28,7 +28,7 @@ told_bool true false = inr (λ e. cc e)
 told_bool false true = inr (λ e. cc e)
 told_bool false false = inl refl
 
-told_way : (a b : Direction) → Told (a ≡ b)
+pub told_way : (a b : Direction) → Told (a ≡ b)
 told_way Request Request = inl refl
 told_way Request Answer = inr (λ e. cc e)
 told_way Answer Request = inr (λ e. cc e)

@@ -1,11 +1,13 @@
 -- In which joint an end stands, where the joints of a plan are right.
-use Rattle.std.specs.Prelude.{IsTrue, Option, None}
-use Rattle.std.proofs.Common.{◌≡◌, ℕ, zero, suc, ap, Contains, Bool, true, false, List, [], ◌∷◌, ◌⊎◌, Some, refl, sym, ◌∙◌, subst, inl, inr, arith}
+use Rattle.std.specs.Prelude.{IsTrue, Option, None, List, [], ◌∷◌, ◌++◌, ◌≡◌, Bool, true, false, not, ◌&&◌, ◌||◌, ℕ}
+use Rattle.std.proofs.Common.{zero, suc, ap, Contains, ◌⊎◌, Some, refl, sym, ◌∙◌, subst, inl, inr, arith}
+use Rattle.std.proofs.lemmas.Bool.{false_from_ne_true}
 use Rattle.gos_types.specs.declared.shakes.Role.TheVariants.{Serve, Ask}
 use Rattle.gos_types.specs.Events.{Direction, Request, Answer}
 use Rattle.gos_plan.specs.Kinds.{Contact, asks, serves}
 use Rattle.gos_plan.specs.Plans.{End, PartEnd, ImportEnd, ResultEnd, Joint, Plan, contact_at, same_end, stands_in, is_free, Fits, AreRight, IsRight}
 use Rattle.gos_plan.specs.Tokens.{asking_in, places_of, bits_of}
+use Rattle.gos_plan.proofs.ContactLemmas.{asks_is_not_serves}
 
 -- a joint is one of these
 abbrev pub IsIn : Joint → List Joint → Type 0
@@ -158,3 +160,60 @@ pub contained : (js : List Joint) (j : Joint) → Contains js j → IsIn j js
 contained [] j (n, within, is) = absurd (omega (arith, within))
 contained (x ∷ xs) j (zero, within, is) = inl (sym is)
 contained (x ∷ xs) j (suc n, within, is) = inr (contained xs j (n, omega (arith, within), is))
+
+pub apart_is_not_same : (d e : End) → (d ≡ e → ⊥) → same_end d e ≡ false
+apart_is_not_same d e apart = false_from_ne_true (same_end d e) (λ h. apart (same_is d e h))
+
+pub asking_stands : (j : Joint) → stands_in j.asking j ≡ true
+asking_stands j = let same = same_itself j.asking in grind (arith, same)
+
+pub serving_stands : (j : Joint) → stands_in j.serving j ≡ true
+serving_stands j = let same = same_itself j.serving in grind (arith, same)
+
+pub which_end : (e : End) (j : Joint) → stands_in e j ≡ true → (e ≡ j.asking) ⊎ (e ≡ j.serving)
+which_end e j stands = by_test (same_end e j.asking) refl
+  where
+    by_test : (b : Bool) → same_end e j.asking ≡ b → (e ≡ j.asking) ⊎ (e ≡ j.serving)
+    by_test true t = inl (same_is e j.asking t)
+    by_test false t = let s : same_end e j.serving ≡ true = grind (arith, stands, t) in inr (same_is e j.serving s)
+
+pub is_in_front : (j : Joint) (xs ys : List Joint) → IsIn j xs → IsIn j (xs ++ ys)
+is_in_front j [] ys h = absurd h
+is_in_front j (x ∷ xs) ys (inl is) = inl is
+is_in_front j (x ∷ xs) ys (inr h) = inr (is_in_front j xs ys h)
+
+pub is_in_behind : (j : Joint) (xs ys : List Joint) → IsIn j ys → IsIn j (xs ++ ys)
+is_in_behind j [] ys h = h
+is_in_behind j (x ∷ xs) ys h = inr (is_in_behind j xs ys h)
+
+pub stands_somewhere : (e : End) (js : List Joint) → is_free e js ≡ false → (j : Joint) × IsIn j js × (stands_in e j ≡ true)
+stands_somewhere e [] h = absurd (cc h)
+stands_somewhere e (x ∷ xs) h = by_test (stands_in e x) refl (λ k. stands_somewhere e xs k)
+  where
+    by_test : (b : Bool) → stands_in e x ≡ b → (is_free e xs ≡ false → (j : Joint) × IsIn j xs × (stands_in e j ≡ true))
+        → (j : Joint) × IsIn j (x ∷ xs) × (stands_in e j ≡ true)
+    by_test true t further = (x, inl refl, t)
+    by_test false t further =
+        let rest : is_free e xs ≡ false = grind (arith, t, h) in let (j, is_in, stands) = further rest in (j, inr is_in, stands)
+
+pub free_of_both : (e : End) (j : Joint) (js : List Joint) → (e ≡ j.asking → ⊥) → (e ≡ j.serving → ⊥) → IsTrue (is_free e js) → IsTrue (is_free e (j ∷ js))
+free_of_both e j js one other free =
+    let a = apart_is_not_same e j.asking one in
+    let b = apart_is_not_same e j.serving other in
+    let f : is_free e js ≡ true = free in
+    (λ i. not (a i || b i) && f i)
+
+pub ends_are_apart : (p : Plan) (j : Joint) → Fits p j → j.asking ≡ j.serving → ⊥
+ends_are_apart p j (q, v, asked, served) e = asks_is_not_serves q v q v (sym asked ∙ (ap (contact_at p) e ∙ served))
+
+pub result_is_no_import : (i h : ℕ) → ResultEnd 0 ≡ ImportEnd i h → ⊥
+result_is_no_import i h e = cc e
+
+pub same_part : (k h i g : ℕ) → PartEnd k h ≡ PartEnd i g → k ≡ i
+same_part k h i g e = cc e
+
+pub same_shake : (k h i g : ℕ) → PartEnd k h ≡ PartEnd i g → h ≡ g
+same_shake k h i g e = cc e
+
+pub same_result : (h k : ℕ) → ResultEnd h ≡ ResultEnd k → h ≡ k
+same_result h k e = cc e

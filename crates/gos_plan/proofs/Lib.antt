@@ -10,7 +10,7 @@ pub mod ProjectionLemmas
 mod RowBitsLemmas
 pub mod TokenBitsLemmas
 mod PlaceLemmas
-mod CountLemmas
+pub mod CountLemmas
 pub mod AccountLemmas
 mod StayLemmas
 mod JoiningLemmas
@@ -30,3 +30,6 @@ pub mod LineLemmas
 pub mod SectionLemmas
 pub mod WholeLemmas
 pub mod ObjectLemmas
+pub mod WiringLemmas
+pub mod ContactLemmas
+pub mod ElementLemmas

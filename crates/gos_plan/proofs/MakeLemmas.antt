@@ -11,9 +11,10 @@ use Rattle.gos_plan.specs.declared.plan.PlanImport.{PlanImport}
 use Rattle.gos_plan.specs.declared.seats.Seat.{Seat}
 use Rattle.gos_plan.specs.declared.seats.Seats.{Seats}
 use Rattle.gos_plan.specs.Kinds.{Contact, contacts_of, other_side, part_contacts}
-use Rattle.gos_plan.specs.Plans.{PartEnd, ImportEnd, ResultEnd, Joint, Plan, contact_at, contacts_of_part, contacts_of_import, turned_if, IsRightAfter, AreRight, IsRight}
+use Rattle.gos_plan.specs.Plans.{PartEnd, ImportEnd, ResultEnd, Joint, Plan, contact_at, contacts_of_part, contacts_of_import, IsRightAfter, AreRight, IsRight}
 use Rattle.gos_plan.specs.Seen.{SeenPlan, plan_of, part_of, import_of, joint_of}
 use Rattle.gos_plan.specs.inner.Seats.{free_seat, contact_of, seat_in, seat_at, Stands, kind_seats, import_seats, AreSeats}
+use Rattle.gos_plan.proofs.ContactLemmas.{other_side_at}
 
 -- one joint more
 pub right_more : (p : Plan) (before js : List Joint) (j : Joint) → AreRight p before js → IsRightAfter p (reverse js ++ before) j → AreRight p before (js ++ j ∷ [])
@@ -49,11 +50,6 @@ seat_of_imports [] i h = refl
 seat_of_imports (x ∷ xs) zero h = seat_of_list (contacts_of (type_of x.ty)) h
 seat_of_imports (x ∷ xs) (suc i) h = seat_of_imports xs i h
 
-turned_there : (cs : List Contact) (h : ℕ) → slice_get (other_side cs) h ≡ turned_if (slice_get cs h)
-turned_there [] h = refl
-turned_there (c ∷ cs) zero = refl
-turned_there (c ∷ cs) (suc h) = turned_there cs h
-
 -- the seats of a plan without joints so far
 pub stands_at_first : (p : SeenPlan) (seats : Seats) → AreSeats p.imports p.outcome p.parts seats → Stands (plan_of p) [] seats
 stands_at_first p seats a (PartEnd i h) =
@@ -64,7 +60,7 @@ stands_at_first p seats a (ImportEnd i h) =
     (ap (λ (lists : List (List Seat)). seat_in (slice_get lists i) h) a.of_imports ∙ seat_of_imports p.imports i h)
 stands_at_first p seats a (ResultEnd h) =
     free_there (contact_at (plan_of p) (ResultEnd h)) (seat_at seats (ResultEnd h))
-    (ap (λ (list : List Seat). slice_get list h) a.of_result ∙ (seat_of_list (other_side (contacts_of (type_of p.outcome))) h ∙ ap free_if (turned_there (contacts_of (type_of p.outcome)) h)))
+    (ap (λ (list : List Seat). slice_get list h) a.of_result ∙ (seat_of_list (other_side (contacts_of (type_of p.outcome))) h ∙ ap free_if (other_side_at (contacts_of (type_of p.outcome)) h)))
 
 -- the joints up to one of them, and with it
 pub joints_more : (p : SeenPlan) (i : ℕ) (j : declared.Joint) → i < length p.joints → slice_get p.joints i ≡ Some j

@@ -40,7 +40,7 @@ not_wrong : (p : Plan) (n index : ℕ) → index < n → AreRight p [] (take n p
 not_wrong p n index order right wrong =
     wrong.wrong (subst (λ (b : List Joint). IsRightAfter p b wrong.joint) (append-nil (reverse (take index p.joints))) (right_at p [] p.joints n index wrong.joint order right wrong.stands))
 
-right_not_wrong : (p : Plan) (index : ℕ) → IsRight p → IsFirstWrong p index → ⊥
+pub right_not_wrong : (p : Plan) (index : ℕ) → IsRight p → IsFirstWrong p index → ⊥
 right_not_wrong p index right wrong =
     not_wrong p (length p.joints) index (slice_get_within p.joints index wrong.joint wrong.stands)
     (subst (AreRight p []) (sym (take_all (length p.joints) p.joints (omega arith))) right) wrong

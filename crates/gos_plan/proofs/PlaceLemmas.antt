@@ -4,6 +4,7 @@
 -- (HeldLemmas).
 use Rattle.std.specs.Prelude.{Option, None, ◌&&◌}
 use Rattle.std.proofs.Common.{◌≡◌, ℕ, ◌+◌, Bool, true, false, List, [], ◌∷◌, Some, slice_get, refl, sym, ◌∙◌, ap, subst, arith, if◌then◌else◌}
+use Rattle.std.proofs.lemmas.Bool.{and_parts}
 use Rattle.gos_types.specs.declared.shakes.Role.{Role}
 use Rattle.gos_types.specs.declared.shakes.Role.TheVariants.{Serve, Ask}
 use Rattle.gos_types.specs.Events.{Direction, Request, Answer}
@@ -12,11 +13,11 @@ use Rattle.gos_plan.specs.Firing.{Slot, Token, Row, firing}
 use Rattle.gos_plan.specs.Plans.{End, Joint, Plan, IsRight, contacts_of_part, contact_at, same_end, stands_in}
 use Rattle.gos_plan.specs.Tokens.{Tokens, Fire, places_of, same_way, with_state, held_at, with_held, token_at, with_token, shake_of, way_of, end_of, with_puts, way_taken, way_put, firing_of, fired}
 use Rattle.gos_plan.specs.Orderly.{named_by, Open, after_taken, after_put, ComesWell, AllComeWell, ComesInOrder}
-use Rattle.gos_plan.proofs.JointLemmas.{IsIn, same_itself, same_is, fits, one_joint, found, asking_role, serving_role, joined, stands_there}
+use Rattle.gos_plan.proofs.JointLemmas.{IsIn, same_itself, same_is, fits, one_joint, found, asking_role, serving_role, joined, stands_there, asking_stands, serving_stands}
 use Rattle.gos_plan.proofs.RowLemmas.{role_taking, role_putting}
 use Rattle.gos_plan.proofs.AskingLemmas.{RoleIs, PutsInRole, row_roles}
 use Rattle.gos_plan.proofs.TurnLemmas.{way_to_take, way_to_put}
-use Rattle.gos_plan.proofs.TokenBitsLemmas.{same_way_is, both_true}
+use Rattle.gos_plan.proofs.TokenBitsLemmas.{same_way_is, same_way_itself}
 use Rattle.gos_plan.proofs.HeldLemmas as holding
 
 -- what a place is worth, where a token of number v is worth f v
@@ -33,16 +34,10 @@ pub record Side (p : Plan) (j : Joint) (way : Direction) (e : End) (g : Role →
   pub ways : g meets.role ≡ way
   pub only : (d : End) (c : Contact) → stands_in d j ≡ true → contact_at p d ≡ Some c → g c.role ≡ way → d ≡ e
 
-asks_in : (j : Joint) → stands_in j.asking j ≡ true
-asks_in j = let same = same_itself j.asking in grind (arith, same)
-
-serves_in : (j : Joint) → stands_in j.serving j ≡ true
-serves_in j = let same = same_itself j.serving in grind (arith, same)
-
 pub asking_side : (p : Plan) (j : Joint) (way : Direction) (g : Role → Direction) → IsRight p → IsIn j p.joints → g Ask ≡ way → (g Serve ≡ way → ⊥) → Side p j way j.asking g
 asking_side p j way g right is_in yes' never =
     let fit = fits p [] p.joints j right is_in in
-    record { is_in = is_in; stands = asks_in j; meets = _; there = fit.2; ways = yes'; only = only }
+    record { is_in = is_in; stands = asking_stands j; meets = _; there = fit.2; ways = yes'; only = only }
   where
     only : (d : End) (c : Contact) → stands_in d j ≡ true → contact_at p d ≡ Some c → g c.role ≡ way → d ≡ j.asking
     only d c stands at_d way_of_d = by_test (same_end d j.asking) refl
@@ -57,7 +52,7 @@ asking_side p j way g right is_in yes' never =
 pub serving_side : (p : Plan) (j : Joint) (way : Direction) (g : Role → Direction) → IsRight p → IsIn j p.joints → g Serve ≡ way → (g Ask ≡ way → ⊥) → Side p j way j.serving g
 serving_side p j way g right is_in yes' never =
     let fit = fits p [] p.joints j right is_in in
-    record { is_in = is_in; stands = serves_in j; meets = _; there = fit.3; ways = yes'; only = only }
+    record { is_in = is_in; stands = serving_stands j; meets = _; there = fit.3; ways = yes'; only = only }
   where
     only : (d : End) (c : Contact) → stands_in d j ≡ true → contact_at p d ≡ Some c → g c.role ≡ way → d ≡ j.serving
     only d c stands at_d way_of_d = by_test (same_end d j.asking) refl
@@ -67,10 +62,6 @@ serving_side p j way g right is_in yes' never =
             let role : c.role ≡ Ask = asking_role p j c (fits p [] p.joints j right is_in) (ap (contact_at p) (sym (same_is d j.asking t)) ∙ at_d) in
             absurd (never (ap g (sym role) ∙ way_of_d))
         by_test false t = let s : same_end d j.serving ≡ true = grind (arith, stands, t) in same_is d j.serving s
-
-same_way_self : (w : Direction) → same_way w w ≡ true
-same_way_self Request = refl
-same_way_self Answer = refl
 
 -- at that end the joint's place is filled or emptied
 record Changed (p : Plan) (j : Joint) (way : Direction) (e : End) (w : Direction) (held : Option ℕ) (s : Tokens) : Type 0 where
@@ -96,7 +87,7 @@ at_side p j way e g right side w by_role held s =
     named = stands_there p j e right side.is_in side.stands
 
     one : same_way way w ≡ true
-    one = ap (same_way way) is ∙ same_way_self way
+    one = ap (same_way way) is ∙ same_way_itself way
 
 -- at another end it is left alone
 off_side : (p : Plan) (j : Joint) (way : Direction) (e : End) (g : Role → Direction) → IsRight p → Side p j way e g → (d : End) (w : Direction)
@@ -106,11 +97,11 @@ off_side p j way e g right side d w by_role apart held s = by_place (places_of p
   where
     in_one : (a : End) → places_of p d ≡ Some a → (same_way way w && same_end j.asking a) ≡ true → ⊥
     in_one a named t =
-        let tests = both_true (same_way way w) (same_end j.asking a) t in
+        let tests = and_parts (same_way way w) (same_end j.asking a) t in
         let f = found p.joints d a named in
         let is : f.joint.asking ≡ j.asking = f.named ∙ sym (same_is j.asking a tests.1) in
         let one : j ≡ f.joint =
-        one_joint p [] p.joints j f.joint j.asking right side.is_in f.is_in (asks_in j) (subst (λ (x : End). stands_in x f.joint ≡ true) is (asks_in f.joint)) in
+        one_joint p [] p.joints j f.joint j.asking right side.is_in f.is_in (asking_stands j) (subst (λ (x : End). stands_in x f.joint ≡ true) is (asking_stands f.joint)) in
         let at_d = joined p d a right named in
         let same : d ≡ e =
         side.only d at_d.here (subst (λ (x : Joint). stands_in d x ≡ true) (sym one) f.stands) at_d.is_here

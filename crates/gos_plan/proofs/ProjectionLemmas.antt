@@ -6,6 +6,7 @@ use Rattle.std.specs.Prelude.{Option, None}
 use Rattle.std.proofs.Common.{◌≡◌, ℕ, Bool, true, false, List, [], ◌∷◌, ◌++◌, Some, slice_get, refl, sym, ◌∙◌, ap, subst, arith, nat_eq, if◌then◌else◌}
 use Rattle.gos_types.specs.declared.shakes.Role.{Role}
 use Rattle.gos_types.specs.declared.shakes.Role.TheVariants.{Serve, Ask}
+use Rattle.gos_model.proofs.NumberLemmas.{nat_eq_itself}
 use Rattle.gos_plan.specs.Kinds.{Part, Contact}
 use Rattle.gos_plan.specs.Firing.{State, Slot, Req, Ans, Token, put, firing}
 use Rattle.gos_plan.specs.Plans.{End, PartEnd, ImportEnd, ResultEnd, Plan, IsRight, contacts_of_part, contact_at, same_end}
@@ -16,7 +17,7 @@ use Rattle.gos_plan.specs.Firings as law
 use Rattle.gos_plan.specs.Projection.{firings_of, asked_by, TakesValues, PartsFire}
 use Rattle.gos_plan.proofs.JointLemmas.{same_is, fits, Found, found}
 use Rattle.gos_plan.proofs.AskingLemmas.{NotServing, TakesAsking, RequestAsks, PutsAsking, row_asks}
-use Rattle.gos_plan.proofs.TurnLemmas.{token_state, fired_state, nat_eq_self}
+use Rattle.gos_plan.proofs.TurnLemmas.{token_state, fired_state}
 
 -- an end that doesn't serve gives its handshake the name
 by_itself : (p : Plan) (e : End) → IsRight p → ((c : Contact) → contact_at p e ≡ Some c → c.role ≡ Serve → ⊥) → handshake_at p e ≡ e
@@ -101,7 +102,7 @@ puts_other p i j k (t ∷ ts) o right is asks apart g =
     ∙ put_other p i j k t.slot o right is asks.0 apart g
 
 -- so do inputs and outputs
-port_by_itself : (p : Plan) (e : End) (c : Contact) → IsRight p → contact_at p e ≡ Some c → c.role ≡ Ask → handshake_at p e ≡ e
+pub port_by_itself : (p : Plan) (e : End) (c : Contact) → IsRight p → contact_at p e ≡ Some c → c.role ≡ Ask → handshake_at p e ≡ e
 port_by_itself p e c right there role =
     by_itself p e right (λ d also serves. let same : c ≡ d = cc (there, also) in
     let no : Ask ≡ Serve = sym role ∙ (ap (λ (x : Contact). x.role) same ∙ serves) in cc no)
@@ -149,7 +150,7 @@ moved p i k x slot ss o m u s w q right is (v, r, lies, fire, leads) puts value 
     let before : Asked = after_taking slot (asked_by i o) in
     let mine = puts_own p i k (r.puts v) (after_taken p (end_of i slot) (way_of slot) o) before _ right is row.1.1 (taken_own p i k slot o right is asks) now.0 in
     let asked : asked_by i m ≡ after_putting (r.puts v) before = (λ j. asked_by i (now.1 j)) ∙ (λ j g. mine.1 g j) in
-    let state : w.state i ≡ r.next v = ap (λ (z : Tokens). z.state i) leads ∙ (fired_state p i r v s i ∙ rw (nat_eq_self i) refl) in
+    let state : w.state i ≡ r.next v = ap (λ (z : Tokens). z.state i) leads ∙ (fired_state p i r v s i ∙ rw (nat_eq_itself i) refl) in
     let at_v : Fires k x (after_putting (r.puts v) before) (r.next v) ss (asked_by i u) q us =
     subst (λ (a : Asked). Fires k x a (r.next v) ss (asked_by i u) q us) asked
     (subst (λ (z : State). Fires k x (asked_by i m) z ss (asked_by i u) q us) state fires) in

@@ -5,7 +5,6 @@ use Rattle.std.proofs.lemmas.Nat.{pow_pos, mod_below, and_le_l, or_lt, xor_lt}
 use Rattle.gos_types.specs.declared.shakes.Role.{Role}
 use Rattle.gos_types.specs.declared.shakes.Role.TheVariants.{Serve, Ask}
 use Rattle.gos_types.specs.Types.{Type'}
-use Rattle.gos_types.specs.Events.{Direction, Request, Answer}
 use Rattle.gos_plan.specs.Kinds.{Part, Skip, Lit, Seq, Par, If, While, Op, Not, Assign, Deref, Local, Share, Contact, asks, serves, turned_contact, contacts_of, part_contacts}
 use Rattle.gos_model.specs.Terms.{Op as Operation, Add, Sub, And, Or, Xor, Eq, Less, result_of, result_width, complement}
 use Rattle.gos_plan.specs.Firing.{Phase, Rest, First, Second, Both, LeftOnly, RightOnly, Test, Branch, Body, Left, Right, Waiting, Value, Writing, Active, State, at, Slot, Req, Ans, Token, put, Row, chosen, shared_rows, share_rows, rows, firing}
@@ -13,6 +12,7 @@ use Rattle.gos_plan.specs.Tokens.{shake_of, way_of, bits_of}
 use Rattle.gos_plan.specs.TokenBits.{LiteralFits, NumberFits}
 use Rattle.gos_plan.proofs.RowLemmas.{EachRow, row_with}
 use Rattle.gos_plan.proofs.AskingLemmas.{source_at, first_caller_at, second_caller_at, caller_at, each_append}
+use Rattle.gos_plan.proofs.ContactLemmas.{turned_bits}
 
 -- what an operator computes has its bits
 result_fits : (op : Operation) (w a b : ℕ) → a < 2 ^ w → b < 2 ^ w → result_of op w a b < 2 ^ result_width op w
@@ -126,20 +126,16 @@ table (Share t) p n v u l f = absurd (u t refl)
 table k p n v u l f = tt
 
 -- the rows of a Share pass a token on to a handshake with the same bits
-same_bits : (c : Contact) (way : Direction) → bits_of (turned_contact c) way ≡ bits_of c way
-same_bits c Request = refl
-same_bits c Answer = refl
-
 -- from a caller to the source, and back
 to_source : (t : Type') (s r : Slot) (v : ℕ) (c : Contact) → slice_get (part_contacts (Share t)) (shake_of s) ≡ Some c
     → slice_get (part_contacts (Share t)) (shake_of r) ≡ Some (turned_contact c) → way_of s ≡ way_of r → Taking (Share t) s v → Fitting (Share t) (put r v)
 to_source t s r v c from to ways takes =
-    passed_on (Share t) s r v c (turned_contact c) from to (ap (bits_of c) ways ∙ sym (same_bits c (way_of r))) takes
+    passed_on (Share t) s r v c (turned_contact c) from to (ap (bits_of c) ways ∙ sym (turned_bits c (way_of r))) takes
 
 to_caller : (t : Type') (s r : Slot) (v : ℕ) (c : Contact) → slice_get (part_contacts (Share t)) (shake_of s) ≡ Some (turned_contact c)
     → slice_get (part_contacts (Share t)) (shake_of r) ≡ Some c → way_of s ≡ way_of r → Taking (Share t) s v → Fitting (Share t) (put r v)
 to_caller t s r v c from to ways takes =
-    passed_on (Share t) s r v (turned_contact c) c from to (same_bits c (way_of s) ∙ ap (bits_of c) ways) takes
+    passed_on (Share t) s r v (turned_contact c) c from to (turned_bits c (way_of s) ∙ ap (bits_of c) ways) takes
 
 share_table : (t : Type') (b v : ℕ) (cs : List Contact) (j : ℕ)
     → ((m : ℕ) (c : Contact) → slice_get cs m ≡ Some c → slice_get (contacts_of t) (j + m) ≡ Some c)

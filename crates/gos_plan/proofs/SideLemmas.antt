@@ -1,13 +1,12 @@
 -- The handshakes of a product and of a function are those of their sides.
 use Rattle.std.proofs.Common.{◌≡◌, List, [], ◌∷◌, ◌++◌, map, refl, ◌∙◌, ap}
 use Rattle.std.proofs.lemmas.List.{map-append}
-use Rattle.gos_types.specs.declared.shakes.Role.{Role}
-use Rattle.gos_types.specs.declared.shakes.Role.TheVariants.{Serve, Ask}
 use Rattle.gos_types.specs.declared.shakes.Step.{Step}
 use Rattle.gos_types.specs.declared.shakes.Step.TheVariants.{First, Second, Argument, Outcome}
 use Rattle.gos_types.specs.Types.{Pair, Fun}
-use Rattle.gos_types.specs.Handshakes.{Shake, turned, turn_all, below, handshakes_of}
+use Rattle.gos_types.specs.Handshakes.{Shake, turn_all, below, handshakes_of}
 use Rattle.gos_types.proofs.SideLemmas.{are_joined}
+use Rattle.gos_types.proofs.RoleLemmas.{turned_twice}
 use Rattle.gos_plan.specs.Kinds.{Contact, contact, contacts_of, turned_contact, other_side}
 use Rattle.gos_plan.specs.Sides.{PairsJoin, FunctionsJoin, SidesTurnBack}
 
@@ -31,10 +30,6 @@ functions_join a b =
     are_joined Contact (contacts_of (Fun a b)) (other_side (contacts_of a)) (contacts_of b)
     (map-append contact (below Argument (turn_all (handshakes_of a))) (below Outcome (handshakes_of b))
     ∙ (λ i. (one_below Argument (turn_all (handshakes_of a)) ∙ turned_sides (handshakes_of a)) i ++ one_below Outcome (handshakes_of b) i))
-
-turned_twice : (role : Role) → turned (turned role) ≡ role
-turned_twice Serve = refl
-turned_twice Ask = refl
 
 pub sides_turn_back : SidesTurnBack
 sides_turn_back [] = refl

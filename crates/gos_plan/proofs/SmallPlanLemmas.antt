@@ -4,7 +4,7 @@ use Rattle.std.proofs.Common.{◌≡◌, ℕ, zero, suc, true, false, Some, refl
 use Rattle.gos_types.specs.Events.{Request, Answer}
 use Rattle.gos_plan.specs.Kinds.{Contact, asks}
 use Rattle.gos_plan.specs.Firing.{Rest, Req, Ans, Row, row, at, put}
-use Rattle.gos_plan.specs.Plans.{PartEnd, ResultEnd}
+use Rattle.gos_plan.specs.Plans.{PartEnd, ResultEnd, IsRight}
 use Rattle.gos_plan.specs.Tokens.{Tokens, with_token, with_state, end_of, way_of, way_taken, way_put, fired}
 use Rattle.gos_plan.specs.Turns.{IsEmptyAt}
 use Rattle.gos_plan.specs.Orderly.{Open, none_open, with_open, after_taken, after_put, ComesWell, AllComeWell, after_puts, AllWelcome}
@@ -80,3 +80,6 @@ haste_is_no_order (u, t, (m, w, does, puts, taken, (n, z, again, puts_again, res
     let second : m (ResultEnd 0) ≡ false = (puts_again (asks 0 0) refl).0 in
     let both : true ≡ false = sym (ap (λ (o : Open). o (ResultEnd 0)) first) ∙ second in
     cc both
+
+pub skip_is_right : IsRight skip_plan
+skip_is_right = (((0, 0, refl, refl), refl, refl), tt)

@@ -7,6 +7,7 @@ use Rattle.std.proofs.Common.{◌≡◌, ℕ, Bool, true, false, List, [], ◌�
 use Rattle.std.proofs.Math.ListN.{get_or}
 use Rattle.std.proofs.lemmas.Option.{get_or_from_slice_get, slice_get_within}
 use Rattle.std.proofs.lemmas.List.Elements.{All-map}
+use Rattle.std.proofs.lemmas.Bool.{and_parts}
 use Rattle.gos_types.specs.Events.{Direction, Request, Answer}
 use Rattle.gos_plan.specs.declared.kinds.Kind.{Kind}
 use Rattle.gos_plan.specs.declared.kinds.Kind.TheVariants as kinds
@@ -28,11 +29,6 @@ same_way_is Request Answer t = grind (arith, t)
 same_way_is Answer Request t = grind (arith, t)
 same_way_is Answer Answer t = refl
 
-pub both_true : (a b : Bool) → (a && b) ≡ true → (a ≡ true) × (b ≡ true)
-both_true true true t = (refl, refl)
-both_true true false t = grind (arith, t)
-both_true false b t = grind (arith, t)
-
 placed : (p : Plan) (e : End) (way : Direction) (held : Option ℕ) (s : Tokens) → IsRight p
     → ((v : ℕ) (c : Contact) → held ≡ Some v → contact_at p e ≡ Some c → v < 2 ^ bits_of c way) → TokensFit p s → TokensFit p (with_token p e way held s)
 placed p e way held s right small fit d c w x there lies = by_place (places_of p e) refl
@@ -43,7 +39,7 @@ placed p e way held s right small fit d c w x there lies = by_place (places_of p
     in_one : (a b : End) → places_of p e ≡ Some a → places_of p d ≡ Some b → (t : Bool) → (same_way w way && same_end b a) ≡ t
         → (if t then held else s.in_place w b) ≡ Some x → x < 2 ^ bits_of c w
     in_one a b named also true t lying =
-        let tests = both_true (same_way w way) (same_end b a) t in
+        let tests = and_parts (same_way w way) (same_end b a) t in
         let one = joined p e a right named in
         let two = joined p d b right also in
         let is : two.here ≡ c = cc (two.is_here, there) in
@@ -202,3 +198,7 @@ literal (kinds.Share t) h = tt
 
 pub literals_fit : LiteralsFit
 literals_fit ks all = All-map LiteralFits part_of ks (λ i d within. literal (get_or ks i d) (all i d within))
+
+pub same_way_itself : (w : Direction) → same_way w w ≡ true
+same_way_itself Request = refl
+same_way_itself Answer = refl

@@ -8,6 +8,7 @@ use Rattle.std.proofs.lemmas.Option.{get_or_from_slice_get, slice_get_within}
 use Rattle.gos_types.specs.declared.shakes.Role.{Role}
 use Rattle.gos_types.specs.declared.shakes.Role.TheVariants.{Serve, Ask}
 use Rattle.gos_types.specs.Events.{Direction, Request, Answer}
+use Rattle.gos_model.proofs.NumberLemmas.{nat_eq_itself}
 use Rattle.gos_plan.specs.Kinds as kinds
 use Rattle.gos_plan.specs.Kinds.{Part, Contact, part_contacts}
 use Rattle.gos_plan.specs.Firing.{Rest, State, Slot, Req, Ans, Token, Row, rows, firing}
@@ -81,7 +82,7 @@ token_state p e way held s i = of_place (places_of p e)
     of_place None = refl
     of_place (Some a) = refl
 
-puts_state : (p : Plan) (i : ℕ) (ts : List Token) (s : Tokens) (j : ℕ) → (with_puts p i ts s).state j ≡ s.state j
+pub puts_state : (p : Plan) (i : ℕ) (ts : List Token) (s : Tokens) (j : ℕ) → (with_puts p i ts s).state j ≡ s.state j
 puts_state p i [] s j = refl
 puts_state p i (t ∷ ts) s j =
     puts_state p i ts (with_token p (end_of i t.slot) (way_of t.slot) (Some t.value) s) j
@@ -155,9 +156,6 @@ put_all p i k engaged inner after (t ∷ ts) s r e b same turns =
       outside = λ d n. rest.outside d n ∙ turned_outside i h d engaged n;
     }
 
-pub nat_eq_self : (n : ℕ) → nat_eq n n ≡ true
-nat_eq_self n = grind arith
-
 -- what holds after an element
 pub record Kept (p : Plan) (past : List Element) (x : Element) (s t : Tokens) : Type 0 where
   pub one : HoldsOne p x s
@@ -225,7 +223,7 @@ fires p past i k t v r s right u b e lies fire = (put.on_empty, balanced_by p pu
         by_test : (x : Bool) → nat_eq j i ≡ x → put.now (PartEnd j g) ≡ is_engaged_at (slice_get p.parts j) ((fired p i r v s).state j) g
         by_test true y =
             let is : j ≡ i = grind (arith, y) in
-            rw (fired_state p i r v s j, is, nat_eq_self i, e) (put.within g)
+            rw (fired_state p i r v s j, is, nat_eq_itself i, e) (put.within g)
         by_test false n = rw (fired_state p i r v s j, n) (unmoved (PartEnd j g) n)
     same (ImportEnd j g) = unmoved (ImportEnd j g) refl ∙ sym (port_of_firing (contact_at p (ImportEnd j g)) (ImportEnd j g) i t past)
     same (ResultEnd g) = unmoved (ResultEnd g) refl ∙ sym (port_of_firing (contact_at p (ResultEnd g)) (ResultEnd g) i t past)

@@ -18,3 +18,4 @@ pub mod PlacedLemmas
 pub mod LocalLemmas
 pub mod SmallLemmas
 pub mod EndedLemmas
+pub mod InnerLemmas

@@ -28,3 +28,5 @@ pub mod GroundTurnLemmas
 pub mod IdleLemmas
 pub mod ToldLemmas
 pub mod InputLemmas
+pub mod MatchedLemmas
+pub mod PassLemmas

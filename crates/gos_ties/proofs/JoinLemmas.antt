@@ -4,7 +4,8 @@
 -- more than two numbers are in one bond at most.
 use Rattle.std.specs.Prelude.{◌≡◌, ◌≢◌, ℕ, zero, suc, ◌+◌, ◌≤◌, ◌<◌, ◌⊎◌, List, [], ◌∷◌, drop, nat_eq, if◌then◌else◌}
 use Rattle.std.proofs.Common.{refl, ap, sym, ◌∙◌, subst, arith, inl, inr}
-use Rattle.gos_model.proofs.NumberLemmas.{number_cases, eq_true, eq_false}
+use Rattle.std.proofs.lemmas.Bool.{eq-eqb, ne_eqb}
+use Rattle.gos_model.proofs.NumberLemmas.{number_cases}
 use Rattle.gos_ties.specs.declared.joining.Bond.{Bond}
 use Rattle.gos_ties.specs.inner.Joined.{Joins, Leads, stays, goes, touches, AreFar, AreBelow, joined}
 
@@ -40,10 +41,10 @@ abbrev merged : ℕ → ℕ → ℕ → ℕ
 merged c d x = if nat_eq x c then d else x
 
 merged_one : (c d : ℕ) → merged c d c ≡ d
-merged_one c d = rw (eq_true c c refl) refl
+merged_one c d = rw (eq-eqb c c refl) refl
 
 merged_other : (c d x : ℕ) → x ≢ c → merged c d x ≡ x
-merged_other c d x h = rw (eq_false x c h) refl
+merged_other c d x h = rw (ne_eqb x c h) refl
 
 merged_into : (c d : ℕ) → merged c d d ≡ d
 merged_into c d = number_cases d c (λ e t. rw t refl) (λ h f. rw f refl)
@@ -53,21 +54,21 @@ touched_more : (t : Bond) (ts : List Bond) (p : ℕ) → touches p ts ≤ touche
 touched_more t ts p = omega arith
 
 touched_one : (t : Bond) (ts : List Bond) → 1 + touches t.one ts ≤ touches t.one (t ∷ ts)
-touched_one t ts = rw (eq_true t.one t.one refl) (omega arith)
+touched_one t ts = rw (eq-eqb t.one t.one refl) (omega arith)
 
 touched_other : (t : Bond) (ts : List Bond) → 1 + touches t.other ts ≤ touches t.other (t ∷ ts)
-touched_other t ts = rw (eq_true t.other t.other refl) (omega arith)
+touched_other t ts = rw (eq-eqb t.other t.other refl) (omega arith)
 
 -- the far numbers of the two far ends
 far_one : (t : Bond) (far : ℕ → ℕ) → joined t far (far t.one) ≡ far t.other
 far_one t far =
-    number_cases (far t.one) (far t.other) (λ e b. rw b e) (λ h b. rw (b, eq_true (far t.one) (far t.one) refl) refl)
+    number_cases (far t.one) (far t.other) (λ e b. rw b e) (λ h b. rw (b, eq-eqb (far t.one) (far t.one) refl) refl)
 
 far_other : (t : Bond) (far : ℕ → ℕ) → joined t far (far t.other) ≡ far t.one
-far_other t far = rw (eq_true (far t.other) (far t.other) refl) refl
+far_other t far = rw (eq-eqb (far t.other) (far t.other) refl) refl
 
 far_rest : (t : Bond) (far : ℕ → ℕ) (p : ℕ) → p ≢ far t.other → p ≢ far t.one → joined t far p ≡ far p
-far_rest t far p h g = rw (eq_false p (far t.other) h, eq_false p (far t.one) g) refl
+far_rest t far p h g = rw (ne_eqb p (far t.other) h, ne_eqb p (far t.one) g) refl
 
 -- a class that joins: an end of the first chain is its far one
 spot_one : (t : Bond) (ts : List Bond) (far class : ℕ → ℕ) → Classed ts far class → touches t.one (t ∷ ts) ≤ 2

@@ -2,9 +2,10 @@
 use Rattle.std.specs.Prelude.{◌≡◌, ◌↔◌, ℕ, ◌≤◌, ◌⊎◌, Bool, true, false, ◌&&◌, List, [], ◌∷◌, ◌++◌, Option, Some, None, map, nat_eq, if◌then◌else◌, unwrap_or, slice_get}
 use Rattle.std.proofs.Common.{refl, ap, sym, ◌∙◌, subst, arith, inl, inr}
 use Rattle.std.proofs.lemmas.Bool.Decides.{nat_tests}
-use Rattle.gos_model.proofs.NumberLemmas.{eq_true}
+use Rattle.std.proofs.lemmas.Bool.{eq-eqb}
 use Rattle.gos_types.specs.declared.shakes.Role.{Role}
 use Rattle.gos_types.specs.declared.shakes.Role.TheVariants.{Serve, Ask}
+use Rattle.gos_types.proofs.RoleLemmas.{ask_is_not_serve}
 use Rattle.gos_plan.specs.Kinds.{Contact, asks, serves}
 use Rattle.gos_plan.specs.Plans.{End, PartEnd, ImportEnd, ResultEnd, Joint, Plan, contact_at}
 use Rattle.gos_ties.specs.declared.points.Place.{Place}
@@ -124,10 +125,6 @@ pub path_ends : (ts : List Tie) (a b : Point) → Path ts a b → (a ≡ b) ⊎ 
 path_ends ts a b (here _) = inl refl
 path_ends ts a b (along _ c _ m l) = inr (meet_left ts a c m, path_right ts c b (meet_right ts a c m) l)
 
--- an end that asks is none that serves
-pub ask_serve : Ask ≡ Serve → ⊥
-ask_serve e = cc
-
 abbrev pub role_or : Option Contact → Role
 role_or None = Ask
 role_or (Some c) = c.role
@@ -135,10 +132,10 @@ role_or (Some c) = c.role
 pub not_both : (p : Plan) (a b : End) (q v : ℕ) → contact_at p a ≡ Some (asks q v) → contact_at p b ≡ Some (serves q v) → at a ≡ at b → ⊥
 not_both p a b q v one other e =
     let same : a ≡ b = ap (λ (o : Option End). unwrap_or o a) (sym (at_end a) ∙ (ap (λ (x : Point). end_at x) e ∙ at_end b)) in
-    ask_serve (ap (λ (o : Option Contact). role_or o) (sym one ∙ (ap (λ (x : End). contact_at p x) same ∙ other)))
+    ask_is_not_serve (ap (λ (o : Option Contact). role_or o) (sym one ∙ (ap (λ (x : End). contact_at p x) same ∙ other)))
 
 fits_so : (q v : ℕ) → do_fit (Some (asks q v)) (Some (serves q v)) ≡ true
-fits_so q v = rw (eq_true q q refl, eq_true v v refl) refl
+fits_so q v = rw (eq-eqb q q refl, eq-eqb v v refl) refl
 
 pub joints_found : (ts : List Tie) (far : List ℕ) (points : List Point) (p : Plan) → AreNumbered points ts
     → AreFar (map (bond_of points) ts) (far_at far)
@@ -193,3 +190,6 @@ joints_found ts far points p numbered ends free a b = (sound, complete)
               all_at p (far_point far points) ts (joint a b) (at a) tied.0
               (subst (λ (js : List Joint). Has js (joint a b)) (sym one) (inl refl))
         ]
+
+pub same_at : (a b : End) → at a ≡ at b → a ≡ b
+same_at a b e = ap (λ (o : Option End). unwrap_or o a) (sym (at_end a) ∙ (ap (λ (p : Point). end_at p) e ∙ at_end b))

@@ -3,8 +3,8 @@ pub mod FarLemmas
 mod CodeLemmas
 mod PointLemmas
 mod ContactLemmas
-mod JointLemmas
+pub mod JointLemmas
 mod PlanLemmas
-mod ThinLemmas
-mod RightLemmas
+pub mod ThinLemmas
+pub mod RightLemmas
 mod FaultLemmas

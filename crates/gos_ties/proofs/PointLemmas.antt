@@ -1,9 +1,10 @@
 -- A point that is added has a number, and those that had one keep it.
-use Rattle.std.specs.Prelude.{◌≡◌, ◌↔◌, ◌⊎◌, ◌<◌, ◌≤◌, ℕ, zero, suc, ◌+◌, Bool, true, false, not, List, [], ◌∷◌, ◌++◌, length, map, Some, None, slice_get, find, position}
+use Rattle.std.specs.Prelude.{◌≡◌, ◌↔◌, ◌⊎◌, ◌≤◌, suc, ◌+◌, Bool, true, false, not, List, [], ◌∷◌, ◌++◌, length, map, Some, None, find, position}
 use Rattle.std.specs.List.{list_any}
 use Rattle.std.proofs.Common.{refl, ap, sym, ◌∙◌, subst, arith, inl, inr, rules, cond}
 use Rattle.std.proofs.lemmas.List.Folds.{find_at}
 use Rattle.std.proofs.lemmas.Grind.{common_steps}
+use Rattle.std.proofs.lemmas.Option.{slice_get_within}
 use Rattle.indexmap.specs.IndexSet.{insert_key}
 use Rattle.gos_ties.specs.declared.points.Point.{Point}
 use Rattle.gos_ties.specs.declared.points.Tie.{Tie}
@@ -64,17 +65,11 @@ keeps_number points new p q is old =
     by true e = rw e (finds points q old)
     by false e = rw e (find_front points (p ∷ []) q q (finds points q old))
 
--- a number is below the count
-pub number_low : {X : Type 0} (xs : List X) (k : ℕ) (x : X) → slice_get xs k ≡ Some x → k < length xs
-number_low [] k x e = absurd (cc e)
-number_low (y ∷ xs) zero x e = omega arith
-number_low (y ∷ xs) (suc k) x e = let rest = number_low xs k x e in omega (arith, rest)
-
 pub bonds_below : (points : List Point) (ts : List Tie) → AreNumbered points ts → AreBelow (length points) (map (bond_of points) ts)
 bonds_below points [] known = tt
 bonds_below points (t ∷ ts) known = (
-  number_low points (code points t.one) t.one (known t.one (inl refl)),
-  number_low points (code points t.other) t.other (known t.other (inr (inl refl))),
+  slice_get_within points (code points t.one) t.one (known t.one (inl refl)),
+  slice_get_within points (code points t.other) t.other (known t.other (inr (inl refl))),
   bonds_below points ts (λ p i. known p (inr (inr i))),
 )
 

@@ -2,12 +2,13 @@
 --
 -- Read first: JointLemmas, ThinLemmas. An end is in one tie, so that its joint is found once; and no two ends have one
 -- far end.
-use Rattle.std.specs.Prelude.{◌≡◌, ℕ, ◌≤◌, ◌⊎◌, Bool, true, false, not, ◌&&◌, ◌||◌, IsTrue, List, [], ◌∷◌, ◌++◌, Option, Some, None, map, if◌then◌else◌}
+use Rattle.std.specs.Prelude.{◌≡◌, ℕ, ◌≤◌, ◌⊎◌, Bool, true, false, IsTrue, List, [], ◌∷◌, ◌++◌, Option, Some, None, map, if◌then◌else◌}
 use Rattle.std.proofs.Common.{refl, ap, sym, ◌∙◌, subst, arith, inl, inr}
-use Rattle.std.proofs.lemmas.Bool.Decides.{nat_tests}
+use Rattle.gos_types.proofs.RoleLemmas.{ask_is_not_serve}
 use Rattle.gos_plan.specs.Kinds.{Contact, asks, serves}
-use Rattle.gos_plan.specs.Plans.{End, PartEnd, ImportEnd, ResultEnd, Joint, Plan, contact_at, same_end, is_free, Fits, AreRight, IsRight}
+use Rattle.gos_plan.specs.Plans.{End, Joint, Plan, contact_at, is_free, Fits, AreRight, IsRight}
 use Rattle.gos_plan.specs.Seen.{SeenPlan, joint_of, plan_of}
+use Rattle.gos_plan.proofs.JointLemmas.{free_of_both}
 use Rattle.gos_ties.specs.declared.points.Point.{Point}
 use Rattle.gos_ties.specs.declared.points.Tie.{Tie}
 use Rattle.gos_ties.specs.declared.joints.Tables.{Tables}
@@ -16,12 +17,12 @@ use Rattle.gos_ties.specs.inner.Joined.{far_at}
 use Rattle.gos_ties.specs.inner.Found.{bare, code, IsTied, do_fit, found_from, found, all_found, far_by, AreTables}
 use Rattle.gos_ties.specs.Counted.{once, meetings, IsThin}
 use Rattle.gos_ties.proofs.CodeLemmas.{codes_tell, path_leads}
-use Rattle.gos_ties.proofs.JointLemmas.{end_tells, at_end, from_ends, all_at, ask_serve, role_or, not_both, path_ends, joints_found}
+use Rattle.gos_ties.proofs.JointLemmas.{end_tells, at_end, from_ends, all_at, role_or, not_both, path_ends, joints_found}
 use Rattle.gos_ties.proofs.PlanLemmas.{bare_connects}
-use Rattle.gos_ties.proofs.ThinLemmas.{occurs, same_once}
+use Rattle.gos_ties.proofs.ThinLemmas.{occurs, once_itself}
 
 -- paths lead back
-meet_back : (ts : List Tie) (a b : Point) → Meet ts a b → Meet ts b a
+pub meet_back : (ts : List Tie) (a b : Point) → Meet ts a b → Meet ts b a
 meet_back [] a b m = m
 meet_back (t ∷ ts) a b (inl e) = inr (inl e)
 meet_back (t ∷ ts) a b (inr (inl e)) = inl e
@@ -75,31 +76,9 @@ from_cases p (Some a) (Some b) = by (do_fit (contact_at p a) (contact_at p b))
     by true = inr (a, b, refl)
     by false = inl refl
 
--- ends that are told to be one are one
-same_tells : (a b : End) → same_end a b ≡ true → a ≡ b
-same_tells (PartEnd i h) (PartEnd j g) e =
-    let one : i ≡ j = grind (arith, nat_tests, e) in let other : h ≡ g = grind (arith, nat_tests, e) in λ k. PartEnd (one k) (other k)
-same_tells (PartEnd i h) (ImportEnd j g) e = cc
-same_tells (PartEnd i h) (ResultEnd g) e = cc
-same_tells (ImportEnd i h) (PartEnd j g) e = cc
-same_tells (ImportEnd i h) (ImportEnd j g) e =
-    let one : i ≡ j = grind (arith, nat_tests, e) in let other : h ≡ g = grind (arith, nat_tests, e) in λ k. ImportEnd (one k) (other k)
-same_tells (ImportEnd i h) (ResultEnd g) e = cc
-same_tells (ResultEnd h) (PartEnd j g) e = cc
-same_tells (ResultEnd h) (ImportEnd j g) e = cc
-same_tells (ResultEnd h) (ResultEnd g) e = let one : h ≡ g = grind (arith, nat_tests, e) in λ k. ResultEnd (one k)
-
-free_one : (e : End) (k : Joint) (js : List Joint) → (e ≡ k.asking → ⊥) → (e ≡ k.serving → ⊥) → IsTrue (is_free e js) → IsTrue (is_free e (k ∷ js))
-free_one e k js one other rest = by (same_end e k.asking) (same_end e k.serving) (λ u. one (same_tells e k.asking u)) (λ u. other (same_tells e k.serving u))
-  where
-    by : (u v : Bool) → (u ≡ true → ⊥) → (v ≡ true → ⊥) → IsTrue (not (u || v) && is_free e js)
-    by true v f g = absurd (f refl)
-    by false true f g = absurd (g refl)
-    by false false f g = rest
-
 free_all : (e : End) (js : List Joint) → ((k : Joint) → Has js k → (e ≡ k.asking → ⊥) × (e ≡ k.serving → ⊥)) → IsTrue (is_free e js)
 free_all e [] h = refl
-free_all e (k ∷ js) h = let (one, other) = h k (inl refl) in free_one e k js one other (free_all e js (λ l i. h l (inr i)))
+free_all e (k ∷ js) h = let (one, other) = h k (inl refl) in free_of_both e k js one other (free_all e js (λ l i. h l (inr i)))
 
 -- each of a list is found, and the point at which it was isn't among those that come
 abbrev AreDone : List Tie → Plan → List Point → List Joint → Type 0
@@ -112,7 +91,7 @@ AreApart ts p = (a b c : End) → Connects ts p a b → Connects ts p c b → a 
 asks_serves : (ts : List Tie) (p : Plan) (a b c d : End) → Connects ts p a b → Connects ts p c d → a ≡ d → ⊥
 asks_serves ts p a b c d (q, v, one, u, path) (r, w, x, other, way) e =
     let there : contact_at p a ≡ Some (serves r w) = subst (λ (f : End). contact_at p f ≡ Some (serves r w)) (sym e) other in
-    ask_serve (ap (λ (o : Option Contact). role_or o) (sym one ∙ there))
+    ask_is_not_serve (ap (λ (o : Option Contact). role_or o) (sym one ∙ there))
 
 -- with a joint that is found at the first of points
 right_one : (ts : List Tie) (p r : Plan) (far : Point → Point) (q : Point) (qs : List Point) (before : List Joint) (a b : End)
@@ -129,7 +108,7 @@ right_one ts p r far q qs before a b apart few done stands known rest =
     at_a = end_tells q a (from_ends p (end_at q) (end_at (far q)) a b stands).0
 
     once_here : once (at a) q ≡ 1
-    once_here = subst (λ (x : Point). once (at a) x ≡ 1) (sym at_a) (same_once (at a))
+    once_here = subst (λ (x : Point). once (at a) x ≡ 1) (sym at_a) (once_itself (at a))
 
     not_before : (k : Joint) → Has before k → a ≡ k.asking → ⊥
     not_before k i e =

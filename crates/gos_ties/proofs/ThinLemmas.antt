@@ -1,7 +1,8 @@
 -- A number is in bonds as often as its point is in ties.
 use Rattle.std.specs.Prelude.{◌≡◌, ℕ, ◌+◌, ◌≤◌, ◌⊎◌, List, [], ◌∷◌, map, nat_eq, if◌then◌else◌, Some}
 use Rattle.std.proofs.Common.{refl, sym, subst, arith, inl, inr}
-use Rattle.gos_model.proofs.NumberLemmas.{number_cases, eq_true}
+use Rattle.std.proofs.lemmas.Bool.{eq-eqb}
+use Rattle.gos_model.proofs.NumberLemmas.{number_cases}
 use Rattle.gos_plan.specs.Plans.{End}
 use Rattle.gos_ties.specs.declared.points.Place.{Place}
 use Rattle.gos_ties.specs.declared.points.Place.TheVariants as places
@@ -18,22 +19,22 @@ abbrev pub occurs : Point → List Point → ℕ
 occurs q [] = 0
 occurs q (p ∷ ps) = once q p + occurs q ps
 
-same_place : (p : Place) → place_once p p ≡ 1
-same_place (places.Part k) = rw (eq_true k k refl) refl
-same_place (places.Import k) = rw (eq_true k k refl) refl
-same_place places.Result = refl
-same_place (places.Number k) = rw (eq_true k k refl) refl
-same_place (places.Node k) = rw (eq_true k k refl) refl
+pub place_once_itself : (p : Place) → place_once p p ≡ 1
+place_once_itself (places.Part k) = rw (eq-eqb k k refl) refl
+place_once_itself (places.Import k) = rw (eq-eqb k k refl) refl
+place_once_itself places.Result = refl
+place_once_itself (places.Number k) = rw (eq-eqb k k refl) refl
+place_once_itself (places.Node k) = rw (eq-eqb k k refl) refl
 
-pub same_once : (q : Point) → once q q ≡ 1
-same_once q = rw (eq_true q.shake q.shake refl) (same_place q.place)
+pub once_itself : (q : Point) → once q q ≡ 1
+once_itself q = rw (eq-eqb q.shake q.shake refl) (place_once_itself q.place)
 
 bond_once : (points : List Point) (q p : Point) → IsNumbered points q → IsNumbered points p
     → (if nat_eq (code points p) (code points q) then 1 else 0) ≤ once q p
 bond_once points q p own other =
     number_cases (code points p) (code points q)
     (λ e t. let same : p ≡ q = codes_tell points p q other own e in
-    let one : once q p ≡ 1 = subst (λ (r : Point). once q r ≡ 1) (sym same) (same_once q) in
+    let one : once q p ≡ 1 = subst (λ (r : Point). once q r ≡ 1) (sym same) (once_itself q) in
     rw t (omega (arith, one)))
     (λ e t. rw t (omega arith))
 

@@ -1,13 +1,8 @@
 -- Handshakes turned twice are the handshakes themselves.
 use Rattle.std.specs.Prelude.{◌≡◌, [], ◌∷◌}
 use Rattle.std.proofs.Common.{refl}
-use Rattle.gos_types.specs.declared.shakes.Role.{Role}
-use Rattle.gos_types.specs.declared.shakes.Role.TheVariants.{Serve, Ask}
-use Rattle.gos_types.specs.Handshakes.{Shake, turned, turn, TurningTwice}
-
-turned_twice : (role : Role) → turned (turned role) ≡ role
-turned_twice Serve = refl
-turned_twice Ask = refl
+use Rattle.gos_types.specs.Handshakes.{Shake, turn, TurningTwice}
+use Rattle.gos_types.proofs.RoleLemmas.{turned_twice}
 
 turn_twice : (h : Shake) → turn (turn h) ≡ h
 turn_twice h = λ i. record h { role = turned_twice h.role i }

@@ -6,13 +6,13 @@ use Rattle.gos_model.specs.Terms.{Term, Lit, App, Fst, Snd, Assign, Deref}
 use Rattle.gos_plan.specs.Kinds as kinds
 use Rattle.gos_plan.specs.Plans.{End, PartEnd, ImportEnd, ResultEnd, Plan, IsRight}
 use Rattle.gos_plan.specs.Joining.{Place, place, Link, Linked, Wiring}
+use Rattle.gos_plan.proofs.WiringLemmas.{place_is}
 use Rattle.gos_realises.specs.realises.Regular.{count}
 use Rattle.gos_realises.specs.realises.Matched.{RealisesDone}
 use Rattle.gos_realises.specs.realises.Links.{LinksFit, IsJoined}
 use Rattle.gos_realises.specs.realises.Wirings.{lone, link, results_linked}
 use Rattle.gos_realises.specs.realises.Realises.{NamesDiffer, Suits, Means}
 use Rattle.gos_realises.proofs.realises.LiteralLemmas.{literals_among}
-use Rattle.gos_realises.proofs.joined.ReachLemmas.{place_is}
 use Rattle.gos_realises.proofs.joined.WholeLemmas.{applied_is_joined, sides_are_joined, variables_are_joined}
 use Rattle.gos_joining.specs.webs.Webs.{joint}
 use Rattle.gos_joining.specs.webs.Renumbering.{Renumber, IsOneToOne, IsRenumbered, back, moved_end}

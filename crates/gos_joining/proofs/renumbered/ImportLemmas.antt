@@ -2,8 +2,8 @@
 use Rattle.std.specs.Prelude.{◌≡◌, ℕ, zero, suc, Bool, true, false, List, [], ◌∷◌, ◌⊎◌, Option, Some, None, Contains, slice_get, if◌then◌else◌}
 use Rattle.std.specs.Str.{bytes_eq}
 use Rattle.std.proofs.Common.{refl, sym, ◌∙◌, ap, subst, arith, inl, inr}
-use Rattle.std.proofs.lemmas.Slice.Eq.{bytes_eq-Decides}
 use Rattle.gos_types.specs.Types.{Type', Com, Exp, Var}
+use Rattle.gos_types.proofs.BytesLemmas.{bytes_eq_same}
 use Rattle.gos_model.specs.Terms.{Name, Term, Skip, Lit, Bound, Import, Lam, App, Both, Fst, Snd, Seq, Par, If, While, Assign, Deref, New, Not, Bin, Loc, Scope, Wait, Held, Put}
 use Rattle.gos_model.specs.Typing.{Imported, Imports, import_type, Typed}
 use Rattle.gos_model.specs.Stores.{Store}
@@ -175,9 +175,6 @@ has_type (i ∷ is) x t e = by_test (bytes_eq i.name x) refl e (has_type is x t)
     by_test true test e rest = (i, (0, omega arith, refl), test, cc e)
     by_test false test e rest = let (j, (k, small, at), named, typed) = rest e in (j, (suc k, omega (arith, small), at), named, typed)
 
-pub name_is : (x y : Name) → bytes_eq x y ≡ true → x ≡ y
-name_is x y test = grind (arith, bytes_eq-Decides, test)
-
 pub type_has : (is : Imports) → NamesDiffer is → (x : Name) (i : Imported) → Contains is i → bytes_eq i.name x ≡ true → import_type is x ≡ Some i.ty
 type_has [] differ x i (k, small, e) test = absurd (omega (arith, small))
 type_has (j ∷ is) differ x i (zero, small, e) test =
@@ -187,7 +184,7 @@ type_has (j ∷ is) differ x i (suc k, small, e) test = by_test (bytes_eq j.name
   where
     by_test : (b : Bool) → bytes_eq j.name x ≡ b → import_type is x ≡ Some i.ty → (if b then Some j.ty else import_type is x) ≡ Some i.ty
     by_test true there rest =
-        absurd (differ.0 i (k, omega (arith, small), e) (name_is j.name x there ∙ sym (name_is i.name x test)))
+        absurd (differ.0 i (k, omega (arith, small), e) (bytes_eq_same j.name x there ∙ sym (bytes_eq_same i.name x test)))
     by_test false there rest = rest
 
 typing_same : (to from : ℕ → ℕ) (is js : Imports) → AreReordered to from is js → NamesDiffer js → (x : Name) (t : Type')

@@ -11,6 +11,7 @@ use Rattle.gos_plan.specs.Joining.{Place, place, Link, Linked}
 use Rattle.gos_realises.specs.realises.Realises.{NamesDiffer, Realises}
 use Rattle.gos_realises.specs.realises.Modules.{Supply, plans_of, AreSupplied, term_for, imports_linked, supplying}
 use Rattle.gos_realises.proofs.joined.WholeLemmas.{supplied_is_joined}
+use Rattle.gos_realises.proofs.realises.FittingLemmas.{supply_is_right}
 use Rattle.gos_joining.specs.webs.Renumbering.{Renumber, IsOneToOne, IsRenumbered, back, moved_end}
 use Rattle.gos_joining.proofs.webs.IdleLemmas.{renumbered_back}
 use Rattle.gos_joining.proofs.webs.MovedLemmas.{back_and_there}
@@ -21,7 +22,7 @@ use Rattle.gos_joining.proofs.renumbered.ImportLemmas.{names_same}
 use Rattle.gos_joining.proofs.renumbered.OrderLemmas.{reordered}
 use Rattle.gos_joining.proofs.renumbered.RewireLemmas.{rewired_is_renumbered}
 use Rattle.gos_joining.proofs.renumbered.HigherLemmas.{unchanged_end, unchanged_one, is_itself, renumbered_is_realised}
-use Rattle.gos_joining.proofs.renumbered.SupplyLemmas.{supply_link, OfImports, of_imports, in_imports, supply_of, import_for, plan_at, supply_at, supply_right, term_at, at_term}
+use Rattle.gos_joining.proofs.renumbered.SupplyLemmas.{supply_link, OfImports, of_imports, in_imports, supply_of, import_for, plan_at, supply_at, term_at, at_term}
 
 -- the supplies of imports in another order: that of import n there is number `from n`
 nothing : Supply
@@ -143,7 +144,7 @@ module _ (f : Renumber) (p q : Plan) (ss : List Supply) (is : IsRenumbered f p q
   plans_there zero x at = let same : p ≡ x = cc at in (q, refl, subst (λ (y : Plan). IsRenumbered f y q) same is)
   plans_there (suc k) x at =
       let (s, at_s, same) = supply_at ss k x at in
-      (x, plan_at others (f.import k) s (supply_there k s at_s) ∙ ap Some same, is_itself x (supply_right p.imports ss k x are at))
+      (x, plan_at others (f.import k) s (supply_there k s at_s) ∙ ap Some same, is_itself x (supply_is_right p.imports ss k x are at))
 
   plans_here : (k : ℕ) (y : Plan) → slice_get (q ∷ plans_of others) k ≡ Some y → (x : Plan) × (slice_get (p ∷ plans_of ss) (supplies_to f.import_back k) ≡ Some x)
   plans_here zero y at = (p, refl)

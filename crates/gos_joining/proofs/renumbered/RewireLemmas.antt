@@ -4,23 +4,26 @@ use Rattle.std.proofs.Common.{refl, sym, ◌∙◌, ap, subst, arith, inl, inr}
 use Rattle.std.proofs.lemmas.Bool.Decides.{nat_tests}
 use Rattle.std.proofs.lemmas.Option.{slice_get-map, slice_get_within, slice_get_past}
 use Rattle.std.proofs.lemmas.List.{length-map}
+use Rattle.gos_types.proofs.BoolLemmas.{same_tests}
+use Rattle.gos_types.proofs.ListLemmas.{element_at}
 use Rattle.gos_model.specs.Typing.{Imported}
 use Rattle.gos_plan.specs.Kinds.{Part, Contact, asks, serves, contacts_of}
 use Rattle.gos_plan.specs.Plans.{End, PartEnd, ImportEnd, ResultEnd, Plan, contact_at, contacts_of_part, contacts_of_import, turned_if}
 use Rattle.gos_plan.specs.Joining.{Place, place, Link, Wiring, is_joined, LeftImport, all_left, all_parts, left_place, part_place, origin, JoinedWithin, Linked, IsJoining}
+use Rattle.gos_plan.proofs.WiringLemmas.{place_is}
 use Rattle.gos_realises.proofs.joined.OriginLemmas.{before, left_index, left_at, import_of}
-use Rattle.gos_realises.proofs.joined.ReachLemmas.{place_is, Step, Paths}
+use Rattle.gos_realises.proofs.joined.ReachLemmas.{Step, Paths}
 use Rattle.gos_joining.specs.webs.Webs.{joint}
 use Rattle.gos_joining.specs.webs.Renumbering.{Renumber, IsOneToOne, IsRenumbered, back, moved_end}
 use Rattle.gos_joining.proofs.webs.IdleLemmas.{there_and_back, renumbered_back}
 use Rattle.gos_joining.proofs.webs.MovedLemmas.{turned, back_and_there}
 use Rattle.gos_joining.proofs.unions.WalkLemmas.{goes, mapped_walk}
 use Rattle.gos_joining.proofs.unions.PathLemmas.{path_walk, walks_paths}
-use Rattle.gos_joining.proofs.unions.LinkLemmas.{IsAt, joined_by, by_joined, tests_agree}
+use Rattle.gos_joining.proofs.unions.LinkLemmas.{IsAt, joined_by, by_joined}
 use Rattle.gos_joining.proofs.unions.DeepLemmas.{place_of_part}
 use Rattle.gos_joining.specs.renumbered.Rewired.{rewired, IsRewired, RewiredIsRenumbered}
 use Rattle.gos_joining.proofs.renumbered.SizeLemmas.{AreOneToOne, same_size, extended, below, above, extended_returns, turned_around}
-use Rattle.gos_joining.proofs.renumbered.SplitLemmas.{split_at, part_get, part_low, element_at, plan_in, part_in, plan_is, part_is, left_get}
+use Rattle.gos_joining.proofs.renumbered.SplitLemmas.{split_at, part_get, part_low, plan_in, part_in, plan_is, part_is, left_get}
 
 -- the numbers back
 abbrev pub all_back : (ℕ → ℕ) → (ℕ → Renumber) → ℕ → Renumber
@@ -153,7 +156,7 @@ module _ (forth undo : ℕ → ℕ) (f : ℕ → Renumber) (w v : Wiring) (is : 
 
   -- imports
   same_import : (k n : ℕ) → is_joined v.links (forth k) ((f k).import n) ≡ is_joined w.links k n
-  same_import k n = tests_agree (is_joined v.links (forth k) ((f k).import n)) (is_joined w.links k n) from to
+  same_import k n = same_tests (is_joined v.links (forth k) ((f k).import n)) (is_joined w.links k n) from to
     where
       at_other : (l : Link) (x y : Place) → Contains w.links l → ((x ≡ l.one) × (y ≡ l.other)) ⊎ ((x ≡ l.other) × (y ≡ l.one)) → IsAt k n x
           → is_joined v.links (forth k) ((f k).import n) ≡ true

@@ -4,8 +4,9 @@ use Rattle.std.proofs.Common.{refl, sym, ◌∙◌, ap, subst, arith, inl, inr}
 use Rattle.gos_plan.specs.Plans.{ResultEnd, Plan, IsRight}
 use Rattle.gos_plan.specs.Joining.{Place, Link, Linked}
 use Rattle.gos_plan.specs.SmallPlans.{skip_plan, same_plan, same_of_skip}
+use Rattle.gos_plan.proofs.WiringLemmas.{place_is}
+use Rattle.gos_plan.proofs.SmallPlanLemmas.{skip_is_right}
 use Rattle.gos_realises.specs.realises.Wirings.{link}
-use Rattle.gos_realises.proofs.joined.ReachLemmas.{place_is}
 use Rattle.gos_joining.specs.webs.Renumbering.{IsRenumbered}
 use Rattle.gos_joining.specs.renumbered.Rewired.{rewired}
 use Rattle.gos_joining.specs.renumbered.SmallRewirings.{unchanged, swapped, skip_first, SwapIsRewired, ArgumentGivesNot}
@@ -15,9 +16,6 @@ twice : (k : ℕ) → swapped (swapped k) ≡ k
 twice zero = refl
 twice (suc zero) = refl
 twice (suc (suc k)) = refl
-
-skip_is_right : IsRight skip_plan
-skip_is_right = (((0, 0, refl, refl), refl, refl), tt)
 
 same_is_right : IsRight same_plan
 same_is_right = (((0, 0, refl, refl), refl, refl), tt)

@@ -3,11 +3,11 @@ use Rattle.std.specs.Prelude.{◌≡◌, ℕ, zero, suc, ◌+◌, ◌-◌, ◌<�
 use Rattle.std.proofs.Common.{refl, sym, ◌∙◌, ap, subst, arith, length-append}
 use Rattle.std.proofs.lemmas.Bool.Decides.{nat_tests}
 use Rattle.std.proofs.lemmas.Option.{slice_get_within}
+use Rattle.gos_types.proofs.ListLemmas.{element_at, found_in_front, found_behind, same_in_front}
 use Rattle.gos_model.specs.Typing.{Imported}
 use Rattle.gos_plan.specs.Plans.{End, PartEnd, ImportEnd, ResultEnd, Plan}
 use Rattle.gos_plan.specs.Joining.{Place, Link, all_parts, is_joined, LeftImport, left_in, left_among, part_place}
-use Rattle.gos_realises.proofs.joined.OriginLemmas.{front_at, behind_at, before, left_before, left_index}
-use Rattle.gos_joining.proofs.unions.LeftLemmas.{front, behind}
+use Rattle.gos_realises.proofs.joined.OriginLemmas.{behind_at, before, left_before, left_index}
 use Rattle.gos_joining.proofs.unions.DeepLemmas.{place_of_part}
 
 -- part i of all is part `part` of plan `plan`
@@ -41,23 +41,15 @@ part_get (x ∷ ps) zero j p is small =
     let same : x ≡ p = cc is in
     let zeros : 0 + j ≡ j = omega arith in
     let low : j < length x.parts = subst (λ (y : Plan). j < length y.parts) (sym same) small in
-    ap (slice_get (x.parts ++ all_parts ps)) zeros ∙ (front_at x.parts (all_parts ps) j low ∙ ap (λ (y : Plan). slice_get y.parts j) same)
+    ap (slice_get (x.parts ++ all_parts ps)) zeros ∙ (same_in_front x.parts (all_parts ps) j low ∙ ap (λ (y : Plan). slice_get y.parts j) same)
 part_get (x ∷ ps) (suc k) j p is small =
     let less : length x.parts + before ps k + j - length x.parts ≡ before ps k + j = omega arith in
     behind_at x.parts (all_parts ps) (length x.parts + before ps k + j) (omega arith)
     ∙ (ap (slice_get (all_parts ps)) less ∙ part_get ps k j p is small)
 
-at_below : {X : Type 0} (xs : List X) (i : ℕ) → i < length xs → (x : X) × (slice_get xs i ≡ Some x)
-at_below [] i low = absurd (omega (arith, low))
-at_below (x ∷ xs) zero low = (x, refl)
-at_below (x ∷ xs) (suc i) low = at_below xs i (omega (arith, low))
-
-pub element_at : {X : Type 0} (xs : List X) (i : ℕ) → i < length xs → (x : X) × (slice_get xs i ≡ Some x)
-element_at xs i low = at_below xs i low
-
 pub part_low : (ps : List Plan) (k j : ℕ) (p : Plan) → slice_get ps k ≡ Some p → j < length p.parts → before ps k + j < length (all_parts ps)
 part_low ps k j p is small =
-    let (x, at) = at_below p.parts j small in
+    let (x, at) = element_at p.parts j small in
     slice_get_within (all_parts ps) (before ps k + j) x (part_get ps k j p is small ∙ at)
 
 -- the numbers of part i of all
@@ -121,10 +113,10 @@ left_get ls n (q ∷ ps) zero m p x is at free =
     let zeros : 0 + m ≡ m = omega arith in
     let at_q : slice_get q.imports m ≡ Some x = ap (λ (y : Plan). slice_get y.imports m) same ∙ at in
     let test : is_joined ls n (0 + m) ≡ false = (λ i. is_joined ls (sum i) (zeros i)) ∙ free in
-    front (left_in ls n 0 q.imports) (left_among ls (suc n) ps) (left_before ls n 0 q.imports m) (record { plan = n; number = 0 + m; import = x })
+    found_in_front (left_in ls n 0 q.imports) (left_among ls (suc n) ps) (left_before ls n 0 q.imports m) (record { plan = n; number = 0 + m; import = x })
     (left_in_get ls n 0 q.imports m x at_q test)
     ∙ (λ i. Some (record { plan = sum i; number = zeros i; import = x }))
 left_get ls n (q ∷ ps) (suc k) m p x is at free =
     let sum : suc n + k ≡ n + suc k = omega arith in
-    behind (left_in ls n 0 q.imports) (left_among ls (suc n) ps) (left_index ls (suc n) ps k m)
+    found_behind (left_in ls n 0 q.imports) (left_among ls (suc n) ps) (left_index ls (suc n) ps k m)
     ∙ (left_get ls (suc n) ps k m p x is at (ap (λ (j : ℕ). is_joined ls j m) sum ∙ free) ∙ (λ i. Some (record { plan = sum i; number = m; import = x })))

@@ -3,9 +3,10 @@ use Rattle.std.specs.Prelude.{◌≡◌, ℕ, zero, suc, ◌+◌, ◌-◌, ◌<�
 use Rattle.std.specs.Str.{bytes_eq}
 use Rattle.std.proofs.Common.{refl, sym, ◌∙◌, ap, subst, arith, inl, inr}
 use Rattle.std.proofs.lemmas.List.Elements.{Contains-append_left, Contains-append_right, Contains-append_cases}
+use Rattle.gos_types.proofs.BytesLemmas.{bytes_eq_same}
 use Rattle.gos_model.specs.Terms.{Name, Term}
 use Rattle.gos_model.specs.Typing.{Imported}
-use Rattle.gos_plan.specs.Plans.{ImportEnd, ResultEnd, Plan, IsRight}
+use Rattle.gos_plan.specs.Plans.{ImportEnd, ResultEnd, Plan}
 use Rattle.gos_plan.specs.Joining.{Place, Link, is_joined}
 use Rattle.gos_realises.specs.realises.Regular.{count}
 use Rattle.gos_realises.specs.realises.Wirings.{link}
@@ -14,7 +15,6 @@ use Rattle.gos_realises.specs.realises.Modules.{Supply, plans_of, AreSupplied, t
 use Rattle.gos_realises.proofs.realises.PlaceLemmas.{contains_at}
 use Rattle.gos_realises.proofs.realises.CountLemmas.{some_shake}
 use Rattle.gos_joining.proofs.unions.LinkLemmas.{IsAt, joined_by, by_joined}
-use Rattle.gos_joining.proofs.renumbered.ImportLemmas.{name_is}
 
 -- handshake h of import i, linked to its supply
 abbrev pub supply_link : ℕ → ℕ → Link
@@ -130,12 +130,6 @@ supply_at [] n p at = absurd (cc at)
 supply_at (s ∷ ss) zero p at = (s, refl, cc at)
 supply_at (s ∷ ss) (suc n) p at = supply_at ss n p at
 
-pub supply_right : (is : List Imported) (ss : List Supply) (n : ℕ) (p : Plan) → AreSupplied is ss → slice_get (plans_of ss) n ≡ Some p → IsRight p
-supply_right is ss n p are at =
-    let (s, at_s, same) = supply_at ss n p at in
-    let (x, at_x, realised) = import_for is ss n s are at_s in
-    subst IsRight same realised.suits.right
-
 -- the term for a name
 pub record TermAt (is : List Imported) (ss : List Supply) (x : Name) (t : Term) : Type 0 where
   pub number : ℕ
@@ -178,5 +172,5 @@ at_term (j ∷ is) (t ∷ ss) x zero i s differ at_i at_s named =
 at_term (j ∷ is) (t ∷ ss) x (suc n) i s differ at_i at_s named = by_test (bytes_eq j.name x) refl (at_term is ss x n i s differ.1 at_i at_s named)
   where
     by_test : (b : Bool) → bytes_eq j.name x ≡ b → term_for is ss x ≡ Some s.term → (if b then Some t.term else term_for is ss x) ≡ Some s.term
-    by_test true there rest = absurd (differ.0 i (contains_at is n i at_i) (name_is j.name x there ∙ sym (name_is i.name x named)))
+    by_test true there rest = absurd (differ.0 i (contains_at is n i at_i) (bytes_eq_same j.name x there ∙ sym (bytes_eq_same i.name x named)))
     by_test false there rest = rest

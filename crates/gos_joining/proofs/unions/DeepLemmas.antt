@@ -4,18 +4,19 @@ use Rattle.std.proofs.Common.{refl, sym, ◌∙◌, ap, subst, arith, inl, inr}
 use Rattle.std.proofs.lemmas.Bool.Decides.{nat_tests}
 use Rattle.std.proofs.lemmas.List.{map-append}
 use Rattle.std.proofs.lemmas.Option.{slice_get-map, slice_get_within}
+use Rattle.gos_types.proofs.BoolLemmas.{same_tests}
 use Rattle.gos_model.specs.Typing.{Imported}
 use Rattle.gos_plan.specs.Kinds.{Part, Contact, contacts_of}
 use Rattle.gos_plan.specs.Plans.{End, PartEnd, ImportEnd, ResultEnd, Joint, Plan, contact_at, contacts_of_part, contacts_of_import}
 use Rattle.gos_plan.specs.Joining.{Place, place, Link, Wiring, is_joined, LeftImport, left_in, left_among, all_left, left_place, part_place, origin, all_parts, all_weight, contacts_of_result, IsJoining}
+use Rattle.gos_plan.proofs.WiringLemmas.{place_is}
 use Rattle.gos_realises.specs.realises.Links.{contact_of, contact_in}
 use Rattle.gos_realises.proofs.joined.OriginLemmas.{before, part_at, import_of, left_index, left_at, import_at, sort, sort_of, whole}
-use Rattle.gos_realises.proofs.joined.ReachLemmas.{place_is}
 use Rattle.gos_joining.specs.unions.Unions.{IsThere, LinksStand, HasResult, HasFieldsOf}
 use Rattle.gos_joining.specs.unions.Flat.{all_plans, first_of, later, later_link, origin_if, deeper, deeper_link, giver_if, skipped_if, flat, AreJoinings, AllLinksStand}
 use Rattle.gos_joining.proofs.unions.PlaceLemmas.{fields_of, stands_at, same_contact}
 use Rattle.gos_joining.proofs.unions.NumberLemmas.{wiring_of, plan_of, stands_of, flat_at, one_number, before_flat}
-use Rattle.gos_joining.proofs.unions.LinkLemmas.{in_range, flat_inner, flat_outer, OfWiring, OfOuter, of_flat, IsAt, JoinedBy, joined_by, by_joined, tests_agree}
+use Rattle.gos_joining.proofs.unions.LinkLemmas.{in_range, flat_inner, flat_outer, OfWiring, OfOuter, of_flat, IsAt, JoinedBy, joined_by, by_joined}
 use Rattle.gos_joining.proofs.unions.LeftLemmas.{Lowers, lowered_all, left_two}
 
 -- part j of plan k, by its number among all
@@ -288,7 +289,7 @@ module _ (w : Wiring) (vs : List Wiring) (are : AreJoinings vs w.plans) (all_sta
 
     same_joined : is_joined flats (first_of vs k + l.plan) l.number ≡ is_joined w.links k t
     same_joined =
-        tests_agree (is_joined flats (first_of vs k + l.plan) l.number) (is_joined w.links k t) was_joined stays_joined
+        same_tests (is_joined flats (first_of vs k + l.plan) l.number) (is_joined w.links k t) was_joined stays_joined
 
     lowered_one : record { plan = first_of vs k + l.plan; number = l.number; import = l.import } ≡ deep_left vs (record { plan = k; number = t; import = l.import })
     lowered_one =

@@ -1,13 +1,14 @@
 -- The links of the flat wiring fit where the inner and the outer ones do.
 use Rattle.std.specs.Prelude.{◌≡◌, ℕ, zero, suc, ◌+◌, ◌<◌, List, [], ◌∷◌, ◌++◌, ◌⊎◌, length, map, Option, Some, None, Contains, slice_get}
 use Rattle.std.proofs.Common.{refl, sym, ◌∙◌, ap, subst, arith, inl, inr}
+use Rattle.gos_types.proofs.ListLemmas.{mapped_at}
 use Rattle.gos_plan.specs.Kinds.{Contact, contacts_of, turned_contact}
 use Rattle.gos_plan.specs.Plans.{End, PartEnd, ImportEnd, ResultEnd, Plan, contact_at, turned_if, IsRight}
 use Rattle.gos_plan.specs.Joining.{Place, place, Link, Wiring, origin, contacts_of_result, IsJoining}
+use Rattle.gos_plan.proofs.WiringLemmas.{place_is}
 use Rattle.gos_realises.specs.realises.Links.{contact_of, contact_in, IsUnjoined, EndsFit, LinkFits, StandsIn, LinksFit}
 use Rattle.gos_realises.proofs.realises.PlaceLemmas.{contains_at, place_of}
 use Rattle.gos_realises.proofs.joined.OriginLemmas.{sort, sort_of, at_origin}
-use Rattle.gos_realises.proofs.joined.ReachLemmas.{place_is}
 use Rattle.gos_realises.proofs.joined.StepLemmas.{IsPart}
 use Rattle.gos_joining.specs.unions.Unions.{IsThere, LinksStand, HasResult}
 use Rattle.gos_joining.specs.unions.Flat.{all_plans, first_of, later, later_link, inner_links, deeper, deeper_link, flat, AreJoinings, AreJoined, AllLinksStand, IsBare, LinkedPartsAreBare, FlatFits, JoinedIsFlat, FlatIsJoined}
@@ -57,11 +58,6 @@ in_two (y ∷ xs) ys (suc k) x e =
       | inl h ↦ inl h
       | inr h ↦ (let sum = h.1 in inr (h.0, omega (arith, sum), h.2))
     ]
-
-mapped_at : {X Y : Type 0} (f : X → Y) (xs : List X) (k : ℕ) (y : Y) → slice_get (map f xs) k ≡ Some y → (x : X) × (slice_get xs k ≡ Some x) × (f x ≡ y)
-mapped_at f [] k y e = absurd (cc e)
-mapped_at f (x ∷ xs) zero y e = (x, refl, cc e)
-mapped_at f (x ∷ xs) (suc k) y e = mapped_at f xs k y e
 
 -- plan n of the flat wiring is one of some wiring
 abbrev OfPlans : List Wiring → ℕ → Plan → Type 0

@@ -5,7 +5,8 @@ use Rattle.std.proofs.lemmas.Option.{slice_get_within}
 use Rattle.gos_plan.specs.Kinds.{Contact, asks, serves}
 use Rattle.gos_plan.specs.Plans.{End, Plan, contact_at}
 use Rattle.gos_plan.specs.Joining.{Place, place, Link, Wiring, origin, JoinedWithin, Linked, Connects, IsJoining}
-use Rattle.gos_realises.proofs.joined.ReachLemmas.{place_is, Step, Paths, step_back}
+use Rattle.gos_plan.proofs.WiringLemmas.{place_is}
+use Rattle.gos_realises.proofs.joined.ReachLemmas.{Step, Paths, step_back}
 use Rattle.gos_joining.specs.unions.Unions.{IsThere, LinksStand, HasFieldsOf}
 use Rattle.gos_joining.specs.unions.Flat.{all_plans, first_of, later, later_link, origin_if, deeper, deeper_link, flat, AreJoinings, AllLinksStand, JoiningsJoin, FlatJoins}
 use Rattle.gos_joining.proofs.unions.WalkLemmas.{Walks, goes, mapped_walk, followed_walk}

@@ -1,21 +1,12 @@
 -- The imports that stay in the flat wiring are those that stay in the joining of joinings, in the same order.
-use Rattle.std.specs.Prelude.{◌≡◌, ℕ, zero, suc, ◌+◌, Bool, true, false, List, [], ◌∷◌, ◌++◌, length, map, Some, slice_get, if◌then◌else◌}
+use Rattle.std.specs.Prelude.{◌≡◌, ℕ, suc, ◌+◌, Bool, true, false, List, [], ◌∷◌, ◌++◌, length, map, Some, slice_get, if◌then◌else◌}
 use Rattle.std.proofs.Common.{refl, sym, ◌∙◌, ap, arith}
 use Rattle.std.proofs.lemmas.List.{map-append, length-map}
+use Rattle.gos_types.proofs.ListLemmas.{found_in_front, found_behind}
 use Rattle.gos_model.specs.Typing.{Imported}
 use Rattle.gos_plan.specs.Plans.{Plan}
 use Rattle.gos_plan.specs.Joining.{Link, is_joined, LeftImport, left_in, left_among}
 use Rattle.gos_realises.proofs.joined.OriginLemmas.{import_of}
-
--- elements of two lists
-pub front : {X : Type 0} (xs ys : List X) (i : ℕ) (x : X) → slice_get xs i ≡ Some x → slice_get (xs ++ ys) i ≡ Some x
-front [] ys i x e = absurd (cc e)
-front (y ∷ xs) ys zero x e = e
-front (y ∷ xs) ys (suc i) x e = front xs ys i x e
-
-pub behind : {X : Type 0} (xs ys : List X) (i : ℕ) → slice_get (xs ++ ys) (length xs + i) ≡ slice_get ys i
-behind [] ys i = let zeros : 0 + i ≡ i = omega arith in ap (slice_get ys) zeros
-behind (x ∷ xs) ys i = let e : suc (length xs) + i ≡ suc (length xs + i) = omega arith in ap (slice_get (x ∷ (xs ++ ys))) e ∙ behind xs ys i
 
 map_chosen : (f : LeftImport → LeftImport) (b : Bool) (l : LeftImport) (ls : List LeftImport)
     → (if b then map f ls else f l ∷ map f ls) ≡ map f (if b then ls else l ∷ ls)
@@ -87,7 +78,7 @@ module _ (flats ms ls : List Link) (first k : ℕ) (all : List LeftImport) (low 
       let heres : List LeftImport = left_in ms n 0 q.imports in
       let lengths : length (map import_of heres) ≡ length heres = length-map heres import_of in
       let sum : t + length (map import_of heres) + u ≡ t + (length heres + u) = omega (arith, lengths) in
-      ap (slice_get all) sum ∙ seg (length heres + u) l (behind heres (left_among ms (suc n) qs) u ∙ e)
+      ap (slice_get all) sum ∙ seg (length heres + u) l (found_behind heres (left_among ms (suc n) qs) u ∙ e)
 
   two_parts : (n t : ℕ) (q : Plan) (qs : List Plan) → Segment t (left_among ms n (q ∷ qs))
       → left_among flats (first + suc n) qs
@@ -105,7 +96,7 @@ module _ (flats ms ls : List Link) (first k : ℕ) (all : List LeftImport) (low 
       rests = left_among ms (suc n) qs
 
       head : left_in flats (first + n) 0 q.imports ≡ map low (left_in ls k t (map import_of heres))
-      head = one_plan n 0 t q.imports (λ u l e. seg u l (front heres rests u l e))
+      head = one_plan n 0 t q.imports (λ u l e. seg u l (found_in_front heres rests u l e))
 
       next : suc (first + n) ≡ first + suc n
       next = omega arith

@@ -1,14 +1,15 @@
 -- The links of the flat wiring: those of each joining, and those of the joinings; and which imports a link joins.
-use Rattle.std.specs.Prelude.{◌≡◌, ℕ, zero, suc, ◌+◌, ◌<◌, ◌||◌, ◌&&◌, Bool, true, false, List, [], ◌∷◌, ◌⊎◌, length, map, Option, Some, None, Contains, slice_get, nat_eq}
+use Rattle.std.specs.Prelude.{◌≡◌, ℕ, zero, suc, ◌+◌, ◌<◌, ◌||◌, true, List, [], ◌∷◌, ◌⊎◌, length, map, Option, Some, None, Contains, slice_get, nat_eq}
 use Rattle.std.proofs.Common.{refl, sym, ◌∙◌, ap, subst, arith, inl, inr}
-use Rattle.std.proofs.lemmas.Bool.Decides.{nat_tests}
 use Rattle.std.proofs.lemmas.Option.{slice_get_within}
 use Rattle.std.proofs.lemmas.List.Elements.{Contains-append_left, Contains-append_right, Contains-append_cases}
+use Rattle.std.proofs.lemmas.Bool.{eqb-true, or_cases, or_right, or_left}
+use Rattle.gos_types.proofs.BoolLemmas.{and_first, and_second}
 use Rattle.gos_plan.specs.Plans.{End, PartEnd, ImportEnd, ResultEnd, Plan}
 use Rattle.gos_plan.specs.Joining.{Place, place, Link, Wiring, is_of_import, is_at_import, is_joined}
+use Rattle.gos_plan.proofs.WiringLemmas.{place_is}
 use Rattle.gos_realises.specs.realises.Links.{contact_in}
 use Rattle.gos_realises.proofs.joined.OriginLemmas.{at_import}
-use Rattle.gos_realises.proofs.joined.ReachLemmas.{place_is}
 use Rattle.gos_joining.specs.unions.Unions.{IsThere}
 use Rattle.gos_joining.specs.unions.Flat.{first_of, later, later_link, inner_links, deeper_link, flat}
 use Rattle.gos_joining.proofs.unions.UnionLemmas.{Image, of_image, in_image}
@@ -100,41 +101,19 @@ IsAt k i a = (h : ℕ) × (a ≡ place k (ImportEnd i h))
 abbrev pub JoinedBy : List Link → ℕ → ℕ → Type 0
 JoinedBy ls k i = (l : Link) × Contains ls l × (IsAt k i l.one ⊎ IsAt k i l.other)
 
-number_is : (a b : ℕ) → nat_eq a b ≡ true → a ≡ b
-number_is a b t = grind (arith, nat_tests, t)
-
 end_is : (i : ℕ) (e : End) → is_of_import i e ≡ true → (h : ℕ) × (e ≡ ImportEnd i h)
 end_is i (PartEnd j h) t = absurd (cc t)
-end_is i (ImportEnd j h) t = (h, ap (λ (m : ℕ). ImportEnd m h) (number_is j i t))
+end_is i (ImportEnd j h) t = (h, ap (λ (m : ℕ). ImportEnd m h) (eqb-true j i t))
 end_is i (ResultEnd h) t = absurd (cc t)
-
-and_first : (a b : Bool) → (a && b) ≡ true → a ≡ true
-and_first true b t = refl
-and_first false b t = t
-
-and_second : (a b : Bool) → (a && b) ≡ true → b ≡ true
-and_second true b t = t
-and_second false b t = absurd (cc t)
 
 place_at : (k i : ℕ) (a : Place) → is_at_import k i a ≡ true → IsAt k i a
 place_at k i a t =
-    let plans : a.plan ≡ k = number_is a.plan k (and_first (nat_eq a.plan k) (is_of_import i a.end) t) in
+    let plans : a.plan ≡ k = eqb-true a.plan k (and_first (nat_eq a.plan k) (is_of_import i a.end) t) in
     let (h, e) = end_is i a.end (and_second (nat_eq a.plan k) (is_of_import i a.end) t) in
     (h, place_is a (place k (ImportEnd i h)) plans e)
 
 at_place : (k i : ℕ) (a : Place) → IsAt k i a → is_at_import k i a ≡ true
 at_place k i a (h, e) = ap (is_at_import k i) e ∙ at_import k i h
-
-or_cases : (a b : Bool) → (a || b) ≡ true → (a ≡ true) ⊎ (b ≡ true)
-or_cases true b t = inl refl
-or_cases false b t = inr t
-
-or_first : (a b : Bool) → a ≡ true → (a || b) ≡ true
-or_first a b t = ap (λ (x : Bool). x || b) t
-
-or_second : (a b : Bool) → b ≡ true → (a || b) ≡ true
-or_second true b t = refl
-or_second false b t = t
 
 pub joined_by : (ls : List Link) (k i : ℕ) → is_joined ls k i ≡ true → JoinedBy ls k i
 joined_by [] k i t = absurd (cc t)
@@ -154,19 +133,14 @@ joined_by (l ∷ ls) k i t =
 pub by_joined : (ls : List Link) (k i : ℕ) → JoinedBy ls k i → is_joined ls k i ≡ true
 by_joined [] k i (m, (n, small, e), ends) = absurd (omega (arith, small))
 by_joined (l ∷ ls) k i (m, (zero, small, e), ends) =
-    or_first (is_at_import k i l.one || is_at_import k i l.other) (is_joined ls k i) (by_end ends)
+    or_left (is_at_import k i l.one || is_at_import k i l.other) (is_joined ls k i) (by_end ends)
   where
     by_end : IsAt k i m.one ⊎ IsAt k i m.other → (is_at_import k i l.one || is_at_import k i l.other) ≡ true
     by_end (inl one) =
-        or_first (is_at_import k i l.one) (is_at_import k i l.other)
+        or_left (is_at_import k i l.one) (is_at_import k i l.other)
         (at_place k i l.one (subst (λ (x : Link). IsAt k i x.one) (sym e) one))
     by_end (inr other) =
-        or_second (is_at_import k i l.one) (is_at_import k i l.other)
+        or_right (is_at_import k i l.one) (is_at_import k i l.other)
         (at_place k i l.other (subst (λ (x : Link). IsAt k i x.other) (sym e) other))
 by_joined (l ∷ ls) k i (m, (suc n, small, e), ends) =
-    or_second (is_at_import k i l.one || is_at_import k i l.other) (is_joined ls k i) (by_joined ls k i (m, (n, omega (arith, small), e), ends))
-
-pub tests_agree : (a b : Bool) → (a ≡ true → b ≡ true) → (b ≡ true → a ≡ true) → a ≡ b
-tests_agree true b to from = sym (to refl)
-tests_agree false true to from = from refl
-tests_agree false false to from = refl
+    or_right (is_at_import k i l.one || is_at_import k i l.other) (is_joined ls k i) (by_joined ls k i (m, (n, omega (arith, small), e), ends))

@@ -1,9 +1,10 @@
 -- The numbers of plans in the flat wiring: those of one joining follow those of the one before.
 use Rattle.std.specs.Prelude.{◌≡◌, ℕ, zero, suc, ◌+◌, ◌-◌, ◌<◌, ◌≤◌, List, [], ◌∷◌, ◌++◌, length, Some, slice_get}
 use Rattle.std.proofs.Common.{refl, sym, ◌∙◌, ap, subst, arith}
+use Rattle.gos_types.proofs.ListLemmas.{same_in_front}
 use Rattle.gos_plan.specs.Plans.{Plan}
 use Rattle.gos_plan.specs.Joining.{Wiring, IsJoining, all_parts}
-use Rattle.gos_realises.proofs.joined.OriginLemmas.{front_at, behind_at, before}
+use Rattle.gos_realises.proofs.joined.OriginLemmas.{behind_at, before}
 use Rattle.gos_joining.specs.unions.Unions.{LinksStand}
 use Rattle.gos_joining.specs.unions.Flat.{all_plans, first_of, AreJoinings, AllLinksStand}
 
@@ -47,7 +48,7 @@ flat_at (u ∷ vs) zero j v is small =
     let same : u ≡ v = cc is in
     let zeros : 0 + j ≡ j = omega arith in
     let low : j < length u.plans = subst (λ (x : Wiring). j < length x.plans) (sym same) small in
-    ap (slice_get (u.plans ++ all_plans vs)) zeros ∙ (front_at u.plans (all_plans vs) j low ∙ ap (λ (x : Wiring). slice_get x.plans j) same)
+    ap (slice_get (u.plans ++ all_plans vs)) zeros ∙ (same_in_front u.plans (all_plans vs) j low ∙ ap (λ (x : Wiring). slice_get x.plans j) same)
 flat_at (u ∷ vs) (suc k) j v is small =
     let less : (length u.plans + first_of vs k + j) - length u.plans ≡ first_of vs k + j = omega arith in
     behind_at u.plans (all_plans vs) (length u.plans + first_of vs k + j) (omega arith)

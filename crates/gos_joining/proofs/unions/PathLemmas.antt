@@ -8,8 +8,9 @@ use Rattle.gos_plan.specs.Kinds.{Contact, asks, serves, turned_contact}
 use Rattle.gos_plan.specs.Plans.{End, Plan, contact_at}
 use Rattle.gos_plan.specs.Joining.{Place, Link, Wiring, JoinedWithin, Linked, Path}
 use Rattle.gos_plan.proofs.DecidedLemmas.{Told}
+use Rattle.gos_plan.proofs.WiringLemmas.{place_is}
 use Rattle.gos_realises.specs.realises.Links.{contact_in}
-use Rattle.gos_realises.proofs.joined.ReachLemmas.{told_end, place_is, Step, Paths, paths_then}
+use Rattle.gos_realises.proofs.joined.ReachLemmas.{told_end, Step, Paths, paths_then}
 use Rattle.gos_joining.specs.webs.Webs.{joint}
 use Rattle.gos_joining.specs.unions.Unions.{IsThere, LinksStand}
 use Rattle.gos_joining.proofs.unions.WalkLemmas.{Walk, Walks, stays, goes, walks_then, walks_back, mapped_walk}

@@ -6,6 +6,7 @@ use Rattle.gos_plan.specs.Kinds.{Contact, contacts_of}
 use Rattle.gos_plan.specs.Plans.{PartEnd, ResultEnd, Plan, IsRight}
 use Rattle.gos_plan.specs.Joining.{place, Link}
 use Rattle.gos_plan.specs.SmallPlans.{skip_plan}
+use Rattle.gos_plan.proofs.SmallPlanLemmas.{skip_is_right}
 use Rattle.gos_realises.specs.realises.Links.{StandsIn, LinksFit}
 use Rattle.gos_realises.specs.realises.Wirings.{link}
 use Rattle.gos_realises.proofs.joined.JoiningLemmas.{fitting_is_joined}
@@ -14,9 +15,6 @@ use Rattle.gos_joining.proofs.webs.WebLemmas.{right_is_of_its_web}
 use Rattle.gos_joining.specs.unions.SmallUnions.{alone, SkipHasUnion, UnjoinedIsNoUnion, BeyondStandsNowhere, TwiceAppliedIs, HiddenIsNotBare, LoneIsBare}
 use Rattle.gos_joining.proofs.unions.UnionLemmas.{joining_is_union}
 use Rattle.gos_joining.proofs.unions.FlatFitLemmas.{links_stand}
-
-skip_is_right : IsRight skip_plan
-skip_is_right = (((0, 0, refl, refl), refl, refl), tt)
 
 alone_fits : LinksFit alone
 alone_fits = record { right = rights; each = λ k l at. absurd (cc at); once = λ j k l m a at_j at_k one other. absurd (cc at_j); left = left }

@@ -1,21 +1,16 @@
 -- Dots are told apart.
-use Rattle.std.specs.Prelude.{◌≡◌, ℕ, ◌&&◌, Bool, true, false, nat_eq, ◌⊎◌}
+use Rattle.std.specs.Prelude.{◌≡◌, Bool, true, false, nat_eq, ◌⊎◌, ◌≤◌}
 use Rattle.std.proofs.Common.{refl, ap, subst, arith, inl, inr}
+use Rattle.std.proofs.lemmas.Bool.{eqb-true, and_parts}
+use Rattle.gos_types.proofs.BoolLemmas.{one_at_most}
 use Rattle.gos_plan.specs.Plans.{End, same_end}
 use Rattle.gos_plan.proofs.JointLemmas.{same_itself, same_is}
 use Rattle.gos_joining.specs.webs.Webs.{Dot, Of, Number, Node, Within}
-use Rattle.gos_joining.specs.weaving.Woven.{same_dot}
+use Rattle.gos_joining.specs.weaving.Woven.{same_dot, once}
 
 -- it is so, or it isn't
 abbrev pub Decided : Type 0 → Type 0
 Decided A = A ⊎ (A → ⊥)
-
-both_true : (a b : Bool) → (a && b) ≡ true → (a ≡ true) × (b ≡ true)
-both_true true b h = (refl, h)
-both_true false b h = let no : false ≡ true = h in absurd (cc no)
-
-equal : (n k : ℕ) → nat_eq n k ≡ true → n ≡ k
-equal n k h = grind (arith, h)
 
 pub dot_itself : (d : Dot) → same_dot d d ≡ true
 dot_itself (Of e) = same_itself e
@@ -33,22 +28,22 @@ dot_is (Of d) (Node k g) t = no_dot (Of d ≡ Node k g) t
 dot_is (Of d) (Within k e) t = no_dot (Of d ≡ Within k e) t
 dot_is (Number n h) (Of e) t = no_dot (Number n h ≡ Of e) t
 dot_is (Number n h) (Number k g) t =
-    let (one, other) = both_true (nat_eq n k) (nat_eq h g) t in
-    let first = equal n k one in let second = equal h g other in λ i. Number (first i) (second i)
+    let (one, other) = and_parts (nat_eq n k) (nat_eq h g) t in
+    let first = eqb-true n k one in let second = eqb-true h g other in λ i. Number (first i) (second i)
 dot_is (Number n h) (Node k g) t = no_dot (Number n h ≡ Node k g) t
 dot_is (Number n h) (Within k e) t = no_dot (Number n h ≡ Within k e) t
 dot_is (Node n h) (Of e) t = no_dot (Node n h ≡ Of e) t
 dot_is (Node n h) (Number k g) t = no_dot (Node n h ≡ Number k g) t
 dot_is (Node n h) (Node k g) t =
-    let (one, other) = both_true (nat_eq n k) (nat_eq h g) t in
-    let first = equal n k one in let second = equal h g other in λ i. Node (first i) (second i)
+    let (one, other) = and_parts (nat_eq n k) (nat_eq h g) t in
+    let first = eqb-true n k one in let second = eqb-true h g other in λ i. Node (first i) (second i)
 dot_is (Node n h) (Within k e) t = no_dot (Node n h ≡ Within k e) t
 dot_is (Within n d) (Of e) t = no_dot (Within n d ≡ Of e) t
 dot_is (Within n d) (Number k g) t = no_dot (Within n d ≡ Number k g) t
 dot_is (Within n d) (Node k g) t = no_dot (Within n d ≡ Node k g) t
 dot_is (Within n d) (Within k e) t =
-    let (one, other) = both_true (nat_eq n k) (same_dot d e) t in
-    let first = equal n k one in let second = dot_is d e other in λ i. Within (first i) (second i)
+    let (one, other) = and_parts (nat_eq n k) (same_dot d e) t in
+    let first = eqb-true n k one in let second = dot_is d e other in λ i. Within (first i) (second i)
 
 pub one_dot : (d e : Dot) → Decided (d ≡ e)
 one_dot d e = by_test (same_dot d e) refl
@@ -65,3 +60,6 @@ one_end d e = by_test (same_end d e) refl
     by_test true t = inl (same_is d e t)
     by_test false t =
         inr (λ (same : d ≡ e). let is : same_end d e ≡ true = subst (λ (x : End). same_end d x ≡ true) same (same_itself d) in cc (t, is))
+
+pub once_at_most : (d e : Dot) → once d e ≤ 1
+once_at_most d e = one_at_most (same_dot d e)

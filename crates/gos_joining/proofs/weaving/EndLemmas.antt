@@ -1,11 +1,12 @@
 -- The ends that there are are finitely many: a list has them all, and their pairs.
-use Rattle.std.specs.Prelude.{◌≡◌, ℕ, zero, suc, List, [], ◌∷◌, ◌++◌, ◌⊎◌, Option, Some, None, slice_get}
+use Rattle.std.specs.Prelude.{◌≡◌, ℕ, zero, suc, List, [], ◌∷◌, ◌++◌, ◌⊎◌, Some, slice_get}
 use Rattle.std.proofs.Common.{refl, ap, subst, inl, inr}
 use Rattle.std.proofs.lemmas.Option.{none-some}
 use Rattle.gos_model.specs.Typing.{Imported}
 use Rattle.gos_plan.specs.Kinds.{Part, Contact, contacts_of}
-use Rattle.gos_plan.specs.Plans.{End, PartEnd, ImportEnd, ResultEnd, Joint, Plan, contacts_of_part, contacts_of_import, turned_if, contact_at}
-use Rattle.gos_plan.proofs.JointLemmas.{IsIn}
+use Rattle.gos_plan.specs.Plans.{End, PartEnd, ImportEnd, ResultEnd, Joint, Plan, contacts_of_part, contacts_of_import, contact_at}
+use Rattle.gos_plan.proofs.JointLemmas.{IsIn, is_in_front, is_in_behind}
+use Rattle.gos_plan.proofs.ContactLemmas.{turned_some}
 use Rattle.gos_joining.specs.webs.Webs.{joint}
 
 -- an end is one of these
@@ -69,31 +70,18 @@ port_ends c = of_imports ImportEnd c.imports ++ of_contacts ResultEnd (contacts_
 abbrev pub ends_of : Plan → List End
 ends_of c = part_ends c ++ port_ends c
 
-unturned : (o : Option Contact) (k : Contact) → turned_if o ≡ Some k → (l : Contact) × (o ≡ Some l)
-unturned None k at = absurd (none-some k at)
-unturned (Some l) k at = (l, refl)
-
 pub there : (c : Plan) (e : End) (k : Contact) → contact_at c e ≡ Some k → Listed e (ends_of c)
 there c (PartEnd i h) k at = listed_first (PartEnd i h) (part_ends c) (port_ends c) (of_part PartEnd c.parts i h k at)
 there c (ImportEnd i h) k at =
     listed_last (ImportEnd i h) (part_ends c) (port_ends c)
     (listed_first (ImportEnd i h) (of_imports ImportEnd c.imports) (of_contacts ResultEnd (contacts_of c.outcome)) (of_import ImportEnd c.imports i h k at))
 there c (ResultEnd h) k at =
-    let (l, here) = unturned (slice_get (contacts_of c.outcome) h) k at in
+    let (l, here) = turned_some (slice_get (contacts_of c.outcome) h) k at in
     listed_last (ResultEnd h) (part_ends c) (port_ends c)
     (listed_last (ResultEnd h) (of_imports ImportEnd c.imports) (of_contacts ResultEnd (contacts_of c.outcome))
     (of_contact ResultEnd (contacts_of c.outcome) h l here))
 
 -- all pairs
-in_first : (j : Joint) (xs ys : List Joint) → IsIn j xs → IsIn j (xs ++ ys)
-in_first j [] ys h = absurd h
-in_first j (x ∷ xs) ys (inl is) = inl is
-in_first j (x ∷ xs) ys (inr later) = inr (in_first j xs ys later)
-
-in_last : (j : Joint) (xs ys : List Joint) → IsIn j ys → IsIn j (xs ++ ys)
-in_last j [] ys h = h
-in_last j (x ∷ xs) ys h = inr (in_last j xs ys h)
-
 abbrev with_each : End → List End → List Joint
 with_each a [] = []
 with_each a (b ∷ bs) = joint a b ∷ with_each a bs
@@ -110,6 +98,6 @@ with_one a b (x ∷ bs) (inr later) = inr (with_one a b bs later)
 pub pair : (a b : End) (xs bs : List End) → Listed a xs → Listed b bs → IsIn (joint a b) (pairs xs bs)
 pair a b [] bs h other = absurd h
 pair a b (x ∷ xs) bs (inl is) other =
-    in_first (joint a b) (with_each x bs) (pairs xs bs)
+    is_in_front (joint a b) (with_each x bs) (pairs xs bs)
     (subst (λ (y : End). IsIn (joint a b) (with_each y bs)) is (with_one a b bs other))
-pair a b (x ∷ xs) bs (inr later) other = in_last (joint a b) (with_each x bs) (pairs xs bs) (pair a b xs bs later other)
+pair a b (x ∷ xs) bs (inr later) other = is_in_behind (joint a b) (with_each x bs) (pairs xs bs) (pair a b xs bs later other)

@@ -4,19 +4,12 @@ use Rattle.std.proofs.Common.{refl, sym, ◌∙◌, ap, subst, arith, inl, inr}
 use Rattle.std.proofs.lemmas.Option.{same_Some}
 use Rattle.gos_types.specs.declared.shakes.Role.{Role}
 use Rattle.gos_types.specs.declared.shakes.Role.TheVariants.{Serve, Ask}
-use Rattle.gos_types.specs.Handshakes.{turned}
 use Rattle.gos_plan.specs.Kinds.{Contact, asks, serves, turned_contact}
 use Rattle.gos_plan.specs.Plans.{End, PartEnd, ImportEnd, ResultEnd, Plan, contact_at}
 use Rattle.gos_plan.specs.SmallPlans.{skip_plan}
+use Rattle.gos_plan.proofs.ContactLemmas.{turned_contact_twice}
 use Rattle.gos_joining.specs.webs.Webs.{Dot, Of, Number, Node, Within, Tie, tie, Meet, Way, here, along, Web}
 use Rattle.gos_joining.specs.weaving.Flows.{Flow, tie_in, Leaves, AreFair, FairFits, asked, AskedIsFair, AskingIsUnfair}
-
-turned_back : (r : Role) → turned (turned r) ≡ r
-turned_back Serve = refl
-turned_back Ask = refl
-
-twice_turned : (c : Contact) → turned_contact (turned_contact c) ≡ c
-twice_turned c = λ i. record c { role = turned_back c.role i }
 
 -- two roles are one or not
 data Alike (r s : Role) : Type 0 where
@@ -32,7 +25,7 @@ role_cases Ask Ask = same refl
 leaves_back : (fs : List Flow) (q x : Dot) (c : Contact) → Leaves fs q x c → Leaves fs x q (turned_contact c)
 leaves_back fs q x c (f, has, inl (a, b, e)) = (f, has, inr (b, a, ap turned_contact e))
 leaves_back fs q x c (f, has, inr (a, b, e)) =
-    (f, has, inl (b, a, sym (twice_turned f.contact) ∙ ap turned_contact e))
+    (f, has, inl (b, a, sym (turned_contact_twice f.contact) ∙ ap turned_contact e))
 
 flow_in : (fs : List Flow) (t : Tie) → Contains (map tie_in fs) t → (f : Flow) × Contains fs f × (tie_in f ≡ t)
 flow_in [] t (n, small, e) = absurd (omega (arith, small))
@@ -68,7 +61,7 @@ module _ (fs : List Flow) (v : Web) (p : Plan) (fair : AreFair fs v p) (a : End)
       by_role (same e) = inl (fair.once q y (v.at a) (turned_contact d) (turned_contact k) back before e)
       by_role (apart differ) =
           let fits : turned_contact k ≡ turned_contact (turned_contact d) = fair.through q y (v.at a) (turned_contact d) (turned_contact k) back before differ in
-          inr (more y q (first q before) (subst (λ (c : Contact). Leaves fs y q c) (sym (fits ∙ twice_turned d)) next))
+          inr (more y q (first q before) (subst (λ (c : Contact). Leaves fs y q c) (sym (fits ∙ turned_contact_twice d)) next))
   onward x y d (more q z chain before) next = by_role (role_cases (turned_contact d).role (turned_contact k).role)
     where
       back : Leaves fs q y (turned_contact d)
@@ -80,13 +73,13 @@ module _ (fs : List Flow) (v : Web) (p : Plan) (fair : AreFair fs v p) (a : End)
           inr (subst Chain same_dot chain)
       by_role (apart differ) =
           let fits : turned_contact k ≡ turned_contact (turned_contact d) = fair.through q y z (turned_contact d) (turned_contact k) back before differ in
-          inr (more y q (more q z chain before) (subst (λ (c : Contact). Leaves fs y q c) (sym (fits ∙ twice_turned d)) next))
+          inr (more y q (more q z chain before) (subst (λ (c : Contact). Leaves fs y q c) (sym (fits ∙ turned_contact_twice d)) next))
 
   from_end : (x y : Dot) (d : Contact) → x ≡ v.at a → Leaves fs y x d → Reached y
   from_end x y d is next =
       let there : Leaves fs y (v.at a) d = subst (λ (z : Dot). Leaves fs y z d) is next in
       let seen : k ≡ turned_contact d = fair.ends a k (turned_contact d) y at_a (leaves_back fs y (v.at a) d there) in
-      let turned_k : turned_contact k ≡ d = ap turned_contact seen ∙ twice_turned d in
+      let turned_k : turned_contact k ≡ d = ap turned_contact seen ∙ turned_contact_twice d in
       inr (first y (subst (λ (c : Contact). Leaves fs y (v.at a) c) (sym turned_k) there))
 
   step : (x y : Dot) (d : Contact) → Reached x → Leaves fs y x d → Reached y

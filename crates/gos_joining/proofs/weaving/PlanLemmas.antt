@@ -6,19 +6,15 @@ use Rattle.gos_types.specs.declared.shakes.Role.{Role}
 use Rattle.gos_types.specs.declared.shakes.Role.TheVariants.{Serve, Ask}
 use Rattle.gos_plan.specs.Kinds.{Contact, asks, serves, turned_contact}
 use Rattle.gos_plan.specs.Plans.{End, PartEnd, ImportEnd, ResultEnd, Joint, Plan, contact_at, stands_in, is_free, Fits, AreRight}
-use Rattle.gos_plan.proofs.JointLemmas.{IsIn, contained}
+use Rattle.gos_plan.proofs.JointLemmas.{IsIn, contained, which_end}
+use Rattle.gos_plan.proofs.ContactLemmas.{as_asks, serves_is_not_asks}
 use Rattle.gos_joining.specs.webs.Webs.{Web, Way, Connects, WaysFit, joint, IsOfWeb}
-use Rattle.gos_joining.proofs.webs.WebLemmas.{serves_not_asks}
 use Rattle.gos_joining.proofs.webs.MovedLemmas.{listed}
-use Rattle.gos_joining.proofs.webs.CutLemmas.{which_end}
 use Rattle.gos_joining.proofs.webs.WayLemmas.{way_back}
 use Rattle.gos_joining.specs.weaving.Woven.{IsPlain, WebHasPlan}
 use Rattle.gos_joining.proofs.weaving.DotLemmas.{Decided, one_end}
 use Rattle.gos_joining.proofs.weaving.CrossingLemmas.{decided_way}
 use Rattle.gos_joining.proofs.weaving.EndLemmas.{ends_of, there, pairs, pair}
-
-asking : (k : Contact) → k.role ≡ Ask → k ≡ asks k.ask_bits k.answer_bits
-asking k is = ap (λ (r : Role). record { role = r; ask_bits = k.ask_bits; answer_bits = k.answer_bits }) is
 
 serving : (k : Contact) (q v : ℕ) → k.role ≡ Serve → k ≡ asks q v → ⊥
 serving k q v is asked = let h : Serve ≡ Ask = sym is ∙ ap (λ (c : Contact). c.role) asked in cc h
@@ -46,10 +42,10 @@ module _
   when_way : (a b : End) (k l : Contact)
       → contact_at c a ≡ Some k → k.role ≡ Ask → contact_at c b ≡ Some l → Decided (a ≡ b) → Decided (Way v.ties (v.at a) (v.at b)) → Decided (Connects v c a b)
   when_way a b k l at_a asked at_b (inl same) way =
-      inr (λ (con : Connects v c a b). serves_not_asks con.0 con.1 con.0 con.1 (sym con.3 ∙ (ap (contact_at c) (sym same) ∙ con.2)))
+      inr (λ (con : Connects v c a b). serves_is_not_asks con.0 con.1 con.0 con.1 (sym con.3 ∙ (ap (contact_at c) (sym same) ∙ con.2)))
   when_way a b k l at_a asked at_b (inr differ) (inr never) = inr (λ (con : Connects v c a b). never con.4)
   when_way a b k l at_a asked at_b (inr differ) (inl way) =
-      let is = asking k asked in
+      let is = as_asks k asked in
       inl (k.ask_bits, k.answer_bits, at_a ∙ ap Some is, at_b ∙ ap Some (fits a b k l at_a at_b differ way ∙ ap turned_contact is), way)
 
   when_there : (a b : End) (k : Contact) (o : Option Contact) → contact_at c a ≡ Some k → k.role ≡ Ask → contact_at c b ≡ o → Decided (Connects v c a b)
@@ -74,7 +70,7 @@ module _
   Connected j = Connects v c j.asking j.serving
 
   differ : (a b : End) (q w m n : ℕ) → contact_at c a ≡ Some (asks q w) → contact_at c b ≡ Some (serves m n) → a ≡ b → ⊥
-  differ a b q w m n asked served same = serves_not_asks m n q w (sym served ∙ (ap (contact_at c) (sym same) ∙ asked))
+  differ a b q w m n asked served same = serves_is_not_asks m n q w (sym served ∙ (ap (contact_at c) (sym same) ∙ asked))
 
   same_asking : (j k : Joint) → Connected j → Connected k → j.asking ≡ k.asking → j ≡ k
   same_asking j k one other same =

@@ -1,33 +1,27 @@
 -- A Skip by way of a number, and two Skips that one number meets.
-use Rattle.std.specs.Prelude.{◌≡◌, ℕ, ◌+◌, ◌≤◌, Bool, true, false, if◌then◌else◌, [], Some}
+use Rattle.std.specs.Prelude.{◌≡◌, ℕ, ◌+◌, ◌≤◌, [], Some}
 use Rattle.std.proofs.Common.{refl, sym, ap, arith, inl}
 use Rattle.gos_plan.specs.Kinds.{Contact, asks, serves}
 use Rattle.gos_plan.specs.Plans.{End, PartEnd, ImportEnd, ResultEnd, Joint, contact_at}
 use Rattle.gos_plan.specs.SmallPlans.{skip_plan}
 use Rattle.gos_plan.proofs.JointLemmas.{one_joint, contained}
 use Rattle.gos_joining.specs.webs.Webs.{Dot, Of, Number, Node, Within, Way, here, along, joint}
-use Rattle.gos_joining.specs.weaving.Woven.{same_dot, once, meetings}
+use Rattle.gos_joining.specs.weaving.Woven.{meetings}
 use Rattle.gos_joining.specs.weaving.SmallWoven.{numbered_web, forked_web, two_skips, NumberedIsThin, NumberedIsPlain, ForkedIsNotThin, ForkedIsNotPlain, ForkedHasNoPlan}
 use Rattle.gos_joining.proofs.weaving.ThinLemmas.{thin_is_plain}
-
-at_most : (b : Bool) → (if b then 1 else 0) ≤ 1
-at_most true = omega arith
-at_most false = omega arith
-
-once_few : (d e : Dot) → once d e ≤ 1
-once_few d e = at_most (same_dot d e)
+use Rattle.gos_joining.proofs.weaving.DotLemmas.{once_at_most}
 
 few : (d : Dot) → meetings d numbered_web.ties ≤ 2
 few (Of e) =
-    let first = once_few (Of e) (Of (ResultEnd 0)) in let last = once_few (Of e) (Of (PartEnd 0 0)) in omega (arith, first, last)
-few (Number n h) = let one = once_few (Number n h) (Number 0 0) in omega (arith, one)
+    let first = once_at_most (Of e) (Of (ResultEnd 0)) in let last = once_at_most (Of e) (Of (PartEnd 0 0)) in omega (arith, first, last)
+few (Number n h) = let one = once_at_most (Number n h) (Number 0 0) in omega (arith, one)
 few (Node n h) = omega arith
 few (Within k d) = omega arith
 
 at_ends : (e : End) (k : Contact) → contact_at skip_plan e ≡ Some k → meetings (Of e) numbered_web.ties ≤ 1
-at_ends (PartEnd i h) k at = let one = once_few (Of (PartEnd i h)) (Of (PartEnd 0 0)) in omega (arith, one)
+at_ends (PartEnd i h) k at = let one = once_at_most (Of (PartEnd i h)) (Of (PartEnd 0 0)) in omega (arith, one)
 at_ends (ImportEnd i h) k at = omega arith
-at_ends (ResultEnd h) k at = let one = once_few (Of (ResultEnd h)) (Of (ResultEnd 0)) in omega (arith, one)
+at_ends (ResultEnd h) k at = let one = once_at_most (Of (ResultEnd h)) (Of (ResultEnd 0)) in omega (arith, one)
 
 abbrev end_in : Dot → End
 end_in (Of e) = e

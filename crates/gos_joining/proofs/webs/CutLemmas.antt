@@ -7,20 +7,23 @@ use Rattle.std.proofs.Common.{◌≡◌, ℕ, suc, Bool, true, false, List, [], 
 use Rattle.std.proofs.lemmas.Option.{slice_get_within, slice_get-get_or}
 use Rattle.gos_types.specs.declared.shakes.Role.{Role}
 use Rattle.gos_types.specs.declared.shakes.Role.TheVariants.{Serve, Ask}
-use Rattle.gos_types.specs.Events.{Direction, Request, Answer}
+use Rattle.gos_types.specs.Events.{Direction}
+use Rattle.gos_types.proofs.BoolLemmas.{same_tests}
 use Rattle.gos_plan.specs.Kinds.{Part, Skip, Lit, Seq, Par, If, While, Op, Not, Assign, Deref, Local, Share, Contact, contacts_of, part_contacts}
 use Rattle.gos_plan.specs.Firing.{Phase, Rest, First, Second, Both, LeftOnly, RightOnly, Test, Branch, Body, Left, Right, Waiting, Value, Writing, Active, State, Slot, Token, Row, at, shared_rows, share_rows, rows, firing}
 use Rattle.gos_plan.specs.Plans.{End, PartEnd, ImportEnd, ResultEnd, Joint, Plan, IsRight, contacts_of_part, contact_at, same_end, stands_in}
 use Rattle.gos_plan.specs.Tokens.{Tokens, Element, Fire, Out, In, IsPortEnd, places_of, same_way, with_place, with_state, held_at, with_held, token_at, with_token, with_puts, end_of, way_of, shake_of, way_taken, way_put, bits_of, fired, firing_of, Passes, Does, Runs}
 use Rattle.gos_plan.specs.TokenBits.{LiteralFits, TokensFit, AllFit}
-use Rattle.gos_plan.proofs.JointLemmas.{IsIn, same_itself, same_is, found, has_place, one_joint, stands_there, joined, contained}
+use Rattle.gos_plan.proofs.JointLemmas.{IsIn, same_itself, same_is, found, has_place, one_joint, stands_there, joined, contained, asking_stands, serving_stands, which_end}
 use Rattle.gos_plan.proofs.AskingLemmas.{RoleIs, PutsInRole, each_append, row_roles}
 use Rattle.gos_plan.proofs.RowLemmas.{EachRow, row_with, role_taking, role_putting}
 use Rattle.gos_plan.proofs.TurnLemmas.{way_to_take, way_to_put}
-use Rattle.gos_plan.proofs.TokenBitsLemmas.{all_stay_fit}
+use Rattle.gos_plan.proofs.TokenBitsLemmas.{all_stay_fit, same_way_itself}
+use Rattle.gos_plan.proofs.ElementLemmas.{firing_part, runs_then}
+use Rattle.gos_plan.proofs.ContactLemmas.{part_is_there}
 use Rattle.gos_joining.specs.webs.Webs.{joint}
 use Rattle.gos_joining.specs.webs.Cutting.{Cut, lies_at, IsInside, IsOutside, StandsIn, IsCut, asks_in, cut_tokens, out_if, in_if, ins_of, outside_firing, firing_in, cut_element, ElementIsCut, ListIsCut}
-use Rattle.gos_joining.proofs.webs.MovedLemmas.{listed, same_bool}
+use Rattle.gos_joining.proofs.webs.MovedLemmas.{listed}
 
 -- the end of the region that an end of the whole is, if it is one
 abbrev pub name_by : Cut → ℕ → ℕ → Option ℕ → Option End
@@ -56,7 +59,7 @@ one_end f r c is d e own also same =
     let both : Some d ≡ Some e = sym (own_name f r c is d own) ∙ (ap (name_of f) same ∙ own_name f r c is e also) in cc both
 
 pub same_lies : (f : Cut) (r c : Plan) → IsCut f r c → (d e : End) → Owns c d → Owns c e → same_end (lies_at f d) (lies_at f e) ≡ same_end d e
-same_lies f r c is d e own also = same_bool (same_end (lies_at f d) (lies_at f e)) (same_end d e) to from
+same_lies f r c is d e own also = same_tests (same_end (lies_at f d) (lies_at f e)) (same_end d e) to from
   where
     to : same_end (lies_at f d) (lies_at f e) ≡ true → same_end d e ≡ true
     to h =
@@ -65,14 +68,10 @@ same_lies f r c is d e own also = same_bool (same_end (lies_at f d) (lies_at f e
     from : same_end d e ≡ true → same_end (lies_at f d) (lies_at f e) ≡ true
     from h = subst (λ (x : End). same_end (lies_at f d) (lies_at f x) ≡ true) (same_is d e h) (same_itself (lies_at f d))
 
-pub part_at : (o : Option Part) (h : ℕ) (k : Contact) → slice_get (contacts_of_part o) h ≡ Some k → (p : Part) × (o ≡ Some p)
-part_at None h k e = absurd (cc e)
-part_at (Some p) h k e = (p, refl)
-
 pub stands_own : (c : Plan) (j : Joint) (e : End) → IsRight c → IsIn j c.joints → stands_in e j ≡ true → Owns c e
 stands_own c j (PartEnd i h) right is_in stands =
     let one = joined c (PartEnd i h) j.asking right (stands_there c j (PartEnd i h) right is_in stands) in
-    part_at (slice_get c.parts i) h one.here one.is_here
+    part_is_there (slice_get c.parts i) h one.here one.is_here
 stands_own c j (ImportEnd i h) right is_in stands = (j, listed c.joints j is_in, stands)
 stands_own c j (ResultEnd h) right is_in stands = (j, listed c.joints j is_in, stands)
 
@@ -100,22 +99,9 @@ or_then : (a b : Bool) → b ≡ true → (if a then true else b) ≡ true
 or_then true b h = refl
 or_then false b h = h
 
-pub which_end : (e : End) (j : Joint) → stands_in e j ≡ true → (e ≡ j.asking) ⊎ (e ≡ j.serving)
-which_end e j stands = by_test (same_end e j.asking) refl
-  where
-    by_test : (b : Bool) → same_end e j.asking ≡ b → (e ≡ j.asking) ⊎ (e ≡ j.serving)
-    by_test true t = inl (same_is e j.asking t)
-    by_test false t = let s : same_end e j.serving ≡ true = grind (arith, stands, t) in inr (same_is e j.serving s)
-
-pub first_stands : (j : Joint) → stands_in j.asking j ≡ true
-first_stands j = let same = same_itself j.asking in grind (arith, same)
-
-pub last_stands : (j : Joint) → stands_in j.serving j ≡ true
-last_stands j = let same = same_itself j.serving in grind (arith, same)
-
 pub stands_by : (e : End) (j : Joint) → (e ≡ j.asking) ⊎ (e ≡ j.serving) → stands_in e j ≡ true
-stands_by e j (inl is) = subst (λ (x : End). stands_in x j ≡ true) (sym is) (first_stands j)
-stands_by e j (inr is) = subst (λ (x : End). stands_in x j ≡ true) (sym is) (last_stands j)
+stands_by e j (inl is) = subst (λ (x : End). stands_in x j ≡ true) (sym is) (asking_stands j)
+stands_by e j (inr is) = subst (λ (x : End). stands_in x j ≡ true) (sym is) (serving_stands j)
 
 pub asks_there : (js : List Joint) (j : Joint) → IsIn j js → asks_in js j.asking ≡ true
 asks_there [] j h = absurd h
@@ -178,9 +164,9 @@ no_place f r c is (PartEnd i h) (k, there) none = by_place (places_of r (PartEnd
     back : (j d : Joint) → (PartEnd (f.part i) h ≡ j.asking) ⊎ (PartEnd (f.part i) h ≡ j.serving) → IsIn d c.joints
         → lies_at f d.asking ≡ j.asking → lies_at f d.serving ≡ j.serving → (PartEnd i h ≡ d.asking) ⊎ (PartEnd i h ≡ d.serving)
     back j d (inl one) is_in first last =
-        inl (one_end f r c is (PartEnd i h) d.asking (k, there) (stands_own c d d.asking is.right is_in (first_stands d)) (one ∙ sym first))
+        inl (one_end f r c is (PartEnd i h) d.asking (k, there) (stands_own c d d.asking is.right is_in (asking_stands d)) (one ∙ sym first))
     back j d (inr one) is_in first last =
-        inr (one_end f r c is (PartEnd i h) d.serving (k, there) (stands_own c d d.serving is.right is_in (last_stands d)) (one ∙ sym last))
+        inr (one_end f r c is (PartEnd i h) d.serving (k, there) (stands_own c d d.serving is.right is_in (serving_stands d)) (one ∙ sym last))
 
     by_place : (o : Option End) → places_of r (PartEnd (f.part i) h) ≡ o → o ≡ None
     by_place None n = refl
@@ -203,7 +189,7 @@ token_cut f r c is e own s way = by_place (places_of c e) refl
         ∙ (ap (λ (b : Bool). if b then s.in_place way (lies_at f a) else None) (asker_asks c e a named)
         ∙ ap (held_at s way) (sym (place_there f r c is e a named)))
 
-filled_so : (w d l q : Bool) (held old : Option ℕ) → (q ≡ true → l ≡ d) → (q ≡ false → d ≡ false)
+pub filled_so : (w d l q : Bool) (held old : Option ℕ) → (q ≡ true → l ≡ d) → (q ≡ false → d ≡ false)
     → (if w && d then held else if q then old else None) ≡ (if q then if w && l then held else old else None)
 filled_so w d l true held old same never = ap (λ (b : Bool). if w && b then held else old) (sym (same refl))
 filled_so true d l false held old same never = ap (λ (b : Bool). if b then held else None) (never refl)
@@ -262,7 +248,7 @@ state_put f r c is j k there q s =
     within = slice_get_within c.parts j k there
 
     apart : (i : ℕ) → nat_lt i (length c.parts) ≡ true → nat_eq (f.part i) (f.part j) ≡ nat_eq i j
-    apart i t = same_bool (nat_eq (f.part i) (f.part j)) (nat_eq i j) to from
+    apart i t = same_tests (nat_eq (f.part i) (f.part j)) (nat_eq i j) to from
       where
         to : nat_eq (f.part i) (f.part j) ≡ true → nat_eq i j ≡ true
         to h =
@@ -341,8 +327,8 @@ place_lost f r c is b x d nameless named asker lies = of_end (which_end b whole 
         let clash : None ≡ Some e = sym nameless ∙ (ap (name_of f) at ∙ own_name f r c is e owns) in cc clash
 
     of_end : (b ≡ lies_at f own.joint.asking) ⊎ (b ≡ lies_at f own.joint.serving) → ⊥
-    of_end (inl at) = no_own own.joint.asking (stands_own c own.joint own.joint.asking is.right own.is_in (first_stands own.joint)) at
-    of_end (inr at) = no_own own.joint.serving (stands_own c own.joint own.joint.serving is.right own.is_in (last_stands own.joint)) at
+    of_end (inl at) = no_own own.joint.asking (stands_own c own.joint own.joint.asking is.right own.is_in (asking_stands own.joint)) at
+    of_end (inr at) = no_own own.joint.serving (stands_own c own.joint own.joint.serving is.right own.is_in (serving_stands own.joint)) at
 
 lost_so : (w l q : Bool) (held old : Option ℕ) → (q ≡ true → l ≡ false) → (if q then if w && l then held else old else None) ≡ (if q then old else None)
 lost_so true l true held old never = ap (λ (b : Bool). if b then held else old) (never refl)
@@ -416,14 +402,10 @@ taken_out f r c is b outside way v s ways held = by_inner (f.inner b) refl
     by_inner None none = token_lost f r c is b (outside ∙ none) way None s
     by_inner (Some e) inner = (cut_tokens f c (with_token r b way None s), passes e inner, refl)
 
-pub same_ways : (way : Direction) → same_way way way ≡ true
-same_ways Request = refl
-same_ways Answer = refl
-
 pub lies_there : (r : Plan) (b x : End) (way : Direction) (v : ℕ) (s : Tokens) → places_of r b ≡ Some x → token_at r (with_token r b way (Some v) s) b way ≡ Some v
 lies_there r b x way v s named =
     subst (λ (o : Option End). held_at (with_held way o (Some v) s) way o ≡ Some v) (sym named)
-    (ap (λ (w : Bool). if w && same_end x x then Some v else s.in_place way x) (same_ways way)
+    (ap (λ (w : Bool). if w && same_end x x then Some v else s.in_place way x) (same_way_itself way)
     ∙ ap (λ (w : Bool). if w then Some v else s.in_place way x) (same_itself x))
 
 pub put_in : (f : Cut) (r c : Plan) → IsCut f r c → (b : End) → name_of f b ≡ f.inner b → (way : Direction) (v : ℕ) (s : Tokens)
@@ -452,11 +434,6 @@ put_in f r c is b outside way v s small = by_inner (f.inner b) refl
     by_inner : (o : Option End) → f.inner b ≡ o → Runs c (in_if o v) (cut_tokens f c s) (cut_tokens f c (with_token r b way (Some v) s))
     by_inner None none = token_lost f r c is b (outside ∙ none) way (Some v) s
     by_inner (Some e) inner = (cut_tokens f c (with_token r b way (Some v) s), passes e inner, refl)
-
--- one list after another
-pub after : (c : Plan) (xs ys : List Element) (s u t : Tokens) → Runs c xs s u → Runs c ys u t → Runs c (xs ++ ys) s t
-after c [] ys s u t first rest = subst (λ (x : Tokens). Runs c ys x t) first rest
-after c (x ∷ xs) ys s u t (w, does, more) rest = (w, does, after c xs ys w u t more rest)
 
 -- A part puts one token at most, or puts only such as have no bits.
 abbrev pub AllZero : List Token → Type 0
@@ -532,7 +509,7 @@ zeros_out : (f : Cut) (r c : Plan) → IsCut f r c → (i : ℕ) (k : Part) → 
     → Runs c (ins_of f i ts) (cut_tokens f c s) (cut_tokens f c (with_puts r i ts s))
 zeros_out f r c is i k there out [] zero roles s = refl
 zeros_out f r c is i k there out (t ∷ ts) zeros roles s =
-    after c (in_if (f.inner (end_of i t.slot)) t.value) (ins_of f i ts) (cut_tokens f c s) (cut_tokens f c now)
+    runs_then c (in_if (f.inner (end_of i t.slot)) t.value) (ins_of f i ts) (cut_tokens f c s) (cut_tokens f c now)
     (cut_tokens f c (with_puts r i ts now))
     (put_one f r c is i k there out t roles.0 s (λ d at_end lies. subst (λ (n : ℕ). n < 2 ^ bits_of d (way_of t.slot)) (sym zeros.0) (pow_pos (bits_of d (way_of t.slot)))))
     (zeros_out f r c is i k there out ts zeros.1 roles.1 now)
@@ -545,7 +522,7 @@ puts_out : (f : Cut) (r c : Plan) → IsCut f r c → (i : ℕ) (k : Part) → s
     → Runs c (ins_of f i ts) (cut_tokens f c s) (cut_tokens f c (with_puts r i ts s))
 puts_out f r c is i k there out [] few roles s fit = refl
 puts_out f r c is i k there out (t ∷ []) few roles s fit =
-    after c (in_if (f.inner (end_of i t.slot)) t.value) [] (cut_tokens f c s) (cut_tokens f c now) (cut_tokens f c now)
+    runs_then c (in_if (f.inner (end_of i t.slot)) t.value) [] (cut_tokens f c s) (cut_tokens f c now) (cut_tokens f c now)
     (put_one f r c is i k there out t roles.0 s (λ d at_end lies. fit (end_of i t.slot) d (way_of t.slot) t.value at_end lies)) refl
   where
     now : Tokens
@@ -553,22 +530,18 @@ puts_out f r c is i k there out (t ∷ []) few roles s fit =
 puts_out f r c is i k there out (t ∷ u ∷ ts) few roles s fit = zeros_out f r c is i k there out (t ∷ u ∷ ts) few roles s
 
 -- a firing outside
-pub part_there : (o : Option Part) (q : State) (t : Slot) (row : Row) → firing_of o q t ≡ Some row → (k : Part) × (o ≡ Some k)
-part_there None q t row e = absurd (cc e)
-part_there (Some k) q t row e = (k, refl)
-
 fire_outside : (f : Cut) (r c : Plan) → IsCut f r c → All LiteralFits r.parts → (i : ℕ) → f.number i ≡ None → (slot : Slot) (v : ℕ) (row : Row) (s : Tokens)
     → AllFit r s → token_at r s (end_of i slot) (way_of slot) ≡ Some v → firing_of (slice_get r.parts i) (s.state i) slot ≡ Some row
     → Runs c (out_if (f.inner (end_of i slot)) v ++ ins_of f i (row.puts v)) (cut_tokens f c s) (cut_tokens f c (fired r i row v s))
 fire_outside f r c is literals i out slot v row s fit held by =
-    after c (out_if (f.inner (end_of i slot)) v) (ins_of f i (row.puts v)) (cut_tokens f c s) (cut_tokens f c taken) (cut_tokens f c (fired r i row v s))
+    runs_then c (out_if (f.inner (end_of i slot)) v) (ins_of f i (row.puts v)) (cut_tokens f c s) (cut_tokens f c taken) (cut_tokens f c (fired r i row v s))
     (taken_out f r c is (end_of i slot) (outside_name f (end_of i slot) out) (way_of slot) v s ways held)
     (subst (λ (x : Tokens). Runs c (ins_of f i (row.puts v)) x (cut_tokens f c (fired r i row v s))) same
     (puts_out f r c is i k there out (row.puts v) (puts_few k (s.state i) slot row v fires) roles.1.1
     (with_state i (row.next v) (with_token r (end_of i row.takes) (way_of row.takes) None s)) fit_now))
   where
     part : (k : Part) × (slice_get r.parts i ≡ Some k)
-    part = part_there (slice_get r.parts i) (s.state i) slot row by
+    part = firing_part (slice_get r.parts i) (s.state i) slot row by
 
     k : Part
     k = part.0
@@ -649,5 +622,5 @@ list_is_cut f r c (x ∷ xs) ys s t is literals fit (u, does, runs) made =
     let rest = made u does in
     let fit_now = all_stay_fit r (x ∷ []) s u is.whole_right literals fit (u, does, refl) in
     subst (λ (zs : List Element). Runs c zs (cut_tokens f c s) (cut_tokens f c t)) (sym rest.1)
-    (after c (cut_element f r x s) rest.0 (cut_tokens f c s) (cut_tokens f c u) (cut_tokens f c t)
+    (runs_then c (cut_element f r x s) rest.0 (cut_tokens f c s) (cut_tokens f c u) (cut_tokens f c t)
     (element_is_cut f r c x s u is literals fit does) (list_is_cut f r c xs rest.0 u t is literals fit_now runs rest.2))

@@ -1,7 +1,8 @@
 -- Elements and lists of a renumbered plan.
 use Rattle.std.specs.Prelude.{None, ◌&&◌, slice_get, nat_eq}
-use Rattle.std.proofs.Common.{◌≡◌, ℕ, Bool, true, false, List, [], ◌∷◌, Option, Some, refl, sym, ◌∙◌, ap, subst, arith, if◌then◌else◌}
+use Rattle.std.proofs.Common.{◌≡◌, ℕ, true, List, [], ◌∷◌, Option, Some, refl, sym, ◌∙◌, ap, subst, arith, if◌then◌else◌}
 use Rattle.gos_types.specs.Events.{Direction}
+use Rattle.gos_types.proofs.BoolLemmas.{same_tests}
 use Rattle.gos_plan.specs.Kinds.{Contact, contacts_of}
 use Rattle.gos_plan.specs.Firing.{State, Token, Row}
 use Rattle.gos_plan.specs.Plans.{End, PartEnd, ImportEnd, ResultEnd, Joint, Plan, contact_at, contacts_of_part, contacts_of_import, turned_if, same_end, stands_in}
@@ -12,12 +13,6 @@ use Rattle.gos_joining.specs.webs.Webs.{joint}
 use Rattle.gos_joining.specs.webs.Renumbering.{Renumber, IsOneToOne, IsRenumbered, back, moved_end, moved, moved_tokens, DoesIsMoved, RunsIsMoved, QuietIsMoved}
 use Rattle.gos_joining.proofs.webs.IdleLemmas.{there_and_back, renumbered_back}
 
-pub same_bool : (b c : Bool) → (b ≡ true → c ≡ true) → (c ≡ true → b ≡ true) → b ≡ c
-same_bool true true h k = refl
-same_bool true false h k = sym (h refl)
-same_bool false true h k = k refl
-same_bool false false h k = refl
-
 pub turned : (f : Renumber) → IsOneToOne f → IsOneToOne (back f)
 turned f one = record { parts = one.parts_back; parts_back = one.parts; imports = one.imports_back; imports_back = one.imports }
 
@@ -25,7 +20,7 @@ pub back_and_there : (f : Renumber) → IsOneToOne f → (e : End) → moved_end
 back_and_there f one e = there_and_back (back f) (turned f one) e
 
 pub same_moved : (f : Renumber) → IsOneToOne f → (d a : End) → same_end d (moved_end f a) ≡ same_end (moved_end (back f) d) a
-same_moved f one d a = same_bool (same_end d (moved_end f a)) (same_end (moved_end (back f) d) a) to from
+same_moved f one d a = same_tests (same_end d (moved_end f a)) (same_end (moved_end (back f) d) a) to from
   where
     to : same_end d (moved_end f a) ≡ true → same_end (moved_end (back f) d) a ≡ true
     to h =
@@ -41,7 +36,7 @@ pub both_moved : (f : Renumber) → IsOneToOne f → (d a : End) → same_end (m
 both_moved f one d a = same_moved f one (moved_end f d) a ∙ ap (λ x. same_end x a) (back_and_there f one d)
 
 number_moved : (f : Renumber) → IsOneToOne f → (j i : ℕ) → nat_eq j (f.part i) ≡ nat_eq (f.part_back j) i
-number_moved f one j i = same_bool (nat_eq j (f.part i)) (nat_eq (f.part_back j) i) to from
+number_moved f one j i = same_tests (nat_eq j (f.part i)) (nat_eq (f.part_back j) i) to from
   where
     to : nat_eq j (f.part i) ≡ true → nat_eq (f.part_back j) i ≡ true
     to h =

@@ -4,12 +4,14 @@ use Rattle.std.proofs.Common.{refl, ap, subst, arith, inl, inr}
 use Rattle.std.proofs.lemmas.Option.{none-some, same_Some}
 use Rattle.gos_types.specs.Events.{Request}
 use Rattle.gos_types.specs.Types.{Com}
+use Rattle.gos_types.proofs.ListLemmas.{none_in_empty}
 use Rattle.gos_plan.specs.Kinds.{Skip}
 use Rattle.gos_plan.specs.Firing.{Rest, First, Second, Req, Ans, Row, row, at, put}
 use Rattle.gos_plan.specs.Plans.{End, PartEnd, ImportEnd, ResultEnd, Joint, IsRight}
 use Rattle.gos_plan.specs.Tokens.{Tokens, Fire, Out, In, IsPortEnd, with_token, fired}
 use Rattle.gos_plan.specs.SmallPlans.{skip_plan, at_first, once}
 use Rattle.gos_plan.proofs.DecidedLemmas.{one_state}
+use Rattle.gos_plan.proofs.SmallPlanLemmas.{skip_is_right}
 use Rattle.gos_joining.specs.webs.Webs.{joint, Of, here, along}
 use Rattle.gos_joining.specs.webs.Renumbering.{IsOneToOne, moved_end}
 use Rattle.gos_joining.specs.webs.Cutting.{StandsIn, IsCutList}
@@ -17,12 +19,9 @@ use Rattle.gos_joining.specs.webs.SmallWebs.{twice_plan, UnjoinedIsNot, swapped,
 use Rattle.gos_joining.proofs.webs.IdleLemmas.{there_and_back}
 use Rattle.gos_joining.proofs.webs.LoneCutLemmas.{AreOutside, lone_port, lone_is_cut}
 
-none_in : (j : Joint) → Contains [] j → ⊥
-none_in j (n, within, e) = omega (arith, within)
-
 pub unjoined_is_not : UnjoinedIsNot
 unjoined_is_not is =
-    none_in (joint (ResultEnd 0) (PartEnd 0 2))
+    none_in_empty (joint (ResultEnd 0) (PartEnd 0 2))
     ((is.joints (ResultEnd 0) (PartEnd 0 2)).1
     (0, 0, refl, refl, along (Of (ResultEnd 0)) (Of (PartEnd 0 2)) (Of (PartEnd 0 2)) (inl (0, omega arith, refl)) (here (Of (PartEnd 0 2)))))
 
@@ -96,9 +95,6 @@ pub swap_is_seen : SwapIsSeen
 swap_is_seen is = not_second ((is.joints (PartEnd 0 0) (PartEnd 1 0)).0 (1, omega arith, refl))
 
 -- the first Skip
-pub skip_is_right : IsRight skip_plan
-skip_is_right = (((0, 0, refl, refl), refl, refl), tt)
-
 abbrev pub skip_joint : Joint
 skip_joint = joint (ResultEnd 0) (PartEnd 0 0)
 

@@ -2,10 +2,10 @@
 use Rattle.std.specs.Prelude.{◌↔◌, ◌≢◌, map}
 use Rattle.std.proofs.lemmas.Option.{same_Some}
 use Rattle.std.proofs.Common.{◌≡◌, ℕ, zero, suc, true, List, [], ◌∷◌, ◌⊎◌, Some, Contains, inl, inr, refl, sym, ◌∙◌, ap, subst, arith}
-use Rattle.gos_types.specs.declared.shakes.Role.TheVariants.{Serve, Ask}
 use Rattle.gos_plan.specs.Kinds.{Contact, asks, serves, turned_contact}
 use Rattle.gos_plan.specs.Plans.{End, ResultEnd, Joint, Plan, contact_at, stands_in, IsRight}
 use Rattle.gos_plan.proofs.JointLemmas.{IsIn, same_itself, fits, one_joint, contained, listed}
+use Rattle.gos_plan.proofs.ContactLemmas.{serves_is_not_asks}
 use Rattle.gos_joining.specs.webs.Webs.{Dot, Of, Number, Node, Within, Tie, tie, Web, Way, here, along, Connects, joint, own_web, SameWays, SameWaysSamePlan, RightIsOfItsWeb}
 
 connects : (w v : Web) (p : Plan) (a b : End) → SameWays w v p → Connects w p a b → Connects v p a b
@@ -50,16 +50,12 @@ end_in (Within k d) = ResultEnd 0
 abbrev Near : Plan → End → End → Type 0
 Near p a b = (a ≡ b) ⊎ IsIn (joint a b) p.joints ⊎ IsIn (joint b a) p.joints
 
--- who serves doesn't ask
-pub serves_not_asks : (q v k w : ℕ) → Some (serves q v) ≡ Some (asks k w) → ⊥
-serves_not_asks q v k w e = let roles : Serve ≡ Ask = ap (λ (c : Contact). c.role) (same_Some (serves q v) (asks k w) e) in cc roles
-
 -- no end asks in one joint and serves in one
 pub not_both : (p : Plan) (a e b : End) → IsRight p → IsIn (joint a e) p.joints → IsIn (joint e b) p.joints → ⊥
 not_both p a e b right one other =
     let f = fits p [] p.joints (joint a e) right one in
     let g = fits p [] p.joints (joint e b) right other in
-    serves_not_asks f.0 f.1 g.0 g.1 (sym f.3 ∙ g.2)
+    serves_is_not_asks f.0 f.1 g.0 g.1 (sym f.3 ∙ g.2)
 
 pub asks_there : (e a : End) → stands_in e (joint e a) ≡ true
 asks_there e a = let h = same_itself e in grind (arith, h)
@@ -90,23 +86,20 @@ near p x y right (along d c z (inr meets) way) a b at_a at_b =
     further p a found.0.asking b right (inr (subst (λ (e : End). IsIn (joint found.0.asking e) p.joints) served found.1))
     (near p c z right way found.0.asking b (sym (ap (λ (t : Tie). t.one) found.2)) at_b)
 
-some_is : (c d : Contact) → Some c ≡ Some d → c ≡ d
-some_is c d e = cc e
-
 own_fits : (p : Plan) → IsRight p → (a b : End) (c d : Contact) → contact_at p a ≡ Some c → contact_at p b ≡ Some d → a ≢ b → Near p a b → d ≡ turned_contact c
 own_fits p right a b c d at_a at_b differ (inl same) = absurd (differ same)
 own_fits p right a b c d at_a at_b differ (inr (inl h)) =
     let f = fits p [] p.joints (joint a b) right h in
-    some_is d (serves f.0 f.1) (sym at_b ∙ f.3) ∙ ap turned_contact (some_is (asks f.0 f.1) c (sym f.2 ∙ at_a))
+    same_Some d (serves f.0 f.1) (sym at_b ∙ f.3) ∙ ap turned_contact (same_Some (asks f.0 f.1) c (sym f.2 ∙ at_a))
 own_fits p right a b c d at_a at_b differ (inr (inr h)) =
     let f = fits p [] p.joints (joint b a) right h in
-    some_is d (asks f.0 f.1) (sym at_b ∙ f.2) ∙ ap turned_contact (some_is (serves f.0 f.1) c (sym f.3 ∙ at_a))
+    same_Some d (asks f.0 f.1) (sym at_b ∙ f.2) ∙ ap turned_contact (same_Some (serves f.0 f.1) c (sym f.3 ∙ at_a))
 
 own_joint : (p : Plan) → IsRight p → (a b : End) (q v : ℕ) → contact_at p a ≡ Some (asks q v) → contact_at p b ≡ Some (serves q v) → Near p a b → IsIn (joint a b) p.joints
-own_joint p right a b q v at_a at_b (inl same) = absurd (serves_not_asks q v q v (sym at_b ∙ (ap (contact_at p) (sym same) ∙ at_a)))
+own_joint p right a b q v at_a at_b (inl same) = absurd (serves_is_not_asks q v q v (sym at_b ∙ (ap (contact_at p) (sym same) ∙ at_a)))
 own_joint p right a b q v at_a at_b (inr (inl h)) = h
 own_joint p right a b q v at_a at_b (inr (inr h)) =
-    let f = fits p [] p.joints (joint b a) right h in absurd (serves_not_asks f.0 f.1 q v (sym f.3 ∙ at_a))
+    let f = fits p [] p.joints (joint b a) right h in absurd (serves_is_not_asks f.0 f.1 q v (sym f.3 ∙ at_a))
 
 pub right_is_of_its_web : RightIsOfItsWeb
 right_is_of_its_web p right =

@@ -11,6 +11,7 @@ use Rattle.gos_plan.specs.Seen.{SeenPlan}
 use Rattle.gos_plan.specs.Size.{shakes_of, plan_size}
 use Rattle.gos_plan.specs.Joining.{Link, left_among, all_parts, all_weight, IsJoining}
 use Rattle.gos_realises.specs.realises.Slim.{all_shakes, IsSlim}
+use Rattle.gos_realises.proofs.realises.CountLemmas.{shakes-append}
 use Rattle.gos_link.specs.declared.build.Bind.{Bind}
 use Rattle.gos_link.specs.declared.build.Build.{Build}
 use Rattle.gos_link.specs.declared.build.Instance.{Instance}
@@ -27,10 +28,6 @@ use Rattle.gos_linked.specs.fits.Fits.{AreSlim, LinkedIsSlim, SlimIsNeverTooLarg
 same_shakes : (ks : List Part) → shakes_of ks ≡ all_shakes ks
 same_shakes [] = refl
 same_shakes (k ∷ ks) = let rest = same_shakes ks in omega (arith, rest)
-
-shakes-append : (ks ls : List Part) → all_shakes (ks ++ ls) ≡ all_shakes ks + all_shakes ls
-shakes-append [] ls = omega arith
-shakes-append (k ∷ ks) ls = let rest = shakes-append ks ls in omega (arith, rest)
 
 -- what slim plans have together is little for their weight
 record AreFew (ps : List Plan) : Type 0 where

@@ -5,7 +5,8 @@ use Rattle.std.proofs.Common.{◌≡◌, List, [], ◌∷◌, ◌++◌, length, 
 use Rattle.gos_netlist.specs.Nets.{Netlist}
 use Rattle.gos_netlist.specs.Settling.{Numbers}
 use Rattle.gos_model.specs.Labels.{Label}
-use Rattle.gos_model.specs.Moves.{Program, Config, Act, Computing, Showing, Moves, labels}
+use Rattle.gos_model.specs.Moves.{Program, Config, Act, Moves, labels}
+use Rattle.gos_model.proofs.MoveLemmas.{labels_then, moves_then}
 use Rattle.gos_pace.specs.Flattening.{outputs, inputs, AnyOrder, Flattening, flat}
 use Rattle.gos_pace.specs.Pace.{Turn, Follows}
 use Rattle.gos_plan.specs.Plans.{Plan}
@@ -13,19 +14,11 @@ use Rattle.gos_plan.specs.Tokens.{Tokens, Element, Runs}
 use Rattle.gos_plan.specs.Orderly.{IsOrderly}
 use Rattle.gos_pace.specs.Cycles.{cycle_list, MakesCycles}
 use Rattle.gos_plan.specs.Made.{fires_of, Made}
+use Rattle.gos_plan.proofs.ElementLemmas.{runs_then}
 use Rattle.gos_realises.specs.realises.Matched.{all_shown, GoesOn, Agrees, IsMatched}
 use Rattle.gos_realises.specs.quiet.Quiet.{NoneGoesOn}
-use Rattle.gos_linked.proofs.keeping.ListedLemmas.{runs_append, orderly_first, shown_append, CyclesShown, cycle_shows}
-
--- moves, one list after another
-moves_append : (g : Program) (acts more : List Act) (c d e : Config) → Moves g acts c d → Moves g more d e → Moves g (acts ++ more) c e
-moves_append g [] more c d e h k = subst (λ (x : Config). Moves g more x e) (sym h) k
-moves_append g (a ∷ acts) more c d e h k = (h.0, h.1, moves_append g acts more h.0 d e h.2 k)
-
-labels_append : (acts more : List Act) → labels (acts ++ more) ≡ labels acts ++ labels more
-labels_append [] more = refl
-labels_append (Computing ∷ acts) more = labels_append acts more
-labels_append (Showing o ∷ acts) more = ap (λ (ls : List Label). o ∷ ls) (labels_append acts more)
+use Rattle.gos_realises.proofs.realises.MatchedLemmas.{matched_agrees, shown_then}
+use Rattle.gos_linked.proofs.keeping.ListedLemmas.{orderly_first, CyclesShown, cycle_shows}
 
 -- lists that are empty together
 both_empty : {X : Type 0} (xs ys : List X) → xs ++ ys ≡ [] → (xs ≡ []) × (ys ≡ [])
@@ -65,15 +58,11 @@ cut p g (x ∷ xs) ys s t c h r =
     record {
       acts = here.0 ++ more.acts;
       config = more.config;
-      moves = moves_append g here.0 more.acts c here.1 more.config here.2 more.moves;
-      labelled = labels_append here.0 more.acts ∙ (λ j. here.3 j ++ more.labelled j);
+      moves = moves_then g here.0 more.acts c here.1 more.config here.2 more.moves;
+      labelled = labels_then here.0 more.acts ∙ (λ j. here.3 j ++ more.labelled j);
       still = λ e. (r.0, r.1, subst (GoesOn p s x) (both_empty here.0 more.acts e).0 here.4, more.still (both_empty here.0 more.acts e).1);
       rest = more.rest;
     }
-
-pub agrees : (p : Plan) (g : Program) (xs : List Element) (s : Tokens) (c : Config) → IsMatched p g xs s c → Agrees p g s c
-agrees p g [] s c h = h
-agrees p g (x ∷ xs) s c h = h.0
 
 -- the list of a run with the pulses in the order of a flattening
 abbrev pub ordered : (p : Plan) (net : Netlist) (vs : List Numbers) (parts : List (List Label)) → List Made → Flattening net vs parts → List Element
@@ -89,7 +78,7 @@ runs_ordered p net (v ∷ vs) [] ms s f made = (s, refl)
 runs_ordered p net (v ∷ vs) (part ∷ parts) [] s f made = (s, refl)
 runs_ordered p net (v ∷ vs) (part ∷ parts) (m ∷ ms) s f made =
     let more = runs_ordered p net vs parts ms m.after f.1 made.1 in
-    (more.0, runs_append p (cycle_list p f.0.0 f.0.1 m.firings) (ordered p net vs parts ms f.1) s m.after more.0 (made.0 f.0.0 f.0.1 f.0.2 f.0.3) more.1)
+    (more.0, runs_then p (cycle_list p f.0.0 f.0.1 m.firings) (ordered p net vs parts ms f.1) s m.after more.0 (made.0 f.0.0 f.0.1 f.0.2 f.0.3) more.1)
 
 pub ordered_shows : (p : Plan) (net : Netlist) (vs : List Numbers) (parts : List (List Label)) (ms : List Made) (f : Flattening net vs parts) → CyclesShown p net
     → length ms ≡ length vs → all_shown p (ordered p net vs parts ms f) ≡ flat parts
@@ -98,7 +87,7 @@ ordered_shows p net [] (part ∷ parts) ms f shown long = absurd f
 ordered_shows p net (v ∷ vs) [] ms f shown long = absurd f
 ordered_shows p net (v ∷ vs) (part ∷ parts) [] f shown long = absurd (omega (arith, long))
 ordered_shows p net (v ∷ vs) (part ∷ parts) (m ∷ ms) f shown long =
-    shown_append p (cycle_list p f.0.0 f.0.1 m.firings) (ordered p net vs parts ms f.1)
+    shown_then p (cycle_list p f.0.0 f.0.1 m.firings) (ordered p net vs parts ms f.1)
     ∙ (λ j. (cycle_shows p net v f.0.0 f.0.1 m.firings shown f.0.2 f.0.3 ∙ sym f.0.4) j ++ ordered_shows p net vs parts ms f.1 shown (omega (arith, long)) j)
 
 -- what holds at the beginning of a cycle, where the list up to it is `past`
@@ -154,7 +143,7 @@ turns p g net first (v ∷ vs) (part ∷ parts) (m ∷ ms) past s c f shown long
     let run = made.0 f.0.0 f.0.1 f.0.2 f.0.3 in
     let here = cut p g (cycle_list p f.0.0 f.0.1 m.firings) (ordered p net vs parts ms f.1) s m.after c matched run in
     let more = turns p g net first vs parts ms (past ++ cycle_list p f.0.0 f.0.1 m.firings) m.after here.config f.1 shown (omega (arith, long)) made.1
-    (runs_append p past (cycle_list p f.0.0 f.0.1 m.firings) first s m.after runs run)
+    (runs_then p past (cycle_list p f.0.0 f.0.1 m.firings) first s m.after runs run)
     (subst (λ (xs : List Element). IsOrderly p xs first) (sym (append_assoc past (cycle_list p f.0.0 f.0.1 m.firings) (ordered p net vs parts ms f.1))) orderly)
     here.rest in (
       record { acts = here.acts; config = here.config } ∷ more.0,
@@ -162,7 +151,7 @@ turns p g net first (v ∷ vs) (part ∷ parts) (m ∷ ms) past s c f shown long
       (
         record {
           runs = runs;
-          agree = agrees p g (ordered p net (v ∷ vs) (part ∷ parts) (m ∷ ms) f) s c matched;
+          agree = matched_agrees p g (ordered p net (v ∷ vs) (part ∷ parts) (m ∷ ms) f) s c matched;
           orderly = orderly_first p past (ordered p net (v ∷ vs) (part ∷ parts) (m ∷ ms) f) first orderly;
         },
         cycle_list p f.0.0 f.0.1 m.firings,

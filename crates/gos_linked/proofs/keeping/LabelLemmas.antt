@@ -6,6 +6,7 @@ use Rattle.std.specs.Prelude.{not}
 use Rattle.std.proofs.Common.{◌≡◌, ℕ, zero, suc, ◌+◌, Bool, true, false, List, [], ◌∷◌, ◌++◌, map, filter, Some, None, slice_get, refl, sym, ◌∙◌, ap, subst, arith, if◌then◌else◌, nat_eq}
 use Rattle.gos_types.specs.Types.{Type', Com, Exp, Var, Pair, Fun, IsGround, IsDone}
 use Rattle.gos_types.specs.Events.{Event, Is, events}
+use Rattle.gos_types.proofs.BytesLemmas.{same_bytes_eq}
 use Rattle.gos_netlist.specs.Nets.{NetPort, Netlist}
 use Rattle.gos_netlist.specs.Settling.{Numbers, at}
 use Rattle.gos_model.specs.Typing.{Imported, Imports}
@@ -18,7 +19,7 @@ use Rattle.gos_pace.specs.Cycles.{import_number, out_of, in_of, outs_of, ins_of}
 use Rattle.gos_realises.specs.realises.Matched.{shows, all_shown}
 use Rattle.gos_realises.specs.realises.Realises.{AllGround, NamesDiffer}
 use Rattle.gos_realises.proofs.realises.PlaceLemmas.{contains_at}
-use Rattle.gos_realises.proofs.realises.ToldLemmas.{test_same, test_differ}
+use Rattle.gos_realises.proofs.realises.ToldLemmas.{test_differ}
 use Rattle.gos_linked.specs.keeping.Ports.{AreTaken, HasPorts}
 
 -- a label is what its element shows
@@ -91,7 +92,7 @@ given_shown p (Fun a b) e d = absurd d
 -- an import's port
 number_found : (is : Imports) (n k : ℕ) (i : Imported) → NamesDiffer is → slice_get is k ≡ Some i → import_number n is i.name ≡ n + k
 number_found [] n k i differ there = absurd (grind (arith, there))
-number_found (j ∷ js) n zero i differ there = rw (test_same j.name i.name (ap (λ (x : Imported). x.name) here)) (omega arith)
+number_found (j ∷ js) n zero i differ there = rw (same_bytes_eq j.name i.name (ap (λ (x : Imported). x.name) here)) (omega arith)
   where
     here : j ≡ i
     here = grind (arith, there)

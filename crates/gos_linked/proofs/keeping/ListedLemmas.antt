@@ -9,18 +9,15 @@ use Rattle.gos_pace.specs.Flattening.{outputs, inputs, pulses, AnyOrder, Flatten
 use Rattle.gos_model.specs.Protocol.{KeepsAfter, KeepsProtocol}
 use Rattle.gos_pace.specs.RunProtocol.{taken_by, RunKeeps}
 use Rattle.gos_plan.specs.Plans.{Plan}
-use Rattle.gos_plan.specs.Tokens.{Tokens, Element, Runs, IsIdle}
+use Rattle.gos_plan.specs.Tokens.{Tokens, Element, IsIdle}
 use Rattle.gos_plan.specs.Orderly.{Open, OrderlyFrom, IsOrderly}
 use Rattle.gos_pace.specs.Cycles.{outs_of, ins_of, cycle_list, list_of, IsBroken}
 use Rattle.gos_plan.specs.Made.{PartFiring, fires_of, Made}
-use Rattle.gos_realises.specs.realises.Matched.{shows, all_shown, RealisesDone}
+use Rattle.gos_realises.specs.realises.Matched.{all_shown, RealisesDone}
+use Rattle.gos_realises.proofs.realises.MatchedLemmas.{shown_then}
 use Rattle.gos_linked.proofs.keeping.LabelLemmas.{AllShown, outputs_shown, inputs_shown}
 
 -- a part of a list
-pub runs_append : (p : Plan) (xs ys : List Element) (s t u : Tokens) → Runs p xs s t → Runs p ys t u → Runs p (xs ++ ys) s u
-runs_append p [] ys s t u r q = subst (λ (x : Tokens). Runs p ys x u) r q
-runs_append p (x ∷ xs) ys s t u r q = (r.0, r.1, runs_append p xs ys r.0 t u r.2 q)
-
 orderly_front : (p : Plan) (xs ys : List Element) (o u : Open) (s t : Tokens) → OrderlyFrom p (xs ++ ys) o s u t
     → (m : Open) × (w : Tokens) × OrderlyFrom p xs o s m w
 orderly_front p [] ys o u s t h = (o, s, (refl, refl))
@@ -30,10 +27,6 @@ orderly_front p (x ∷ xs) ys o u s t (m, w, does, comes, welcome, rest) =
 
 pub orderly_first : (p : Plan) (xs ys : List Element) (s : Tokens) → IsOrderly p (xs ++ ys) s → IsOrderly p xs s
 orderly_first p xs ys s (u, t, h) = orderly_front p xs ys _ u s t h
-
-pub shown_append : (p : Plan) (xs ys : List Element) → all_shown p (xs ++ ys) ≡ all_shown p xs ++ all_shown p ys
-shown_append p [] ys = refl
-shown_append p (x ∷ xs) ys = ap (λ (ls : List Label). shows p x ++ ls) (shown_append p xs ys) ∙ sym (append_assoc (shows p x) (all_shown p xs) (all_shown p ys))
 
 fires_show : (p : Plan) (fs : List PartFiring) → all_shown p (fires_of fs) ≡ []
 fires_show p [] = refl
@@ -50,12 +43,12 @@ CyclesShown p net = (v : Numbers) → AllShown p (pulses net.ports v)
 pub cycle_shows : (p : Plan) (net : Netlist) (v : Numbers) (out inp : List Label) (fs : List PartFiring) → CyclesShown p net
     → AnyOrder (outputs net v) out → AnyOrder (inputs net v) inp → all_shown p (cycle_list p out inp fs) ≡ out ++ inp
 cycle_shows p net v out inp fs shown o i =
-    shown_append p (outs_of p out) (ins_of p inp ++ fires_of fs)
+    shown_then p (outs_of p out) (ins_of p inp ++ fires_of fs)
     ∙ (λ j. outputs_shown p net v out (shown v) o j ++ behind j)
   where
     behind : all_shown p (ins_of p inp ++ fires_of fs) ≡ inp
     behind =
-        shown_append p (ins_of p inp) (fires_of fs) ∙ (λ j. inputs_shown p net v inp (shown v) i j ++ fires_show p fs j) ∙ append_nothing inp
+        shown_then p (ins_of p inp) (fires_of fs) ∙ (λ j. inputs_shown p net v inp (shown v) i j ++ fires_show p fs j) ∙ append_nothing inp
 
 -- the pulses of each cycle in the order of events
 pub own_order : (ls : List Label) → AnyOrder ls ls
@@ -87,7 +80,7 @@ up_to p net (w ∷ vs) s (m ∷ ms) v fs shown there =
     let more = up_to p net vs s ms v fs shown there in (
       more.0,
       (λ j. sym here j ++ more.1 j) ∙ sym (append_assoc (all_shown p cycle) (all_shown p behind) more.0)
-          ∙ ap (λ (ls : List Label). ls ++ more.0) (sym (shown_append p cycle behind))
+          ∙ ap (λ (ls : List Label). ls ++ more.0) (sym (shown_then p cycle behind))
           ∙ ap (λ (xs : List Element). all_shown p xs ++ more.0) (sym (append_assoc cycle (list_of p net vs ms) last)),
     )
   where

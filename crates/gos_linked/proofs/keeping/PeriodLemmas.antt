@@ -1,6 +1,7 @@
 -- Cycles without moves: the program stays where it is, and what the parts do grows quiet.
 use Rattle.std.specs.Prelude.{◌≢◌, Contains}
 use Rattle.std.proofs.Common.{◌≡◌, inl, inr, ◌⊎◌, ℕ, zero, suc, ◌+◌, ◌<◌, ◌≤◌, List, [], ◌∷◌, ◌++◌, length, Some, slice_get, refl, sym, ◌∙◌, ap, subst, arith, append_assoc}
+use Rattle.std.proofs.lemmas.List.{append-nil}
 use Rattle.gos_netlist.specs.Nets.{Netlist}
 use Rattle.gos_netlist.specs.Settling.{Numbers}
 use Rattle.gos_model.specs.Moves.{Program, Config, Act, Stalled}
@@ -60,16 +61,12 @@ record Period (p : Plan) (g : Program) (net : Netlist) (first : Tokens) (k : ℕ
   pub silent : (j : ℕ) (v : Numbers) → j < k → slice_get vs j ≡ Some v → outputs net v ≡ []
   pub long : length (until k ms) ≡ k
 
-append_none : {X : Type 0} (xs : List X) → xs ++ [] ≡ xs
-append_none [] = refl
-append_none (x ∷ xs) = λ j. x ∷ append_none xs j
-
 period : (p : Plan) (g : Program) (net : Netlist) (first : Tokens) (k : ℕ) (ms : List Made) (vs : List Numbers) (ts : List Turn) (past : List Element)
     (s : Tokens) (c : Config) → Along p g net first ms vs ts past s c → AreEmpty k ts → Period p g net first k ms vs past s c
 period p g net first zero ms vs ts past s c h empty =
     record {
       fires = tt;
-      orderly = subst (λ (xs : List Element). IsOrderly p xs first) (sym (append_none past)) (here p g net first ms vs ts past s c h).orderly;
+      orderly = subst (λ (xs : List Element). IsOrderly p xs first) (sym (append-nil past)) (here p g net first ms vs ts past s c h).orderly;
       agree = λ j within. let none : j ≡ 0 = omega (arith, within) in
           subst (λ (n : ℕ). Agrees p g (state_after s [] n) c) (sym none) (here p g net first ms vs ts past s c h).agree;
       silent = λ j v within. absurd (omega (arith, within));

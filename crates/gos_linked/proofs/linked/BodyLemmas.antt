@@ -3,8 +3,9 @@ use Rattle.std.specs.Prelude.{◌≡◌, ◌≢◌, ◌<◌, ◌+◌, ◌&&◌, 
 use Rattle.std.specs.Str.{bytes_eq}
 use Rattle.std.proofs.Common.{refl, sym, ◌∙◌, ap, subst, arith, inl, inr, append_assoc}
 use Rattle.std.proofs.lemmas.List.{length-append}
-use Rattle.std.proofs.lemmas.Slice.Eq.{bytes_eq-Decides}
+use Rattle.std.proofs.lemmas.Bool.{eqb-true, eqb-false}
 use Rattle.gos_types.specs.Types.{Type'}
+use Rattle.gos_types.proofs.BytesLemmas.{bytes_eq_itself, bytes_eq_same}
 use Rattle.gos_model.specs.Terms.{Name, Term, Import}
 use Rattle.gos_model.specs.Typing.{Imported, import_type}
 use Rattle.gos_model.specs.Linking.{or_import, supplied, Instances, body_at, giver_of, with_giver, linked}
@@ -14,41 +15,28 @@ use Rattle.gos_realises.proofs.realises.PlaceLemmas.{differ_at}
 use Rattle.gos_link.specs.declared.services.Service.{Service}
 use Rattle.gos_link.specs.Services.{HasService}
 use Rattle.gos_link.specs.Linked.{imports_of}
-use Rattle.gos_joining.proofs.renumbered.ImportLemmas.{name_is}
 use Rattle.gos_supplies.proofs.applications.TermLemmas.{supplied_same}
 use Rattle.gos_supplies.specs.instances.Trees.{first, after, served_by, term_among, Serve, left_of, meaning, names_of, body_of}
 use Rattle.gos_supplies.proofs.instances.TypeLemmas.{or_itself, with_names}
+use Rattle.gos_supplies.proofs.instances.ByLemmas.{first_all, after_all}
+use Rattle.gos_supplies.proofs.instances.BodyLemmas.{names_length}
 use Rattle.gos_linked.specs.linked.Linked.{name_if, binds_of}
-use Rattle.gos_linked.proofs.linked.CountLemmas.{is_same, is_other}
 use Rattle.gos_linked.proofs.linked.ChainLemmas.{IsSound, IsRooted, Below, reached, same_level, giver_low}
 use Rattle.gos_linked.proofs.linked.GrowLemmas.{RealisesTerm, plan_at, service_at, Grown, alone, with_import, grown_from, grow}
 use Rattle.gos_linked.proofs.linked.WholeLemmas.{plan_is, service_found, import_here, next_size, next_imports, grow_grown}
 
--- terms of which the first are these
-first_front : (ts us : List Term) → first (length ts) (ts ++ us) ≡ ts
-first_front [] us = refl
-first_front (t ∷ ts) us = ap (λ (l : List Term). t ∷ l) (first_front ts us)
-
-after_front : (ts us : List Term) → after (length ts) (ts ++ us) ≡ us
-after_front [] us = refl
-after_front (t ∷ ts) us = after_front ts us
-
 served_front : (k j : ℕ) (f g : List Term → Term) (ts us vs : List Term) → length ts ≡ k → length us ≡ j
     → served_by k j f g (ts ++ (us ++ vs)) ≡ f (ts ++ (g vs ∷ us))
 served_front k j f g ts us vs size_t size_u =
-    let rest : after k (ts ++ (us ++ vs)) ≡ us ++ vs = ap (λ (n : ℕ). after n (ts ++ (us ++ vs))) (sym size_t) ∙ after_front ts (us ++ vs) in
-    let front : first k (ts ++ (us ++ vs)) ≡ ts = ap (λ (n : ℕ). first n (ts ++ (us ++ vs))) (sym size_t) ∙ first_front ts (us ++ vs) in
-    let middle : first j (after k (ts ++ (us ++ vs))) ≡ us = (λ i. first (sym size_u i) (rest i)) ∙ first_front us vs in
-    let last : after j (after k (ts ++ (us ++ vs))) ≡ vs = (λ i. after (sym size_u i) (rest i)) ∙ after_front us vs in
+    let rest : after k (ts ++ (us ++ vs)) ≡ us ++ vs = ap (λ (n : ℕ). after n (ts ++ (us ++ vs))) (sym size_t) ∙ after_all ts (us ++ vs) in
+    let front : first k (ts ++ (us ++ vs)) ≡ ts = ap (λ (n : ℕ). first n (ts ++ (us ++ vs))) (sym size_t) ∙ first_all ts (us ++ vs) in
+    let middle : first j (after k (ts ++ (us ++ vs))) ≡ us = (λ i. first (sym size_u i) (rest i)) ∙ first_all us vs in
+    let last : after j (after k (ts ++ (us ++ vs))) ≡ vs = (λ i. after (sym size_u i) (rest i)) ∙ after_all us vs in
     λ i. f (front i ++ (g (last i) ∷ middle i))
 
 names_append : (is js : List Imported) → names_of (is ++ js) ≡ names_of is ++ names_of js
 names_append [] js = refl
 names_append (i ∷ is) js = ap (λ (l : List Term). Import i.name ∷ l) (names_append is js)
-
-names_length : (is : List Imported) → length (names_of is) ≡ length is
-names_length [] = refl
-names_length (i ∷ is) = ap suc (names_length is)
 
 -- what stands for imports, from number k on
 abbrev pub given_one : (ℕ → Term) → Imported → Option Service → Term
@@ -93,14 +81,11 @@ module _ (gs : ℕ → Option Service) (f : ℕ → Grown) (lefts : (k : ℕ) (s
         ∙ (from_meaning (suc k) (is ++ x ∷ []) xs (ts ++ t ∷ []) sizes
         ∙ ap (λ (l : List Term). supplied (term_among p.imports l) m) (append_assoc ts (t ∷ []) (given gs bodies (suc k) xs)))
 
-pub own_name : (x : Name) → bytes_eq x x ≡ true
-own_name x = grind (arith, bytes_eq-Decides)
-
 other_name : (x y : Name) → x ≢ y → bytes_eq x y ≡ false
 other_name x y apart = by_test (bytes_eq x y) refl
   where
     by_test : (b : Bool) → bytes_eq x y ≡ b → b ≡ false
-    by_test true test = absurd (apart (name_is x y test))
+    by_test true test = absurd (apart (bytes_eq_same x y test))
     by_test false test = refl
 
 same_test : (is : List Imported) → NamesDiffer is → (i j : ℕ) (x y : Imported) → slice_get is i ≡ Some x → slice_get is j ≡ Some y
@@ -109,10 +94,10 @@ same_test is differ i j x y at_x at_y = by_test (nat_eq i j) refl
   where
     by_test : (b : Bool) → nat_eq i j ≡ b → bytes_eq x.name y.name ≡ b
     by_test true test =
-        let both : Some x ≡ Some y = sym at_x ∙ (ap (slice_get is) (is_same i j test) ∙ at_y) in
+        let both : Some x ≡ Some y = sym at_x ∙ (ap (slice_get is) (eqb-true i j test) ∙ at_y) in
         let one : x ≡ y = cc both in
-        ap (λ (z : Imported). bytes_eq x.name z.name) (sym one) ∙ own_name x.name
-    by_test false test = other_name x.name y.name (λ e. is_other i j test (differ_at is differ i j x y at_x at_y e))
+        ap (λ (z : Imported). bytes_eq x.name z.name) (sym one) ∙ bytes_eq_itself x.name
+    by_test false test = other_name x.name y.name (λ e. eqb-false i j test (differ_at is differ i j x y at_x at_y e))
 
 abbrev pub giver_if : Option Service → Option ℕ
 giver_if None = None
@@ -132,7 +117,7 @@ module _ (ps : List Plan) (ss : List Service) (sound : IsSound ps ss) (u k : ℕ
         by_test false test = refl
         by_test true test =
             let (p, q, y, at_p, at_q, at_y, type) = sound.fits s has in
-            let plan : p ≡ plan_at ps u = sym (plan_is ps s.user p at_p) ∙ ap (plan_at ps) (is_same s.user u test) in
+            let plan : p ≡ plan_at ps u = sym (plan_is ps s.user p at_p) ∙ ap (plan_at ps) (eqb-true s.user u test) in
             let at_u : slice_get (plan_at ps u).imports s.import ≡ Some y = subst (λ (r : Plan). slice_get r.imports s.import ≡ Some y) plan at_y in
             let name : name_of s ≡ y.name =
             ap (λ (o : Option Plan). name_if (slice_get (imports_of o) s.import)) at_p ∙ ap name_if at_y
@@ -196,7 +181,7 @@ module _ (ps : List Plan) (programs : Instances) (ss : List Service) (root : ℕ
               → Both y (term_among xs (given (service_at ss u) b (suc k) xs) y) (with_giver (put n) (giver_of (binds_of ps ss) u y)))
               → Both y (if c then Some (given_one b x (service_at ss u k)) else term_among xs (given (service_at ss u) b (suc k) xs) y)
               (with_giver (put n) (giver_of (binds_of ps ss) u y))
-          by_test true test h rest = one_same k x y (import_here is xs (P u).imports x k imports size) (name_is x.name y test) (service_at ss u k) refl
+          by_test true test h rest = one_same k x y (import_here is xs (P u).imports x k imports size) (bytes_eq_same x.name y test) (service_at ss u k) refl
           by_test false test h rest = rest h
 
       pub all_same : supplied (term_among (P u).imports (given (service_at ss u) b 0 (P u).imports)) (M u) ≡ put (suc n) u

@@ -1,11 +1,12 @@
 -- The services of right bind lines: from each instance so many services lead up to the root.
 use Rattle.std.specs.Prelude.{◌≡◌, ◌≢◌, ◌<◌, ◌≤◌, ◌+◌, ◌-◌, ℕ, zero, suc, Bool, true, false, List, [], ◌∷◌, length, Some, slice_get, nat_eq}
 use Rattle.std.proofs.Common.{refl, sym, ◌∙◌, subst, arith, inl, inr}
+use Rattle.std.proofs.lemmas.Bool.{eqb-true, eqb-false}
 use Rattle.gos_model.specs.Typing.{Imported}
 use Rattle.gos_plan.specs.Plans.{Plan}
 use Rattle.gos_link.specs.declared.services.Service.{Service}
 use Rattle.gos_link.specs.Services.{HasService, Gives, once, on, HasRing}
-use Rattle.gos_linked.proofs.linked.CountLemmas.{In, Distinct, short, is_same, is_other}
+use Rattle.gos_linked.proofs.linked.CountLemmas.{In, Distinct, short}
 
 -- Each service is between plans that there are, and fits; no import is served twice, no instance serves twice, and there is no ring.
 pub record IsSound (ps : List Plan) (ss : List Service) : Type 0 where
@@ -131,8 +132,8 @@ module _ (ps : List Plan) (ss : List Service) (root : ℕ) (rooted : IsRooted ps
       (suc i, omega (arith, small), (s, has, e, up)))
     where
       by_root : (b : Bool) → nat_eq k root ≡ b → (k ≢ root → Up k (length vs)) → Up k (length vs)
-      by_root true test rest = let most = enough k vs low all_low distinct under in (0, omega (arith, most), is_same k root test)
-      by_root false test rest = rest (is_other k root test)
+      by_root true test rest = let most = enough k vs low all_low distinct under in (0, omega (arith, most), eqb-true k root test)
+      by_root false test rest = rest (eqb-false k root test)
 
   -- Each instance is fewer services below the root than there are instances.
   pub reached : (k : ℕ) → k < length ps → (i : ℕ) × (i < length ps) × Below ss i k root

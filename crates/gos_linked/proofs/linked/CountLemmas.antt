@@ -1,7 +1,7 @@
 -- Lists of numbers without repetition, and a permutation that such a list of the numbers below a bound is.
 use Rattle.std.specs.Prelude.{◌≡◌, ◌≢◌, ◌⊎◌, ◌<◌, ◌≤◌, ◌+◌, ◌-◌, ℕ, zero, suc, Bool, true, false, List, [], ◌∷◌, ◌++◌, length, Some, slice_get, nat_eq, if◌then◌else◌}
 use Rattle.std.proofs.Common.{refl, sym, ◌∙◌, ap, subst, arith, inl, inr}
-use Rattle.std.proofs.lemmas.Bool.Decides.{nat_tests}
+use Rattle.std.proofs.lemmas.Bool.{eqb-true, eq-eqb, ne_eqb, eqb-false}
 
 abbrev pub In : List ℕ → ℕ → Type 0
 In [] k = ⊥
@@ -10,18 +10,6 @@ In (x ∷ xs) k = (x ≡ k) ⊎ In xs k
 abbrev pub Distinct : List ℕ → Type 0
 Distinct [] = Unit {0}
 Distinct (x ∷ xs) = (In xs x → ⊥) × Distinct xs
-
-pub same : (a b : ℕ) → a ≡ b → nat_eq a b ≡ true
-same a b e = grind (arith, nat_tests, e)
-
-pub other : (a b : ℕ) → a ≢ b → nat_eq a b ≡ false
-other a b e = grind (arith, nat_tests, e)
-
-pub is_same : (a b : ℕ) → nat_eq a b ≡ true → a ≡ b
-is_same a b e = grind (arith, nat_tests, e)
-
-pub is_other : (a b : ℕ) → nat_eq a b ≡ false → a ≢ b
-is_other a b e f = grind (arith, nat_tests, e, f)
 
 pub in_first : (xs ys : List ℕ) (k : ℕ) → In xs k → In (xs ++ ys) k
 in_first [] ys k h = absurd h
@@ -79,8 +67,8 @@ without_other n [] d k h = absurd h
 without_other n (x ∷ xs) (fresh, d) k h = by_test (nat_eq x n) refl (without_other n xs d k) h
   where
     by_test : (b : Bool) → nat_eq x n ≡ b → (In (without n xs) k → k ≢ n) → In (if b then xs else x ∷ without n xs) k → k ≢ n
-    by_test true test rest h e = let here : k ≡ x = e ∙ sym (is_same x n test) in fresh (subst (In xs) here h)
-    by_test false test rest (inl e) f = is_other x n test (e ∙ f)
+    by_test true test rest h e = let here : k ≡ x = e ∙ sym (eqb-true x n test) in fresh (subst (In xs) here h)
+    by_test false test rest (inl e) f = eqb-false x n test (e ∙ f)
     by_test false test rest (inr h) f = rest h f
 
 -- A list of different numbers below n has at most n.
@@ -113,7 +101,7 @@ module _ (n : ℕ) where
 
   pub forth_back : (xs : List ℕ) → Distinct xs → ((k : ℕ) → In xs k → k < n) → (j : ℕ) → forth xs n (back xs n j) ≡ j
   forth_back [] d low j = omega arith
-  forth_back (x ∷ xs) d low zero = ap (λ (b : Bool). if b then zero else suc (forth xs n x)) (same x x refl)
+  forth_back (x ∷ xs) d low zero = ap (λ (b : Bool). if b then zero else suc (forth xs n x)) (eq-eqb x x refl)
   forth_back (x ∷ xs) (fresh, d) low (suc j) =
       let here : ℕ = back xs n j in
       let apart : x ≢ here = λ e.
@@ -122,7 +110,7 @@ module _ (n : ℕ) where
         | inr h ↦ (let below = low x (inl refl) in omega (arith, below, e, h))
       ]
       in
-      ap (λ (b : Bool). if b then zero else suc (forth xs n here)) (other x here apart) ∙ ap suc (forth_back xs d (λ k h. low k (inr h)) j)
+      ap (λ (b : Bool). if b then zero else suc (forth xs n here)) (ne_eqb x here apart) ∙ ap suc (forth_back xs d (λ k h. low k (inr h)) j)
 
   pub back_forth : (xs : List ℕ) (k : ℕ) → In xs k ⊎ (n ≤ k) → back xs n (forth xs n k) ≡ k
   back_forth [] k (inl h) = absurd h
@@ -132,13 +120,13 @@ module _ (n : ℕ) where
       still : nat_eq x k ≡ false → In xs k ⊎ (n ≤ k)
       still test =
           elim known as (λ _. In xs k ⊎ (n ≤ k)) [
-            | inl h ↦ elim h as (λ _. In xs k ⊎ (n ≤ k)) [ inl e ↦ absurd (is_other x k test e) | inr i ↦ inl i ]
+            | inl h ↦ elim h as (λ _. In xs k ⊎ (n ≤ k)) [ inl e ↦ absurd (eqb-false x k test e) | inr i ↦ inl i ]
             | inr high ↦ inr high
           ]
 
       by_test : (b : Bool) → nat_eq x k ≡ b → (In xs k ⊎ (n ≤ k) → back xs n (forth xs n k) ≡ k)
           → back (x ∷ xs) n (if b then zero else suc (forth xs n k)) ≡ k
-      by_test true test rest = is_same x k test
+      by_test true test rest = eqb-true x k test
       by_test false test rest = rest (still test)
 
   pub at_forth : (xs : List ℕ) (k : ℕ) → In xs k → slice_get xs (forth xs n k) ≡ Some k
@@ -147,8 +135,8 @@ module _ (n : ℕ) where
     where
       by_test : (b : Bool) → nat_eq x k ≡ b → (In xs k → slice_get xs (forth xs n k) ≡ Some k)
           → slice_get (x ∷ xs) (if b then zero else suc (forth xs n k)) ≡ Some k
-      by_test true test rest = ap Some (is_same x k test)
-      by_test false test rest = rest (elim h as (λ _. In xs k) [ inl e ↦ absurd (is_other x k test e) | inr i ↦ i ])
+      by_test true test rest = ap Some (eqb-true x k test)
+      by_test false test rest = rest (elim h as (λ _. In xs k) [ inl e ↦ absurd (eqb-false x k test e) | inr i ↦ i ])
 
   pub back_at : (xs : List ℕ) (j k : ℕ) → slice_get xs j ≡ Some k → (back xs n j ≡ k) × In xs k
   back_at [] j k e = absurd (cc e)

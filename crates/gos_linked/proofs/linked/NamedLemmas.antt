@@ -1,6 +1,8 @@
 -- The links of a tree's wiring, with each plan named by the number of its instance.
 use Rattle.std.specs.Prelude.{◌≡◌, ◌<◌, ◌≤◌, ◌+◌, ◌||◌, ℕ, zero, suc, false, List, [], ◌∷◌, ◌++◌, length, map, Option, Some, slice_get, nat_eq}
 use Rattle.std.proofs.Common.{refl, sym, ◌∙◌, ap, subst, arith}
+use Rattle.std.proofs.lemmas.Bool.{ne_eqb}
+use Rattle.gos_types.proofs.ListLemmas.{found_in_front}
 use Rattle.gos_model.specs.Typing.{Imported}
 use Rattle.gos_plan.specs.Plans.{End, ImportEnd, ResultEnd, Plan}
 use Rattle.gos_plan.specs.Joining.{Place, place, Link, Wiring, is_at_import, is_joined, LeftImport, left_in, left_among, left_place, all_left}
@@ -9,8 +11,7 @@ use Rattle.gos_realises.specs.realises.Modules.{import_linked}
 use Rattle.gos_link.specs.declared.services.Service.{Service}
 use Rattle.gos_link.specs.Linked.{link_at, links_from}
 use Rattle.gos_joining.specs.unions.Flat.{later, later_link, deeper, deeper_link}
-use Rattle.gos_joining.proofs.unions.LeftLemmas.{front}
-use Rattle.gos_linked.proofs.linked.CountLemmas.{back, back_first, back_second, other}
+use Rattle.gos_linked.proofs.linked.CountLemmas.{back, back_first, back_second}
 
 abbrev pub named : ℕ → List ℕ → Place → Place
 named n ns a = place (back ns n a.plan) a.end
@@ -44,7 +45,7 @@ at_first : (i : ℕ) (a : Place) → is_at_import 0 i (later 0 a) ≡ is_at_impo
 at_first i a = let none : 0 + a.plan ≡ a.plan = omega arith in ap (λ (k : ℕ). is_at_import 0 i (place k a.end)) none
 
 not_first : (i k : ℕ) (e : End) → 0 < k → is_at_import 0 i (place k e) ≡ false
-not_first i k e some = let apart : nat_eq k 0 ≡ false = other k 0 (λ h. omega (arith, some, h)) in rw apart refl
+not_first i k e some = let apart : nat_eq k 0 ≡ false = ne_eqb k 0 (λ h. omega (arith, some, h)) in rw apart refl
 
 pub free_first : (i : ℕ) (ls : List Link) → AllFree i ls → AllFree i (map (later_link 0) ls)
 free_first i [] all = tt
@@ -81,7 +82,7 @@ pub left_of_first : (w : Wiring) (p : Plan) (ps : List Plan) (is xs : List Impor
 left_of_first w p ps is xs x plans imports free =
     ap (λ (qs : List Plan). slice_get (left_among w.links 0 qs) (length is)) plans
     ∙ (ap (λ (ys : List Imported). slice_get (left_in w.links 0 0 ys ++ left_among w.links 1 ps) (length is)) imports
-    ∙ (front (left_in w.links 0 0 (is ++ (x ∷ xs))) (left_among w.links 1 ps) (length is) (record { plan = 0; number = 0 + length is; import = x })
+    ∙ (found_in_front (left_in w.links 0 0 (is ++ (x ∷ xs))) (left_among w.links 1 ps) (length is) (record { plan = 0; number = 0 + length is; import = x })
     (left_at w.links 0 is xs x
     (λ i low. (let none : 0 + i ≡ i = omega arith in ap (is_joined w.links 0) none ∙ free_joined i w.links (free i low))))
     ∙ (let none : 0 + length is ≡ length is = omega arith in ap (λ (n : ℕ). Some (record { plan = 0; number = n; import = x })) none)))
@@ -148,7 +149,7 @@ module _ (v w : Wiring) (k : ℕ) (x : Imported) (at : slice_get (all_left v) k 
     between_free i low some h zero = tt
     between_free i low some h (suc m) =
         let is = bound_between h in
-        let apart : nat_eq k i ≡ false = other k i (λ e. omega (arith, low, e)) in (
+        let apart : nat_eq k i ≡ false = ne_eqb k i (λ e. omega (arith, low, e)) in (
           subst (λ (l : Link). is_at_import 0 i l.one ≡ false) (sym is) apart,
           subst (λ (l : Link). is_at_import 0 i l.other ≡ false) (sym is) (not_first i (length v.plans) (ResultEnd h) some),
           between_free i low some (suc h) m,

@@ -3,6 +3,8 @@ use Rattle.std.specs.Prelude.{◌≡◌, ◌≢◌, ◌<◌, ◌+◌, ◌&&◌, 
 use Rattle.std.proofs.Common.{refl, sym, ◌∙◌, ap, subst, arith, inl, inr}
 use Rattle.std.proofs.lemmas.List.{map-append}
 use Rattle.std.proofs.lemmas.Option.{slice_get-map, slice_get_within}
+use Rattle.gos_types.proofs.BoolLemmas.{and_false}
+use Rattle.gos_types.proofs.ListLemmas.{mapped_at}
 use Rattle.gos_model.specs.Typing.{Imported}
 use Rattle.gos_model.specs.Linking.{Instances, add_open, open_of, open_from}
 use Rattle.gos_plan.specs.Plans.{Plan, contacts_of_import}
@@ -26,12 +28,6 @@ use Rattle.gos_linked.proofs.linked.BodyLemmas.{giver_if, giver_same}
 abbrev import_of : LeftImport → Imported
 import_of l = l.import
 
--- where one of a list's images comes from
-image : {X Y : Type 0} (f : X → Y) (xs : List X) (i : ℕ) (y : Y) → slice_get (map f xs) i ≡ Some y → (x : X) × (slice_get xs i ≡ Some x) × (f x ≡ y)
-image f [] i y e = absurd (cc e)
-image f (x ∷ xs) zero y e = (x, refl, cc e)
-image f (x ∷ xs) (suc i) y e = image f xs i y e
-
 differ_in : (ls : List LeftImport)
     → ((i j : ℕ) (x y : LeftImport) → i < j → slice_get ls i ≡ Some x → slice_get ls j ≡ Some y → x.import.name ≢ y.import.name)
     → NamesDiffer (map import_of ls)
@@ -39,7 +35,7 @@ differ_in [] apart = tt
 differ_in (l ∷ ls) apart = (
   λ z has.
       let (n, at) = place_of (map import_of ls) z has in
-      let (y, at_y, is) = image import_of ls n z at in
+      let (y, at_y, is) = mapped_at import_of ls n z at in
       λ e. apart 0 (suc n) l y (omega arith) refl at_y (e ∙ ap (λ (r : Imported). r.name) (sym is)),
   differ_in ls (λ i j x y less at_x at_y. apart (suc i) (suc j) x y (omega (arith, less)) at_x at_y),
 )
@@ -68,10 +64,6 @@ linked_is_ground b ps p l =
     subst AllGround (sym l.joining.imports) (ground_in (all_left (whole_of ps l.services l.root)) l.light.grounded.imports)
 
 -- whether a service's links join an import
-and_false : (b : Bool) → (b && false) ≡ false
-and_false true = refl
-and_false false = refl
-
 or_false : (b : Bool) → (b || false) ≡ b
 or_false true = refl
 or_false false = refl

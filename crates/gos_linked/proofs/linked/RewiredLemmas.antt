@@ -1,8 +1,8 @@
 -- The wiring of a build is that of the tree below its root, but for the numbers of the plans.
-use Rattle.std.specs.Prelude.{◌≡◌, ◌⊎◌, ◌<◌, ◌≤◌, ℕ, zero, suc, Bool, true, false, List, [], ◌∷◌, ◌++◌, length, map, Some, option_map, slice_get, nat_lt, if◌then◌else◌, Contains}
+use Rattle.std.specs.Prelude.{◌≡◌, ◌⊎◌, ◌<◌, ◌≤◌, ℕ, zero, suc, Bool, List, [], ◌∷◌, ◌++◌, length, map, Some, option_map, slice_get, if◌then◌else◌, Contains}
 use Rattle.std.proofs.Common.{refl, sym, ◌∙◌, ap, subst, arith, inl, inr}
-use Rattle.std.proofs.lemmas.Bool.Decides.{nat_tests}
 use Rattle.std.proofs.lemmas.Option.{slice_get-map}
+use Rattle.std.proofs.lemmas.Bool.{eq-eqb, cases_lt}
 use Rattle.gos_model.specs.Terms.{Term}
 use Rattle.gos_plan.specs.Plans.{Plan, IsRight}
 use Rattle.gos_plan.specs.Joining.{Place, place, Link, Linked, Wiring}
@@ -14,7 +14,7 @@ use Rattle.gos_joining.specs.renumbered.Rewired.{rewired, IsRewired}
 use Rattle.gos_joining.specs.renumbered.SmallRewirings.{unchanged}
 use Rattle.gos_joining.proofs.renumbered.HigherLemmas.{unchanged_end, unchanged_one, is_itself}
 use Rattle.gos_supplies.specs.instances.Trees.{wired}
-use Rattle.gos_linked.proofs.linked.CountLemmas.{In, back, forth, forth_back, back_forth, at_forth, back_at, same}
+use Rattle.gos_linked.proofs.linked.CountLemmas.{In, back, forth, forth_back, back_forth, at_forth, back_at}
 use Rattle.gos_linked.proofs.linked.ChainLemmas.{IsRooted, Below, reached, user_low, giver_low}
 use Rattle.gos_linked.proofs.linked.NamedLemmas.{named, named_link}
 use Rattle.gos_linked.proofs.linked.GrowLemmas.{RealisesTerm, plan_at, Grown, grow, IsGrown}
@@ -80,13 +80,6 @@ links_among : (ps : List Plan) (ss ts : List Service) → ((s : Service) → Has
     → HasLink (links_of ps ts) l
 links_among ps ss ts all l h = let (s, has, at) = link_of ps ss l h in of_link ps ts l s (all s has) at
 
-order : (m n : ℕ) → (m < n) ⊎ (n ≤ m)
-order m n = by_test (nat_lt m n) refl
-  where
-    by_test : (b : Bool) → nat_lt m n ≡ b → (m < n) ⊎ (n ≤ m)
-    by_test true test = inl (grind (arith, nat_tests, test))
-    by_test false test = inr (grind (arith, nat_tests, test))
-
 there : (ns : List ℕ) (P : ℕ → Plan) (j : ℕ) (q : Plan) → slice_get (map P ns) j ≡ Some q → (k : ℕ) × (slice_get ns j ≡ Some k)
 there [] P j q e = absurd (cc e)
 there (k ∷ ns) P zero q e = (k, refl)
@@ -150,7 +143,7 @@ module _ (ps : List Plan) (M : ℕ → Term) (ss : List Service) (root : ℕ) (r
     moves = rewired to (λ k. unchanged)
 
     from_to : (k : ℕ) → from (to k) ≡ k
-    from_to k = back_forth n ns k (elim (order k n) as (λ _. In ns k ⊎ (n ≤ k)) [ inl low ↦ inl (numbers_all k low) | inr high ↦ inr high ])
+    from_to k = back_forth n ns k (elim (cases_lt k n) as (λ _. In ns k ⊎ (n ≤ k)) [ inl low ↦ inl (numbers_all k low) | inr high ↦ inr high ])
 
     to_from : (k : ℕ) → to (from k) ≡ k
     to_from = forth_back n ns listed.distinct numbers_low
@@ -239,7 +232,7 @@ module _ (ps : List Plan) (M : ℕ → Term) (ss : List Service) (root : ℕ) (r
           giver =
               (let first : to root ≡ 0 =
               ap (λ (l : List ℕ). forth l n root) grown.first.1
-              ∙ ap (λ (b : Bool). if b then zero else suc (forth grown.first.0 n root)) (same root root refl)
+              ∙ ap (λ (b : Bool). if b then zero else suc (forth grown.first.0 n root)) (eq-eqb root root refl)
               in
               grown.giver ∙ sym first);
           skipped = grown.skipped;

@@ -1,10 +1,11 @@
 -- What right bind lines mean is sound, and in a linked build each instance but the root serves.
-use Rattle.std.specs.Prelude.{◌≡◌, ◌≢◌, ◌⊎◌, ◌<◌, ◌+◌, ◌&&◌, ◌||◌, ℕ, zero, suc, Bool, true, false, List, [], ◌∷◌, ◌++◌, length, Option, Some, None, option_map, slice_get, nat_eq, if◌then◌else◌}
+use Rattle.std.specs.Prelude.{◌≡◌, ◌≢◌, ◌⊎◌, ◌<◌, ◌+◌, ◌&&◌, ◌||◌, ℕ, Bool, true, false, List, [], ◌∷◌, ◌++◌, length, Some, None, option_map, slice_get, nat_eq, if◌then◌else◌}
 use Rattle.std.proofs.Common.{refl, sym, ◌∙◌, ap, subst, arith, inl, inr, append-nil, append_assoc}
 use Rattle.std.proofs.lemmas.List.{length-map}
 use Rattle.std.proofs.lemmas.List.Quantifiers.{position-Some}
 use Rattle.std.proofs.lemmas.Option.{slice_get-map}
 use Rattle.std.specs.Str.{bytes_eq}
+use Rattle.std.proofs.lemmas.Bool.{eqb-true, eq-eqb, ne_eqb}
 use Rattle.gos_model.specs.Typing.{Imported}
 use Rattle.gos_plan.specs.Plans.{Plan}
 use Rattle.gos_plan.specs.Seen.{SeenPlan, plan_of, import_of}
@@ -13,8 +14,8 @@ use Rattle.gos_link.specs.declared.build.Instance.{Instance}
 use Rattle.gos_link.specs.declared.build.Bind.{Bind}
 use Rattle.gos_link.specs.declared.services.Service.{Service}
 use Rattle.gos_link.specs.Services.{HasService, Gives, once, on, first_bound, first_used, IsRightBind, BindsOn}
-use Rattle.gos_link.specs.Linked.{plans_of, is_used, is_placed, first_unplaced, IsPlaced, IsLinked}
-use Rattle.gos_linked.proofs.linked.CountLemmas.{same, other, is_same}
+use Rattle.gos_link.specs.Linked.{plans_of, is_used, is_placed, IsPlaced, IsLinked}
+use Rattle.gos_link.proofs.BoundLemmas.{if_none, is_placed_at}
 use Rattle.gos_linked.proofs.linked.ChainLemmas.{IsSound, IsRooted}
 
 -- services, one more at the end
@@ -31,16 +32,12 @@ gives_more : (more ss : List Service) → ((s : Service) → HasService ss s →
 gives_more more ss holds a b (once s h) = once s (holds s h)
 gives_more more ss holds a b (on _ c _ g h) = on a c b (gives_more more ss holds a c g) (gives_more more ss holds c b h)
 
-if_none : (b : Bool) (n : ℕ) (o : Option ℕ) → (if b then Some n else o) ≡ None → (b ≡ false) × (o ≡ None)
-if_none true n o e = absurd (cc e)
-if_none false n o e = (refl, e)
-
 -- an import that no service binds, and an instance that none uses
 unbound_has : (ss : List Service) (u i : ℕ) → first_bound ss u i ≡ None → (s : Service) → HasService ss s → s.user ≡ u → s.import ≡ i → ⊥
 unbound_has [] u i e s h user import = h
 unbound_has (t ∷ ss) u i e s (inl is) user import =
     let test : (nat_eq t.user u && nat_eq t.import i) ≡ true =
-    (λ l. same t.user u (ap (λ (r : Service). r.user) is ∙ user) l && same t.import i (ap (λ (r : Service). r.import) is ∙ import) l)
+    (λ l. eq-eqb t.user u (ap (λ (r : Service). r.user) is ∙ user) l && eq-eqb t.import i (ap (λ (r : Service). r.import) is ∙ import) l)
     in
     let not = (if_none (nat_eq t.user u && nat_eq t.import i) t.line (first_bound ss u i) e).0 in
     let wrong : true ≡ false = sym test ∙ not in
@@ -51,7 +48,7 @@ unbound_has (t ∷ ss) u i e s (inr h) user import =
 unused_has : (ss : List Service) (g : ℕ) → first_used ss g ≡ None → (s : Service) → HasService ss s → s.giver ≡ g → ⊥
 unused_has [] g e s h giver = h
 unused_has (t ∷ ss) g e s (inl is) giver =
-    let test : nat_eq t.giver g ≡ true = same t.giver g (ap (λ (r : Service). r.giver) is ∙ giver) in
+    let test : nat_eq t.giver g ≡ true = eq-eqb t.giver g (ap (λ (r : Service). r.giver) is ∙ giver) in
     let wrong : true ≡ false = sym test ∙ (if_none (nat_eq t.giver g) t.line (first_used ss g) e).0 in
     absurd (cc wrong)
 unused_has (t ∷ ss) g e s (inr h) giver = unused_has ss g (if_none (nat_eq t.giver g) t.line (first_used ss g) e).1 s h giver
@@ -62,7 +59,7 @@ used_has (t ∷ ss) g e = by_test (nat_eq t.giver g) refl e (used_has ss g)
   where
     by_test : (b : Bool) → nat_eq t.giver g ≡ b → is_used (if b then Some t.line else first_used ss g) ≡ true
         → (is_used (first_used ss g) ≡ true → (s : Service) × HasService ss s × (s.giver ≡ g)) → (s : Service) × HasService (t ∷ ss) s × (s.giver ≡ g)
-    by_test true test h rest = (t, inl refl, is_same t.giver g test)
+    by_test true test h rest = (t, inl refl, eqb-true t.giver g test)
     by_test false test h rest = let (s, has, is) = rest h in (s, inr has, is)
 
 module _ (is : List Instance) (ps : List SeenPlan) where
@@ -135,20 +132,6 @@ module _ (is : List Instance) (ps : List SeenPlan) where
         ringless = λ ring. no_gives ring.0 ring.0 ring.1;
       }) binds
 
--- where all have their places
-placed_at : (root : ℕ) (ss : List Service) (k : ℕ) (is : List Instance) → first_unplaced root ss k is ≡ None → (j : ℕ) → j < length is
-    → is_placed root ss (k + j) ≡ true
-placed_at root ss k [] e j low = absurd (omega (arith, low))
-placed_at root ss k (i ∷ is) e j low = by (is_placed root ss k) refl j low (λ m h. placed_at root ss (k + 1) is h m)
-  where
-    by : (b : Bool) → is_placed root ss k ≡ b → (j : ℕ) → j < suc (length is)
-        → ((m : ℕ) → first_unplaced root ss (k + 1) is ≡ None → m < length is → is_placed root ss ((k + 1) + m) ≡ true) → is_placed root ss (k + j) ≡ true
-    by false t j low rest = let wrong : Some i.name ≡ None = sym (rw t refl) ∙ e in absurd (cc wrong)
-    by true t zero low rest = let s : k + 0 ≡ k = omega arith in ap (is_placed root ss) s ∙ t
-    by true t (suc j) low rest =
-        let s : k + suc j ≡ (k + 1) + j = omega arith in
-        ap (is_placed root ss) s ∙ rest j (sym (rw t refl) ∙ e) (omega (arith, low))
-
 or_used : (a b : Bool) → a ≡ false → (a || b) ≡ true → b ≡ true
 or_used true b e h = absurd (cc e)
 or_used false b e h = h
@@ -172,6 +155,6 @@ linked_rooted b ps p l each =
     serves k low apart =
         let number : 0 + k ≡ k = omega arith in
         let there : is_placed l.root l.services k ≡ true =
-        ap (is_placed l.root l.services) (sym number) ∙ placed_at l.root l.services 0 b.instances.items placed.placed k (omega (arith, low, size, each))
+        ap (is_placed l.root l.services) (sym number) ∙ is_placed_at l.root l.services 0 b.instances.items placed.placed k (omega (arith, low, size, each))
         in
-        used_has l.services k (or_used (nat_eq k l.root) (is_used (first_used l.services k)) (other k l.root apart) there)
+        used_has l.services k (or_used (nat_eq k l.root) (is_used (first_used l.services k)) (ne_eqb k l.root apart) there)

@@ -4,6 +4,7 @@ use Rattle.std.specs.Str.{bytes_eq}
 use Rattle.std.proofs.Common.{refl, sym, ◌∙◌, ap, subst, arith}
 use Rattle.std.proofs.lemmas.List.Elements.{Contains-append_left, Contains-append_right}
 use Rattle.gos_types.specs.Types.{Type'}
+use Rattle.gos_types.proofs.BytesLemmas.{bytes_eq_itself, bytes_eq_same}
 use Rattle.gos_model.specs.Terms.{Name, Term, Import}
 use Rattle.gos_model.specs.Typing.{Imported, Imports, import_type, Named, things, Apart, Typed}
 use Rattle.gos_model.specs.Linking.{Instances, body_at, linked}
@@ -12,28 +13,16 @@ use Rattle.gos_realises.specs.realises.Realises.{NamesDiffer}
 use Rattle.gos_realises.proofs.realises.PlaceLemmas.{differ_first, differ_second, differ_between}
 use Rattle.gos_link.specs.declared.services.Service.{Service}
 use Rattle.gos_link.specs.Services.{HasService}
-use Rattle.gos_joining.proofs.renumbered.ImportLemmas.{name_is}
 use Rattle.gos_supplies.specs.typing.Supplied.{AreTyped, ShareNothing}
 use Rattle.gos_supplies.proofs.typing.NameLemmas.{typed_under}
 use Rattle.gos_supplies.proofs.typing.WhenceLemmas.{named, with_supplies}
 use Rattle.gos_supplies.specs.instances.Trees.{term_among}
+use Rattle.gos_supplies.proofs.typing.SupplyLemmas.{type_of}
 use Rattle.gos_linked.specs.linked.Linked.{binds_of}
 use Rattle.gos_linked.proofs.linked.ChainLemmas.{IsRooted, Below, reached, same_level, giver_low}
 use Rattle.gos_linked.proofs.linked.GrowLemmas.{RealisesTerm, plan_at, service_at, Grown, alone, with_import, grown_from, grow}
 use Rattle.gos_linked.proofs.linked.WholeLemmas.{serves, import_here, next_size, next_imports}
-use Rattle.gos_linked.proofs.linked.BodyLemmas.{given_one, given, own_name, all_same}
-
-type_has : (is : Imports) → NamesDiffer is → (i : Imported) → Contains is i → import_type is i.name ≡ Some i.ty
-type_has [] differ i (k, small, e) = absurd (omega (arith, small))
-type_has (j ∷ is) differ i (zero, small, e) =
-    subst (λ (y : Imported). import_type (j ∷ is) y.name ≡ Some y.ty) e
-    (ap (λ (b : Bool). if b then Some j.ty else import_type is j.name) (own_name j.name))
-type_has (j ∷ is) differ i (suc k, small, e) =
-    by_test (bytes_eq j.name i.name) refl (type_has is differ.1 i (k, omega (arith, small), e))
-  where
-    by_test : (b : Bool) → bytes_eq j.name i.name ≡ b → import_type is i.name ≡ Some i.ty → (if b then Some j.ty else import_type is i.name) ≡ Some i.ty
-    by_test true test rest = absurd (differ.0 i (k, omega (arith, small), e) (name_is j.name i.name test))
-    by_test false test rest = rest
+use Rattle.gos_linked.proofs.linked.BodyLemmas.{given_one, given, all_same}
 
 -- the same under more imports
 abbrev AllIn : Imports → Imports → Type 0
@@ -47,8 +36,8 @@ more_imports is js all differ_is differ_js m t typed = typed_under is js m 0 [] 
         let there = named is (Named y) m 0 [] t (omega arith) typed has in
         let name : y ≡ there.import.name = cc there.same in
         ap (import_type js) name
-        ∙ (type_has js differ_js there.import (all there.import there.has)
-        ∙ (sym (type_has is differ_is there.import there.has) ∙ ap (import_type is) (sym name)))
+        ∙ (type_of js differ_js there.import (all there.import there.has)
+        ∙ (sym (type_of is differ_is there.import there.has) ∙ ap (import_type is) (sym name)))
 
 -- terms under imports with other names share nothing
 other_imports : (is js : Imports) (m n : Term) (t u : Type') → ((i j : Imported) → Contains is i → Contains js j → i.name ≢ j.name) → Typed is [] m t
@@ -123,7 +112,7 @@ among_share (x ∷ xs) (k ∷ ks) (first, share) y z t u m n of_y of_z is_m is_n
         → (if b then Some x.ty else import_type xs z) ≡ Some u → (if a then Some k else term_among xs ks y) ≡ Some m
         → (if b then Some k else term_among xs ks z) ≡ Some n
         → (import_type xs y ≡ Some t → import_type xs z ≡ Some u → term_among xs ks y ≡ Some m → term_among xs ks z ≡ Some n → Apart m n) → Apart m n
-    by_tests true true at_y at_z e f g h rest = absurd (apart (sym (name_is x.name y at_y) ∙ name_is x.name z at_z))
+    by_tests true true at_y at_z e f g h rest = absurd (apart (sym (bytes_eq_same x.name y at_y) ∙ bytes_eq_same x.name z at_z))
     by_tests true false at_y at_z e f g h rest =
         let same : k ≡ m = cc g in subst (λ (o : Term). Apart o n) same (apart_among k xs ks z n first h)
     by_tests false true at_y at_z e f g h rest =
@@ -158,7 +147,7 @@ module _ (ps : List Plan) (programs : Instances) (ss : List Service) (root : ℕ
         one_typed k is xs x w ts at rest None found (fresh, differ) =
             let (typed, share) = rest differ in
             let own : (js : List Imported) → Typed (x ∷ js) [] (Import x.name) x.ty = λ js.
-            ap (λ (b : Bool). if b then Some x.ty else import_type js x.name) (own_name x.name)
+            ap (λ (b : Bool). if b then Some x.ty else import_type js x.name) (bytes_eq_itself x.name)
             in
             let apart : (i j : Imported) → Contains (x ∷ []) i → Contains w.behind j → i.name ≢ j.name = λ i j of_i of_j.
             subst (λ (y : Imported). y.name ≢ j.name) (only i of_i) (fresh j of_j)

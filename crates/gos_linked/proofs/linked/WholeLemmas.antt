@@ -3,6 +3,8 @@ use Rattle.std.specs.Prelude.{◌≡◌, ◌⊎◌, ◌<◌, ◌≤◌, ◌+◌,
 use Rattle.std.proofs.Common.{refl, sym, ◌∙◌, ap, subst, arith, inl, inr, append_assoc}
 use Rattle.std.proofs.lemmas.List.{length-append}
 use Rattle.std.proofs.lemmas.Option.{slice_get_within}
+use Rattle.std.proofs.lemmas.Bool.{eqb-true, eq-eqb, and_parts}
+use Rattle.gos_types.proofs.ListLemmas.{found_behind}
 use Rattle.gos_model.specs.Terms.{Term}
 use Rattle.gos_model.specs.Typing.{Imported}
 use Rattle.gos_plan.specs.Plans.{Plan, contacts_of_import}
@@ -10,8 +12,7 @@ use Rattle.gos_realises.specs.realises.Regular.{count}
 use Rattle.gos_link.specs.declared.services.Service.{Service}
 use Rattle.gos_link.specs.Services.{HasService}
 use Rattle.gos_link.specs.Linked.{imports_of, shakes_at}
-use Rattle.gos_joining.proofs.unions.LeftLemmas.{behind}
-use Rattle.gos_linked.proofs.linked.CountLemmas.{In, Distinct, distinct_both, in_first, in_second, in_either, same, is_same}
+use Rattle.gos_linked.proofs.linked.CountLemmas.{In, Distinct, distinct_both, in_first, in_second, in_either}
 use Rattle.gos_linked.proofs.linked.ChainLemmas.{IsSound, IsRooted, Below, below_then, from_top, no_ring, same_level, same_top, giver_low}
 use Rattle.gos_linked.proofs.linked.GrowLemmas.{RealisesTerm, plan_at, service_at, Grown, alone, with_import, grown_from, grow, IsGrown, alone_grown, unserved_grown, served_grown}
 
@@ -28,11 +29,6 @@ plan_there (q ∷ ps) (suc k) low = plan_there ps k (omega (arith, low))
 abbrev Finds : List Service → ℕ → ℕ → Service → Type 0
 Finds ss u i s = HasService ss s × (s.user ≡ u) × (s.import ≡ i)
 
-and_true : (a b : Bool) → (a && b) ≡ true → (a ≡ true) × (b ≡ true)
-and_true true true e = (refl, refl)
-and_true true false e = absurd (cc e)
-and_true false b e = absurd (cc e)
-
 pub service_found : (ss : List Service) (u i : ℕ) (s : Service) → service_at ss u i ≡ Some s → Finds ss u i s
 service_found [] u i s e = absurd (cc e)
 service_found (t ∷ ss) u i s e = by_test (nat_eq t.user u && nat_eq t.import i) refl e (service_found ss u i s)
@@ -41,8 +37,8 @@ service_found (t ∷ ss) u i s e = by_test (nat_eq t.user u && nat_eq t.import i
         → (service_at ss u i ≡ Some s → Finds ss u i s) → Finds (t ∷ ss) u i s
     by_test true test h rest =
         let here : t ≡ s = cc h in
-        let tests = and_true (nat_eq t.user u) (nat_eq t.import i) test in
-        (inl here, subst (λ (r : Service). r.user ≡ u) here (is_same t.user u tests.0), subst (λ (r : Service). r.import ≡ i) here (is_same t.import i tests.1))
+        let tests = and_parts (nat_eq t.user u) (nat_eq t.import i) test in
+        (inl here, subst (λ (r : Service). r.user ≡ u) here (eqb-true t.user u tests.0), subst (λ (r : Service). r.import ≡ i) here (eqb-true t.import i tests.1))
     by_test false test h rest = let (has, user, import) = rest h in (inr has, user, import)
 
 some_service : (ss : List Service) (s : Service) → HasService ss s → (t : Service) × (service_at ss s.user s.import ≡ Some t)
@@ -55,7 +51,7 @@ some_service (t ∷ ss) s h = by_test (nat_eq t.user s.user && nat_eq t.import s
     by_test true test h rest = (t, refl)
     by_test false test (inl e) rest =
         let both : (nat_eq t.user s.user && nat_eq t.import s.import) ≡ true =
-        (λ l. same t.user s.user (ap (λ (r : Service). r.user) e) l && same t.import s.import (ap (λ (r : Service). r.import) e) l)
+        (λ l. eq-eqb t.user s.user (ap (λ (r : Service). r.user) e) l && eq-eqb t.import s.import (ap (λ (r : Service). r.import) e) l)
         in
         let wrong : true ≡ false = sym both ∙ test in
         absurd (cc wrong)
@@ -95,7 +91,7 @@ serves ps ss sound u i x s at found =
 
 pub import_here : (is xs ys : List Imported) (x : Imported) (k : ℕ) → ys ≡ is ++ (x ∷ xs) → length is ≡ k → slice_get ys k ≡ Some x
 import_here is xs ys x k imports size =
-    let end : k ≡ length is + 0 = omega (arith, size) in (λ l. slice_get (imports l) (end l)) ∙ behind is (x ∷ xs) 0
+    let end : k ≡ length is + 0 = omega (arith, size) in (λ l. slice_get (imports l) (end l)) ∙ found_behind is (x ∷ xs) 0
 
 pub next_size : (is : List Imported) (x : Imported) (k : ℕ) → length is ≡ k → length (is ++ x ∷ []) ≡ suc k
 next_size is x k size = let sum = length-append is (x ∷ []) in omega (arith, sum, size)

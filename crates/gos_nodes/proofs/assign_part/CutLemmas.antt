@@ -9,12 +9,12 @@ use Rattle.gos_plan.specs.Kinds.{Part, Contact, Assign}
 use Rattle.gos_plan.specs.Firing.{Phase, Rest, Value, Writing, Slot, Req, Ans, Row, at, firing}
 use Rattle.gos_plan.specs.Plans.{End, PartEnd, ImportEnd, ResultEnd, Joint, Plan, contact_at, contacts_of_part}
 use Rattle.gos_plan.specs.Tokens.{Tokens, Fire, Out, IsPortEnd, places_of, held_at, token_at, end_of, shake_of, way_of, firing_of, Does}
-use Rattle.gos_plan.proofs.JointLemmas.{contained, found, joined, one_joint, stands_there}
+use Rattle.gos_plan.proofs.JointLemmas.{contained, found, joined, one_joint, stands_there, asking_stands, serving_stands, which_end, same_part, same_shake}
 use Rattle.gos_realises.proofs.realises.InputLemmas.{result_asks}
 use Rattle.gos_joining.specs.webs.Webs.{joint}
 use Rattle.gos_joining.specs.webs.Cutting.{Cut, lies_at, StandsIn, out_if, in_if, ins_of, outside_firing, firing_in, cut_element}
 use Rattle.gos_joining.proofs.webs.MovedLemmas.{listed}
-use Rattle.gos_joining.proofs.webs.CutLemmas.{which_end, first_stands, last_stands, stands_by}
+use Rattle.gos_joining.proofs.webs.CutLemmas.{stands_by}
 use Rattle.gos_nodes.specs.assign_part.Writes.{IsJointOf, IsPortWrite}
 use Rattle.gos_nodes.specs.assign_part.Cuts.{RegionEnds, RegionDoes, EndsOfWrites, CutsOfWrites}
 use Rattle.gos_nodes.proofs.assign_part.TableLemmas.{assigns_do}
@@ -31,12 +31,6 @@ no_import i h j k e = cc e
 
 import_result : (i h k : ℕ) → ImportEnd i h ≡ ResultEnd k → ⊥
 import_result i h k e = cc e
-
-same_part : (i h j k : ℕ) → PartEnd i h ≡ PartEnd j k → i ≡ j
-same_part i h j k e = cc e
-
-same_shake : (i h j k : ℕ) → PartEnd i h ≡ PartEnd j k → h ≡ k
-same_shake i h j k e = cc e
 
 in_then : (o : Option End) (v : ℕ) → in_if o v ++ [] ≡ in_if o v
 in_then None v = refl
@@ -104,8 +98,8 @@ module _ (d k w : ℕ) (x : Name) (f : Cut) (r p : Plan) (is : IsPortWrite d k w
       let stands = stands_by (ImportEnd k 1) (image j) at in
       let one : image j ≡ joint (PartEnd d 1) (ImportEnd k 1) =
       one_joint r [] r.joints (image j) (joint (PartEnd d 1) (ImportEnd k 1)) (ImportEnd k 1) is.cut.whole_right (contained r.joints (image j) there)
-      (contained r.joints (joint (PartEnd d 1) (ImportEnd k 1)) is.write) stands (last_stands (joint (PartEnd d 1) (ImportEnd k 1))) in
-      let wrong : 1 ≡ 0 = (own_end j.asking 1 (j, has, first_stands j) (ap (λ (y : Joint). y.asking) one)).1 in omega (arith, wrong)
+      (contained r.joints (joint (PartEnd d 1) (ImportEnd k 1)) is.write) stands (serving_stands (joint (PartEnd d 1) (ImportEnd k 1))) in
+      let wrong : 1 ≡ 0 = (own_end j.asking 1 (j, has, asking_stands j) (ap (λ (y : Joint). y.asking) one)).1 in omega (arith, wrong)
 
   at_variable : (e : End) → f.inner (ImportEnd k 1) ≡ Some e → ⊥
   at_variable e named = by_end e (is.cut.inners (ImportEnd k 1) e named)
@@ -188,8 +182,8 @@ module _ (d k w : ℕ) (x : Name) (f : Cut) (r p : Plan) (is : IsPortWrite d k w
             → IsJointOf f p j.asking j.serving
             ⊎ (((j.asking ≡ ResultEnd 0) × (j.serving ≡ PartEnd d 2)) ⊎ ((j.asking ≡ PartEnd d 1) × (j.serving ≡ ImportEnd k 1)))
             → f.inner (PartEnd d 0) ≡ Some (ResultEnd 0)
-        by_joint j (inl at) (inl (a, b, has, first, second)) = by_end a (joint a b, has, first_stands (joint a b)) (first ∙ sym at)
-        by_joint j (inr at) (inl (a, b, has, first, second)) = by_end b (joint a b, has, last_stands (joint a b)) (second ∙ sym at)
+        by_joint j (inl at) (inl (a, b, has, first, second)) = by_end a (joint a b, has, asking_stands (joint a b)) (first ∙ sym at)
+        by_joint j (inr at) (inl (a, b, has, first, second)) = by_end b (joint a b, has, serving_stands (joint a b)) (second ∙ sym at)
         by_joint j (inl at) (inr (inl h)) = absurd (no_result d 0 0 (at ∙ h.0))
         by_joint j (inr at) (inr (inl h)) = let wrong : 0 ≡ 2 = same_shake d 0 d 2 (at ∙ h.1) in absurd (omega (arith, wrong))
         by_joint j (inl at) (inr (inr h)) = let wrong : 0 ≡ 1 = same_shake d 0 d 1 (at ∙ h.0) in absurd (omega (arith, wrong))

@@ -5,22 +5,17 @@ use Rattle.std.proofs.lemmas.Option.{none-some}
 use Rattle.gos_types.specs.Events.{Direction}
 use Rattle.gos_model.specs.Terms.{Name}
 use Rattle.gos_plan.specs.Kinds.{Part, Contact}
-use Rattle.gos_plan.specs.Firing.{State, Slot, Row}
+use Rattle.gos_plan.specs.Firing.{Slot, Row}
 use Rattle.gos_plan.specs.Plans.{End, PartEnd, ImportEnd, ResultEnd, Joint, Plan, contact_at, stands_in}
 use Rattle.gos_plan.specs.Tokens.{Tokens, Fire, Out, In, IsPortEnd, places_of, held_at, token_at, way_taken, firing_of, Passes, Does}
-use Rattle.gos_plan.proofs.JointLemmas.{found}
+use Rattle.gos_plan.proofs.JointLemmas.{found, asking_stands, serving_stands, which_end}
+use Rattle.gos_plan.proofs.ElementLemmas.{firing_part}
 use Rattle.gos_joining.specs.webs.Webs.{joint}
 use Rattle.gos_joining.specs.webs.Cutting.{Cut, lies_at, StandsIn}
 use Rattle.gos_joining.proofs.webs.MovedLemmas.{listed}
-use Rattle.gos_joining.proofs.webs.CutLemmas.{which_end, first_stands, last_stands}
 use Rattle.gos_nodes.specs.assign_part.Writes.{IsJointOf, IsPortWrite}
 use Rattle.gos_nodes.specs.assign_part.Elements.{Done, within, run, given, written, asks, writes, answers, comes, ElementsOfWrites}
 use Rattle.gos_nodes.proofs.assign_part.TableLemmas.{assigns_do}
-
--- a part that fires is there
-there_is : (o : Option Part) (q : State) (slot : Slot) (row : Row) → firing_of o q slot ≡ Some row → (n : Part) × (o ≡ Some n)
-there_is None q slot row h = absurd (none-some row h)
-there_is (Some n) q slot row h = (n, refl)
 
 module _ (d k w : ℕ) (x : Name) (f : Cut) (r p : Plan) (is : IsPortWrite d k w x f r p) (s t : Tokens) where
   by_own : (slot : Slot) (row : Row) → firing_of (slice_get r.parts d) (s.state d) slot ≡ Some row → Done d k f s (Fire d slot)
@@ -34,7 +29,7 @@ module _ (d k w : ℕ) (x : Name) (f : Cut) (r p : Plan) (is : IsPortWrite d k w
 
   fired : (i : ℕ) (slot : Slot) → Does r (Fire i slot) s t → Done d k f s (Fire i slot)
   fired i slot (v, row, held, by, leads) =
-      let there = there_is (slice_get r.parts i) (s.state i) slot row by in
+      let there = firing_part (slice_get r.parts i) (s.state i) slot row by in
       elim (is.parts i there.0 there.1) [
         | inl same ↦ subst (λ (n : ℕ). Done d k f s (Fire n slot)) (sym same)
             (by_own slot row (subst (λ (n : ℕ). firing_of (slice_get r.parts n) (s.state n) slot ≡ Some row) same by))
@@ -59,9 +54,9 @@ module _ (d k w : ℕ) (x : Name) (f : Cut) (r p : Plan) (is : IsPortWrite d k w
           ⊎ (((j.asking ≡ ResultEnd 0) × (j.serving ≡ PartEnd d 2)) ⊎ ((j.asking ≡ PartEnd d 1) × (j.serving ≡ ImportEnd k 1)))
           → Done d k f s (Out e v)
       by_kind (inl at) (inl (a, b, has, first, second)) =
-          at_port a e v (joint a b, has, first_stands (joint a b)) (at ∙ sym first) port
+          at_port a e v (joint a b, has, asking_stands (joint a b)) (at ∙ sym first) port
       by_kind (inr at) (inl (a, b, has, first, second)) =
-          at_port b e v (joint a b, has, last_stands (joint a b)) (at ∙ sym second) port
+          at_port b e v (joint a b, has, serving_stands (joint a b)) (at ∙ sym second) port
       by_kind (inl at) (inr (inl h)) = subst (λ (x : End). Done d k f s (Out x v)) (sym (at ∙ h.0)) (answers v)
       by_kind (inr at) (inr (inl h)) = absurd (no_part d 2 e (at ∙ h.1) port)
       by_kind (inl at) (inr (inr h)) = absurd (no_part d 1 e (at ∙ h.0) port)

@@ -5,6 +5,7 @@ use Rattle.std.proofs.lemmas.Option.{none-some, same_Some}
 use Rattle.gos_types.specs.Types.{Type', Exp}
 use Rattle.gos_plan.specs.Kinds.{Part, Lit, Assign}
 use Rattle.gos_plan.specs.Plans.{End, PartEnd, ImportEnd, ResultEnd, Joint, IsRight}
+use Rattle.gos_plan.proofs.JointLemmas.{result_is_no_import}
 use Rattle.gos_joining.specs.webs.Webs.{joint}
 use Rattle.gos_joining.specs.webs.Cutting.{IsCut}
 use Rattle.gos_joining.proofs.webs.LoneCutLemmas.{AreOutside, lone_is_cut}
@@ -53,9 +54,6 @@ one_is_cut =
       joints = one_joints;
     })
 
-no_import : (i h : ℕ) → ResultEnd 0 ≡ ImportEnd i h → ⊥
-no_import i h e = cc e
-
 whole_joints : (a b : End) → Contains write_plan.joints (joint a b)
     → IsJointOf one_out one_plan a b ⊎ (((a ≡ ResultEnd 0) × (b ≡ PartEnd 0 2)) ⊎ ((a ≡ PartEnd 0 1) × (b ≡ ImportEnd 0 1)))
 whole_joints a b (zero, l, e) = inr (inl (sym (ap (λ (j : Joint). j.asking) e), sym (ap (λ (j : Joint). j.serving) e)))
@@ -76,7 +74,7 @@ one_is_written =
       number = refl;
       outside = refl;
       asked = refl;
-      imports = λ i h stands. absurd (no_import i h (one_port (ImportEnd i h) tt stands));
+      imports = λ i h stands. absurd (result_is_no_import i h (one_port (ImportEnd i h) tt stands));
       among = λ x t is. absurd (none-some t is);
       outcome = refl;
       own = refl;

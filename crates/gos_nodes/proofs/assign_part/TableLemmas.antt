@@ -2,6 +2,7 @@
 use Rattle.std.specs.Prelude.{◌≡◌, ◌⊎◌, ℕ, zero, suc, true, false, IsTrue, [], ◌∷◌, Option, Some, slice_get}
 use Rattle.std.proofs.Common.{refl, sym, ap, subst, inl, inr, ◌∙◌}
 use Rattle.std.proofs.lemmas.Option.{none-some, same_Some}
+use Rattle.std.proofs.lemmas.Bool.{false≢true}
 use Rattle.gos_types.specs.Types.{Type'}
 use Rattle.gos_model.specs.Terms as terms
 use Rattle.gos_model.specs.Terms.{Name, Term, Lit, Import, Wait, Put}
@@ -58,9 +59,6 @@ is_no_skip x e = cc e
 is_no_number : (x : Name) (k w : ℕ) → Wait x 3 ≡ Lit k w → ⊥
 is_no_number x k w e = cc e
 
-false_is_true : false ≡ true → ⊥
-false_is_true e = cc e
-
 module _ (i : Imports) (x : Name) (s : Store) where
   computes_none : (e : Config) → ActsTo i Computing s (Wait x 3) e → ⊥
   computes_none Idle h = h
@@ -72,7 +70,7 @@ module _ (i : Imports) (x : Name) (s : Store) where
   shows_none o Idle out (inr (k, w, is, shown)) = is_no_number x k w is
   shows_none o (Running m u) out (inl (inl h), kept) = h
   shows_none o (Running m u) out (inl (inr (port, event, answers)), kept) =
-      false_is_true (sym (λ l. is_output_at (port l) (event l)) ∙ out)
+      false≢true (sym (λ l. is_output_at (port l) (event l)) ∙ out)
   shows_none o (Running m u) out (inr h, kept) = h
 
   from : (n : ℕ) (u : Term) (a : Act) (e : Config) → Unfoldings n (Wait x 3) u → ActsTo i a s u e → ActsTo i a s (Wait x 3) e

@@ -3,17 +3,19 @@ use Rattle.std.specs.Prelude.{◌≢◌, ◌&&◌, None, slice_get, Contains, le
 use Rattle.std.proofs.Common.{◌≡◌, ℕ, Bool, true, false, List, [], ◌∷◌, ◌++◌, Option, Some, refl, sym, ◌∙◌, ap, subst, arith, if◌then◌else◌}
 use Rattle.gos_types.specs.Types.{Com}
 use Rattle.gos_types.specs.Events.{Direction, Answer}
+use Rattle.gos_types.proofs.BoolLemmas.{and_second}
 use Rattle.gos_model.specs.Terms.{Term}
 use Rattle.gos_model.specs.Stores.{Store}
 use Rattle.gos_model.specs.Labels.{given}
 use Rattle.gos_model.specs.Moves.{Program, Config, Idle, Running, Act, Moves, labels, Stalled}
+use Rattle.gos_model.proofs.MoveLemmas.{labels_then, idle_is_stalled}
 use Rattle.gos_plan.specs.Kinds.{Part, Contact, Assign, asks, contacts_of}
 use Rattle.gos_plan.specs.Firing.{Rest, State, Slot, Ans, Row, Token, at, firing}
 use Rattle.gos_plan.specs.Plans.{End, PartEnd, ImportEnd, ResultEnd, Plan, contact_at, same_end, turned_if}
 use Rattle.gos_plan.specs.Tokens.{Tokens, Element, Fire, Out, places_of, same_way, with_held, with_token, with_state, with_puts, token_at, end_of, way_of, way_taken, fired, firing_of, Passes, Does, IsIdle}
 use Rattle.gos_plan.proofs.DecidedLemmas.{one_state}
 use Rattle.gos_plan.proofs.HeldLemmas.{takes_of}
-use Rattle.gos_plan.proofs.JointLemmas.{IsIn, stands_there, contained, same_is}
+use Rattle.gos_plan.proofs.JointLemmas.{IsIn, stands_there, contained, same_is, asking_stands, serving_stands}
 use Rattle.gos_plan.proofs.TurnLemmas.{token_state}
 use Rattle.gos_realises.specs.realises.Regular.{IsRegular}
 use Rattle.gos_realises.specs.realises.Matched.{shows, GoesOn, Agrees, IsMatched}
@@ -22,8 +24,8 @@ use Rattle.gos_programs.proofs.results.ResultLemmas.{moves_then}
 use Rattle.gos_joining.specs.webs.Webs.{joint}
 use Rattle.gos_joining.specs.webs.Cutting as cutting
 use Rattle.gos_joining.specs.webs.Cutting.{Cut, lies_at, StandsIn}
-use Rattle.gos_joining.proofs.webs.CutLemmas.{Owns, asker_own, first_stands, last_stands, number_at}
-use Rattle.gos_nodes.proofs.nodes.SilentLemmas.{labels_then, silent_inner, inner_stays, answer_last}
+use Rattle.gos_joining.proofs.webs.CutLemmas.{Owns, asker_own, number_at}
+use Rattle.gos_nodes.proofs.nodes.SilentLemmas.{silent_inner, inner_stays, answer_last}
 use Rattle.gos_nodes.proofs.nodes.PortLemmas.{answer_shown}
 use Rattle.gos_nodes.specs.windows.Nodes.{Stage}
 use Rattle.gos_nodes.specs.windows.Windows.{seen}
@@ -39,15 +41,10 @@ use Rattle.gos_nodes.proofs.assignments.AssignLemmas.{has_stages}
 use Rattle.gos_nodes.proofs.assignments.OwnLemmas as table
 use Rattle.gos_nodes.proofs.windows.StageLemmas.{cut, InStage, answers, answer_fits}
 use Rattle.gos_nodes.proofs.windows.LiftLemmas.{held_whole, stage_stands}
-use Rattle.gos_nodes.proofs.nodes.MatchedLemmas.{idle_is_stalled}
 use Rattle.gos_nodes.proofs.assignments.PrefixLemmas.{lies_across, state_apart, apart_if}
 use Rattle.gos_nodes.proofs.assignments.CourseLemmas as course
 use Rattle.gos_nodes.proofs.assignments.CourseLemmas.{At, Tails}
 use Rattle.gos_realises.specs.realises.Realises.{AllGround}
-
-both_of : (a b : Bool) → a && b ≡ true → b ≡ true
-both_of true b h = h
-both_of false b h = absurd (cc h)
 
 -- another place
 place_apart : (r : Plan) (a x y : End) (way w : Direction) (held : Option ℕ) (s : Tokens) → places_of r a ≡ Some x → y ≢ x
@@ -56,7 +53,7 @@ place_apart r a x y way w held s at_a apart =
     subst (λ (o : Option End). (with_held way o held s).in_place w y ≡ s.in_place w y) (sym at_a) (by_test (same_way w way && same_end y x) refl)
   where
     by_test : (t : Bool) → same_way w way && same_end y x ≡ t → (if t then held else s.in_place w y) ≡ s.in_place w y
-    by_test true t = absurd (apart (same_is y x (both_of (same_way w way) (same_end y x) t)))
+    by_test true t = absurd (apart (same_is y x (and_second (same_way w way) (same_end y x) t)))
     by_test false t = refl
 
 module _
@@ -78,10 +75,10 @@ module _
   run_in = contained q.joints (joint (ResultEnd 0) (PartEnd d 2)) run
 
   result_place : places_of q (ResultEnd 0) ≡ Some (ResultEnd 0)
-  result_place = stands_there q (joint (ResultEnd 0) (PartEnd d 2)) (ResultEnd 0) base.right run_in (first_stands (joint (ResultEnd 0) (PartEnd d 2)))
+  result_place = stands_there q (joint (ResultEnd 0) (PartEnd d 2)) (ResultEnd 0) base.right run_in (asking_stands (joint (ResultEnd 0) (PartEnd d 2)))
 
   run_place : places_of q (PartEnd d 2) ≡ Some (ResultEnd 0)
-  run_place = stands_there q (joint (ResultEnd 0) (PartEnd d 2)) (PartEnd d 2) base.right run_in (last_stands (joint (ResultEnd 0) (PartEnd d 2)))
+  run_place = stands_there q (joint (ResultEnd 0) (PartEnd d 2)) (PartEnd d 2) base.right run_in (serving_stands (joint (ResultEnd 0) (PartEnd d 2)))
 
   done_so : contact_at q (ResultEnd 0) ≡ Some (asks 0 0)
   done_so = ap (λ t. turned_if (slice_get (contacts_of t) 0)) outcome

@@ -1,17 +1,19 @@
 -- A plan of a variable joined to an Assign and a Lit is a lone write.
-use Rattle.std.specs.Prelude.{◌+◌, ◌^◌, ◌<◌, ◌&&◌, not, None, All, nat_eq, nat_lt, slice_get, length, Contains}
+use Rattle.std.specs.Prelude.{◌+◌, ◌^◌, ◌<◌, not, None, All, nat_eq, nat_lt, slice_get, length, Contains}
 use Rattle.std.proofs.Common.{◌≡◌, ℕ, zero, suc, Bool, true, false, List, [], ◌∷◌, ◌++◌, ◌⊎◌, Option, Some, inl, inr, refl, sym, ◌∙◌, ap, subst, arith, if◌then◌else◌}
 use Rattle.std.proofs.lemmas.Bool.Decides.{nat_tests}
 use Rattle.std.proofs.lemmas.Option.{none-some, same_Some, slice_get_within}
+use Rattle.std.proofs.lemmas.Bool.{and_parts, and_from}
 use Rattle.gos_types.specs.declared.shakes.Role.TheVariants.{Serve, Ask}
 use Rattle.gos_types.specs.Types.{Var, IsGround}
+use Rattle.gos_types.proofs.ListLemmas.{element_at}
 use Rattle.gos_model.specs.Typing.{Imported}
 use Rattle.gos_plan.specs.Kinds as kinds
 use Rattle.gos_plan.specs.Kinds.{Part, Contact, asks, serves}
 use Rattle.gos_plan.specs.Plans.{End, PartEnd, ImportEnd, ResultEnd, Joint, Plan, contact_at, contacts_of_part, contacts_of_import, same_end, stands_in, is_free, AreRight, IsRight}
 use Rattle.gos_plan.specs.Tokens.{IsPortEnd, places_of}
 use Rattle.gos_plan.specs.TokenBits.{LiteralFits}
-use Rattle.gos_plan.proofs.JointLemmas.{IsIn, fits, contained}
+use Rattle.gos_plan.proofs.JointLemmas.{IsIn, fits, contained, asking_stands, which_end}
 use Rattle.gos_realises.specs.realises.Realises.{NamesDiffer, AllGround}
 use Rattle.gos_realises.specs.realises.Wirings.{writing}
 use Rattle.gos_realises.specs.realises.Links.{IsJoined}
@@ -19,12 +21,12 @@ use Rattle.gos_realises.proofs.realises.LiteralLemmas.{writing_literals, literal
 use Rattle.gos_joining.specs.webs.Webs.{joint}
 use Rattle.gos_joining.specs.webs.Cutting.{Cut, lies_at, IsInside, IsOutside, StandsIn}
 use Rattle.gos_joining.proofs.webs.MovedLemmas.{listed}
-use Rattle.gos_joining.proofs.webs.CutLemmas.{which_end, first_stands}
 use Rattle.gos_sharing.proofs.buffers.DrivenLemmas.{IsPlain, DrivenJoint, IsDriven, before_end, past_end}
 use Rattle.gos_sharing.proofs.buffers.WritingLemmas.{WriteOwn, write_is_driven}
+use Rattle.gos_sharing.proofs.buffers.BranchLemmas.{place_stands}
 use Rattle.gos_nodes.specs.windows.Regions.{IsRegion}
 use Rattle.gos_nodes.specs.windows.Nodes.{Stage}
-use Rattle.gos_nodes.proofs.windows.PortLemmas.{stands_place, place_stands}
+use Rattle.gos_nodes.proofs.windows.PortLemmas.{stands_place}
 use Rattle.gos_nodes.specs.windows.OneSession.{IsRegularAt}
 use Rattle.gos_nodes.specs.assignments.Writes.{IsWriteStage, HasStages}
 use Rattle.gos_nodes.specs.assignments.Variables.{lone_stage, IsLoneWrite}
@@ -55,23 +57,15 @@ was_in x (j ∷ js) there = by_test (same_end j.asking (ResultEnd 0)) refl there
     by_test false t (inr later) further = let found = further later in (inr found.0, found.1)
 
 -- they are right where all are
-both_hold : (a b : Bool) → a && b ≡ true → (a ≡ true) × (b ≡ true)
-both_hold true b h = (refl, h)
-both_hold false b h = absurd (cc h)
-
-hold_both : (a b : Bool) → a ≡ true → b ≡ true → a && b ≡ true
-hold_both true b one two = two
-hold_both false b one two = absurd (cc one)
-
 right_still : (p : Plan) (js before less : List Joint) → ((e : End) → is_free e before ≡ true → is_free e less ≡ true) → AreRight p before js
     → AreRight (unread p) less (unread_joints js)
 right_still p [] before less fewer right = tt
 right_still p (j ∷ js) before less fewer ((fit, asking, serving), rest) =
     by_test (same_end j.asking (ResultEnd 0))
-    (right_still p js (j ∷ before) less (λ e free. fewer e (both_hold (not (stands_in e j)) (is_free e before) free).1) rest)
+    (right_still p js (j ∷ before) less (λ e free. fewer e (and_parts (not (stands_in e j)) (is_free e before) free).1) rest)
     (right_still p js (j ∷ before) (j ∷ less)
     (λ e free.
-    let both = both_hold (not (stands_in e j)) (is_free e before) free in hold_both (not (stands_in e j)) (is_free e less) both.0 (fewer e both.1)) rest)
+    let both = and_parts (not (stands_in e j)) (is_free e before) free in and_from (not (stands_in e j)) (is_free e less) both.0 (fewer e both.1)) rest)
   where
     by_test : (b : Bool) → AreRight (unread p) less (unread_joints js) → AreRight (unread p) (j ∷ less) (unread_joints js)
         → AreRight (unread p) less (if b then unread_joints js else j ∷ unread_joints js)
@@ -80,11 +74,6 @@ right_still p (j ∷ js) before less fewer ((fit, asking, serving), rest) =
 
 pub unread_right : (p : Plan) → IsRight p → IsRight (unread p)
 unread_right p right = right_still p p.joints [] [] (λ e free. free) right
-
-part_there : (xs : List Part) (i : ℕ) → i < length xs → (x : Part) × (slice_get xs i ≡ Some x)
-part_there [] i less = absurd (omega (arith, less))
-part_there (x ∷ xs) zero less = (x, refl)
-part_there (x ∷ xs) (suc i) less = part_there xs i (omega (arith, less))
 
 past_all : (xs : List Part) (i : ℕ) → length xs < suc i → slice_get xs i ≡ None
 past_all [] i far = refl
@@ -207,7 +196,7 @@ module _
           subst (λ (x : End). Contains q.joints (joint (ImportEnd i h) x)) (sym (serves_plain (ImportEnd i h) b here).0)
           ((driven.joints (ImportEnd i h) b).1 (inl (here, tt)))
       by_end (ResultEnd h) (here, apart) listing =
-          let one = result_is h (joint (ResultEnd h) b, listing, first_stands (joint (ResultEnd h) b)) in
+          let one = result_is h (joint (ResultEnd h) b, listing, asking_stands (joint (ResultEnd h) b)) in
           let there = subst (λ (m : ℕ). IsIn (joint (ResultEnd m) b) p.joints) one here in
           subst (λ (x : End). Contains q.joints (joint (PartEnd n 1) x)) (sym (serves_plain (ResultEnd h) b here).0)
           ((driven.joints (PartEnd n 1) b).1 (inr (inl (refl, there))))
@@ -311,7 +300,7 @@ module _
             (ap (λ (xs : List Part). slice_get xs i) driven.parts ∙ (before_end p.parts drivers i less ∙ is), number_at i less));
         numbers = λ i j is.
             (let found = number_is i j is in
-            (sym found.0, subst (λ (m : ℕ). (x : Part) × (slice_get c.parts m ≡ Some x)) found.0 (part_there p.parts i found.1)));
+            (sym found.0, subst (λ (m : ℕ). (x : Part) × (slice_get c.parts m ≡ Some x)) found.0 (element_at p.parts i found.1)));
         ports = port_is;
         inners = inner_is;
         contacts = port_contact;
@@ -366,7 +355,7 @@ module _
       by_joint (inr (inl (is_a, here))) which = (
         joint (ResultEnd 1) j.serving,
         listed c.joints (joint (ResultEnd 1) j.serving) (kept_in (joint (ResultEnd 1) j.serving) p.joints refl here),
-        first_stands (joint (ResultEnd 1) j.serving),
+        asking_stands (joint (ResultEnd 1) j.serving),
       )
       by_joint (inr (inr (inl (is_a, is_b)))) (inl is) = let clash : PartEnd n 1 ≡ ResultEnd 0 = is ∙ is_a in absurd (cc clash)
       by_joint (inr (inr (inl (is_a, is_b)))) (inr is) =

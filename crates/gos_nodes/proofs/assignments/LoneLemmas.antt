@@ -1,6 +1,7 @@
 -- A lone write that is regular and realises `M := k` matches the session in which k is written.
 use Rattle.std.specs.Prelude.{◌≢◌}
-use Rattle.std.proofs.Common.{◌≡◌, ℕ, List, [], ◌∷◌, ◌++◌, inl, inr, refl, sym, ◌∙◌, ap, subst, map}
+use Rattle.std.proofs.Common.{◌≡◌, ℕ, List, [], ◌∷◌, ◌++◌, inl, inr, refl, sym, ◌∙◌, subst, map}
+use Rattle.std.proofs.lemmas.List.{append-nil}
 use Rattle.gos_types.specs.Types.{IsDone}
 use Rattle.gos_types.specs.Events.{Direction, Request}
 use Rattle.gos_model.specs.Terms as terms
@@ -200,10 +201,6 @@ module _
     pub session : Session (program_of p term)
     session = subst (λ (i : Imports). Session (record { imports = i; body = term })) lone.imports in_whole
 
-no_more : (xs : List Element) → xs ++ [] ≡ xs
-no_more [] = refl
-no_more (x ∷ xs) = ap (λ (l : List Element). x ∷ l) (no_more xs)
-
 -- what the law says of a list
 abbrev Matches : Plan → Term → Tokens → List Element → Type 0
 Matches p n u xs =
@@ -220,12 +217,12 @@ lone_write_is_session q d l w k f p m lone regular realises s u t ys tidy idle w
 
     by_end : EndsWell 1 p ys → Matches p (terms.Assign m (terms.Lit k w)) u ys
     by_end (inl all) =
-        subst (Matches p (terms.Assign m (terms.Lit k w)) u) (no_more ys)
+        subst (Matches p (terms.Assign m (terms.Lit k w)) u) (append-nil ys)
         (session q d l w k f p m lone regular realises s u tidy idle does one [] [] ys
         (no_tails q d w f p lone.base lone.ground lone.outcome regular s (prefix.s0 q d l w k f p lone s u tidy idle does)
         (prefix.idle_first q d l w k f p lone s u tidy idle does) (program_of q (terms.Assign m (terms.Lit k w)))) all t
-        (subst (λ (x : List Element). Runs p x u t) (sym (no_more ys)) runs)
-        (subst (λ (x : List Element). InputsKeepTurns p (passed p [] (In (ResultEnd 1) k ∷ [])) x) (sym (no_more ys)) later))
+        (subst (λ (x : List Element). Runs p x u t) (sym (append-nil ys)) runs)
+        (subst (λ (x : List Element). InputsKeepTurns p (passed p [] (In (ResultEnd 1) k ∷ [])) x) (sym (append-nil ys)) later))
     by_end (inr (zs, v, all, is)) =
         subst (Matches p (terms.Assign m (terms.Lit k w)) u) (sym is)
         (session q d l w k f p m lone regular realises s u tidy idle does one (Out (ResultEnd 1) v ∷ []) (Fire d (Ans 1) ∷ Out (ResultEnd 0) 0 ∷ []) zs

@@ -8,6 +8,7 @@ use Rattle.gos_model.specs.Typing.{Typed}
 use Rattle.gos_model.specs.Stores.{Store}
 use Rattle.gos_model.specs.Labels.{given}
 use Rattle.gos_model.specs.Moves.{Program, Config, Idle, Running, Act, Showing, Unfoldings, Moves, labels}
+use Rattle.gos_model.proofs.MoveLemmas.{idle_is_stalled}
 use Rattle.gos_plan.specs.Kinds as kinds
 use Rattle.gos_plan.specs.Kinds.{Part}
 use Rattle.gos_plan.specs.Firing.{Slot, Req, Ans, Row, put, firing}
@@ -25,7 +26,7 @@ use Rattle.gos_nodes.specs.windows.Regions.{whole_element}
 use Rattle.gos_nodes.specs.windows.Nodes.{Stage}
 use Rattle.gos_nodes.specs.windows.Windows.{seen, HoldsOnly, StirsOnly, Begins, Where, Resting, Asked, Within, Answered, LeadsTo, to_session, to_answer, Staged, rests, waits, stays, holds, is_asked, begins, stirs, goes_on, replies}
 use Rattle.gos_nodes.proofs.windows.PortLemmas.{ground_within}
-use Rattle.gos_nodes.proofs.nodes.MatchedLemmas.{idle_is_stalled, running_is_not_idle, one_asked, asks_or_answers, no_asking, more_some, both_silent}
+use Rattle.gos_nodes.proofs.nodes.MatchedLemmas.{running_is_not_idle, one_asked, asks_or_answers, no_asking, more_some, both_silent}
 use Rattle.gos_nodes.proofs.nodes.SilentLemmas.{unfold_first, silent_inner}
 use Rattle.gos_nodes.proofs.nodes.FrameLemmas.{framed, framed_waits}
 use Rattle.gos_nodes.proofs.nodes.PortLemmas.{request_shown, answer_shown, answers_value}

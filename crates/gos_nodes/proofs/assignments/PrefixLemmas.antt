@@ -2,23 +2,24 @@
 -- rests.
 use Rattle.std.specs.Prelude.{◌≢◌, ◌&&◌, None, nat_eq, nat_lt, slice_get, Contains, length}
 use Rattle.std.proofs.Common.{◌≡◌, ℕ, Bool, true, false, [], ◌∷◌, Option, Some, refl, sym, ◌∙◌, ap, subst, arith, if◌then◌else◌, pow_pos}
+use Rattle.std.proofs.lemmas.Bool.{ne_eqb}
 use Rattle.gos_types.specs.Events.{Direction, Request, Answer}
+use Rattle.gos_model.proofs.NumberLemmas.{nat_eq_itself}
 use Rattle.gos_plan.specs.Kinds.{Part, Contact, Assign, Lit, asks, contacts_of}
 use Rattle.gos_plan.specs.Firing.{Phase, Rest, Value, Writing, State, Slot, Req, Ans, Row, row, at, put, firing}
 use Rattle.gos_plan.specs.Plans.{End, PartEnd, ResultEnd, Plan, contact_at, same_end, turned_if}
 use Rattle.gos_plan.specs.Tokens.{Tokens, Fire, In, places_of, same_way, held_at, with_held, with_token, with_state, token_at, firing_of, Passes, Does, IsIdle}
-use Rattle.gos_plan.proofs.JointLemmas.{IsIn, stands_there, contained}
+use Rattle.gos_plan.proofs.JointLemmas.{IsIn, stands_there, contained, asking_stands, serving_stands}
 use Rattle.gos_plan.proofs.DecidedLemmas.{one_state}
-use Rattle.gos_plan.proofs.TurnLemmas.{token_state, nat_eq_self}
+use Rattle.gos_plan.proofs.TurnLemmas.{token_state}
 use Rattle.gos_joining.specs.webs.Webs.{joint}
 use Rattle.gos_joining.specs.webs.Cutting as cutting
 use Rattle.gos_joining.specs.webs.Cutting.{Cut, lies_at}
-use Rattle.gos_joining.proofs.webs.CutLemmas.{first_stands, last_stands, lies_there, number_at}
+use Rattle.gos_joining.proofs.webs.CutLemmas.{lies_there, number_at}
+use Rattle.gos_sharing.proofs.buffers.BranchLemmas.{place_stands}
 use Rattle.gos_nodes.specs.windows.Nodes.{Stage}
 use Rattle.gos_nodes.specs.windows.Windows.{seen, StirsOnly}
 use Rattle.gos_nodes.proofs.windows.InlayLemmas.{inlay}
-use Rattle.gos_nodes.proofs.windows.PortLemmas.{place_stands}
-use Rattle.gos_nodes.proofs.windows.WholeLemmas.{other_state}
 use Rattle.gos_nodes.specs.windows.OneSession.{IsTidy}
 use Rattle.gos_nodes.specs.assignments.Writes.{waits_at}
 use Rattle.gos_nodes.proofs.windows.RunnerLemmas as runners
@@ -44,10 +45,10 @@ pub lies_across : (r : Plan) (a b x : End) (way : Direction) (v : ℕ) (s : Toke
 lies_across r a b x way v s at_a at_b = ap (held_at (with_token r a way (Some v) s) way) (at_b ∙ sym at_a) ∙ lies_there r a x way v s at_a
 
 state_own : (i : ℕ) (q : State) (s : Tokens) → (with_state i q s).state i ≡ q
-state_own i q s = ap (λ (t : Bool). if t then q else s.state i) (nat_eq_self i)
+state_own i q s = ap (λ (t : Bool). if t then q else s.state i) (nat_eq_itself i)
 
 pub state_apart : (i j : ℕ) (q : State) (s : Tokens) → j ≢ i → (with_state i q s).state j ≡ s.state j
-state_apart i j q s apart = ap (λ (t : Bool). if t then q else s.state j) (other_state j i apart)
+state_apart i j q s apart = ap (λ (t : Bool). if t then q else s.state j) (ne_eqb j i apart)
 
 pub apart_if : (f : Cut) (i j : ℕ) → f.number i ≡ None → (n : ℕ) → f.number j ≡ Some n → j ≢ i
 apart_if f i j none n some same = let clash : Some n ≡ None = sym some ∙ (ap f.number same ∙ none) in absurd (cc clash)
@@ -77,16 +78,16 @@ module _
   asks_in = contained q.joints (joint (PartEnd d 0) (PartEnd l 0)) lone.asks
 
   result_place : places_of q (ResultEnd 0) ≡ Some (ResultEnd 0)
-  result_place = stands_there q (joint (ResultEnd 0) (PartEnd d 2)) (ResultEnd 0) lone.base.right run_in (first_stands (joint (ResultEnd 0) (PartEnd d 2)))
+  result_place = stands_there q (joint (ResultEnd 0) (PartEnd d 2)) (ResultEnd 0) lone.base.right run_in (asking_stands (joint (ResultEnd 0) (PartEnd d 2)))
 
   run_place : places_of q (PartEnd d 2) ≡ Some (ResultEnd 0)
-  run_place = stands_there q (joint (ResultEnd 0) (PartEnd d 2)) (PartEnd d 2) lone.base.right run_in (last_stands (joint (ResultEnd 0) (PartEnd d 2)))
+  run_place = stands_there q (joint (ResultEnd 0) (PartEnd d 2)) (PartEnd d 2) lone.base.right run_in (serving_stands (joint (ResultEnd 0) (PartEnd d 2)))
 
   asks_place : places_of q (PartEnd d 0) ≡ Some (PartEnd d 0)
-  asks_place = stands_there q (joint (PartEnd d 0) (PartEnd l 0)) (PartEnd d 0) lone.base.right asks_in (first_stands (joint (PartEnd d 0) (PartEnd l 0)))
+  asks_place = stands_there q (joint (PartEnd d 0) (PartEnd l 0)) (PartEnd d 0) lone.base.right asks_in (asking_stands (joint (PartEnd d 0) (PartEnd l 0)))
 
   lit_place : places_of q (PartEnd l 0) ≡ Some (PartEnd d 0)
-  lit_place = stands_there q (joint (PartEnd d 0) (PartEnd l 0)) (PartEnd l 0) lone.base.right asks_in (last_stands (joint (PartEnd d 0) (PartEnd l 0)))
+  lit_place = stands_there q (joint (PartEnd d 0) (PartEnd l 0)) (PartEnd l 0) lone.base.right asks_in (serving_stands (joint (PartEnd d 0) (PartEnd l 0)))
 
   two_parts : l ≢ d
   two_parts same =

@@ -1,28 +1,21 @@
 -- A plan of which each session is matched rests after the answer, since the program is idle then.
 use Rattle.std.specs.Prelude.{◌^◌, ◌<◌}
-use Rattle.std.proofs.Common.{◌≡◌, ℕ, List, [], ◌∷◌, ◌++◌, Option, inr, refl, sym, ap, subst, arith}
+use Rattle.std.proofs.Common.{◌≡◌, ℕ, List, [], ◌∷◌, ◌++◌, Option, inr, refl, sym, ap, subst}
 use Rattle.gos_types.specs.Events.{Direction, Request}
 use Rattle.gos_model.specs.Terms.{Term}
-use Rattle.gos_model.specs.Labels.{given}
-use Rattle.gos_model.specs.Moves.{Program, Config, Idle, Running, Act, Moves, labels}
+use Rattle.gos_model.specs.Moves.{Program, Config}
 use Rattle.gos_plan.specs.Kinds.{Contact}
 use Rattle.gos_plan.specs.Plans.{End, ResultEnd, Plan}
 use Rattle.gos_plan.specs.Tokens.{Tokens, Element, Fire, Out, In, bits_of, way_put, Passes, Does, Runs, IsIdle}
 use Rattle.gos_realises.specs.realises.Regular.{InputsKeepTurns}
 use Rattle.gos_realises.specs.realises.Matched.{program_of}
 use Rattle.gos_realises.proofs.realises.InputLemmas.{in_there}
-use Rattle.gos_nodes.proofs.nodes.SilentLemmas.{idle_shows, answer_last}
 use Rattle.gos_nodes.specs.windows.OneSession.{IsRestfulAt}
 use Rattle.gos_nodes.specs.assignments.Writes.{asked_type, request_bits}
 use Rattle.gos_nodes.specs.assignments.Realised.{IsSessionMatched, SessionIsRealised}
 use Rattle.gos_nodes.proofs.windows.AskedLemmas.{asked_is, asked_role}
 use Rattle.gos_nodes.proofs.assignments.AskedLemmas.{asked_by}
-
--- after its answer a program is idle
-ends_idle : (p : Program) (acts : List Act) (c d : Config) (v : ℕ) → Moves p acts c d → labels acts ≡ given 1 v ∷ [] → d ≡ Idle
-ends_idle p acts Idle d v h e =
-    let event : 1 ≡ 0 = ap (λ o. o.event) (idle_shows p acts d (given 1 v) [] h e) in absurd (omega (arith, event))
-ends_idle p acts (Running m s) d v h e = (answer_last p acts m s d v h e).6
+use Rattle.gos_nodes.proofs.nodes.RestLemmas.{ends_idle}
 
 rests_at : (p : Plan) (g : Program) (h v : ℕ) (xs : List Element) (s t : Tokens) (c : Config) → IsSessionMatched p g (xs ++ Out (ResultEnd h) v ∷ []) s c
     → Runs p (xs ++ Out (ResultEnd h) v ∷ []) s t → IsIdle p t

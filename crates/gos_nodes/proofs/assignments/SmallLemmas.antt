@@ -9,7 +9,6 @@ use Rattle.gos_plan.specs.TokenBits.{LiteralFits}
 use Rattle.gos_realises.specs.realises.Realises.{NamesDiffer}
 use Rattle.gos_joining.specs.webs.Webs.{joint}
 use Rattle.gos_joining.specs.webs.Cutting.{lies_at, IsInside, IsOutside, StandsIn}
-use Rattle.gos_joining.proofs.webs.CutLemmas.{which_end}
 use Rattle.gos_joining.proofs.webs.SmallWebLemmas.{one_port}
 use Rattle.gos_nodes.specs.assign_part.SmallWrites.{write_plan, one_plan, one_out}
 use Rattle.gos_nodes.proofs.assign_part.SmallLemmas.{one_is_written}
@@ -20,10 +19,9 @@ use Rattle.gos_nodes.specs.assignments.Writes.{IsWriteStage}
 use Rattle.gos_nodes.specs.assignments.Assignments.{IsLaid}
 use Rattle.gos_nodes.specs.assignments.SmallWrites.{x_plan, OneIsAssigned, ReadStageIsNone, x_written, x_inner, x_out, number_stage, variable_stage, OneIsWritten, SevenBitsAreNone, LitIsNone, StageIsMissing, ReadIsDropped, WriteIsSession, ReadIsNoSession, ArgumentIsAsked, OutcomeIsNotAsked}
 use Rattle.gos_nodes.proofs.windows.AskedLemmas.{ground_heard}
-use Rattle.gos_types.specs.declared.shakes.Role.TheVariants.{Serve, Ask}
-
-no_member : {A : Type 0} (x : A) → Contains [] x → ⊥
-no_member x (i, less, is) = omega (arith, less)
+use Rattle.gos_types.proofs.ListLemmas.{none_in_empty}
+use Rattle.gos_types.proofs.RoleLemmas.{serve_is_not_ask}
+use Rattle.gos_plan.proofs.JointLemmas.{which_end, result_is_no_import}
 
 -- the stage of the number
 number_region : IsRegion one_out [] write_plan one_plan
@@ -39,15 +37,12 @@ number_region =
       contacts = cut.contacts;
       joints = cut.joints;
       all = λ a b listing inside. inl (cut.all a b listing inside);
-      serving = λ x has. absurd (no_member x has);
-      unused = λ x i j has. absurd (no_member x has);
+      serving = λ x has. absurd (none_in_empty x has);
+      unused = λ x i j has. absurd (none_in_empty x has);
     }
 
 end_number : (h : ℕ) → ResultEnd 0 ≡ ResultEnd h → h ≡ 0
 end_number h is = cc is
-
-no_import : (i h : ℕ) → ResultEnd 0 ≡ ImportEnd i h → ⊥
-no_import i h is = cc is
 
 number_is_stage : IsRegularAt 0 one_plan → IsWriteStage write_plan 0 8 number_stage
 number_is_stage regular =
@@ -58,11 +53,11 @@ number_is_stage regular =
       outcome = refl;
       only = λ h stands. end_number h (one_port (ResultEnd h) tt stands);
       regular = regular;
-      loyal = λ x i has. absurd (no_member x has);
+      loyal = λ x i has. absurd (none_in_empty x has);
       run_by = λ stands. refl;
-      imports = λ i has. absurd (no_member i has);
+      imports = λ i has. absurd (none_in_empty i has);
       names = tt;
-      ports = λ i h stands. absurd (no_import i h (one_port (ImportEnd i h) tt stands));
+      ports = λ i h stands. absurd (result_is_no_import i h (one_port (ImportEnd i h) tt stands));
       heard = ground_heard number_stage.cut write_plan one_plan tt tt;
     }
 
@@ -128,8 +123,8 @@ x_region =
       contacts = λ e port stands. x_contacts e stands;
       joints = x_joints;
       all = λ a b listing inside. elim inside [ inl x ↦ absurd (nothing_inside a x) | inr x ↦ absurd (nothing_inside b x) ];
-      serving = λ x has. absurd (no_member x has);
-      unused = λ x i j has. absurd (no_member x has);
+      serving = λ x has. absurd (none_in_empty x has);
+      unused = λ x i j has. absurd (none_in_empty x has);
     }
 
 x_result : (h : ℕ) → (ResultEnd h ≡ ResultEnd 1) ⊎ (ResultEnd h ≡ ImportEnd 0 1) → h ≡ 1
@@ -141,7 +136,7 @@ x_import i h (inl is) = absurd (cc is)
 x_import i h (inr is) = (cc is, cc is)
 
 one_name : NamesDiffer write_plan.imports
-one_name = ((λ j has. absurd (no_member j has)), tt)
+one_name = ((λ j has. absurd (none_in_empty j has)), tt)
 
 variable_is_stage : IsRegularAt 1 x_written → IsWriteStage write_plan 0 8 variable_stage
 variable_is_stage regular =
@@ -152,7 +147,7 @@ variable_is_stage regular =
       outcome = refl;
       only = λ h stands. x_result h (x_port (ResultEnd h) stands);
       regular = regular;
-      loyal = λ x i has. absurd (no_member x has);
+      loyal = λ x i has. absurd (none_in_empty x has);
       run_by = λ stands. refl;
       imports = λ i has. has;
       names = one_name;
@@ -251,10 +246,10 @@ laid_number =
     record {
       region = number_region;
       outside = refl;
-      loyal = λ x i has. absurd (no_member x has);
+      loyal = λ x i has. absurd (none_in_empty x has);
       run_by = λ stands. refl;
-      imports = λ i has. absurd (no_member i has);
-      ports = λ i h stands. absurd (no_import i h (one_port (ImportEnd i h) tt stands));
+      imports = λ i has. absurd (none_in_empty i has);
+      ports = λ i h stands. absurd (result_is_no_import i h (one_port (ImportEnd i h) tt stands));
     }
 
 laid_variable : IsLaid write_plan 0 variable_stage x_plan
@@ -262,7 +257,7 @@ laid_variable =
     record {
       region = x_region;
       outside = refl;
-      loyal = λ x i has. absurd (no_member x has);
+      loyal = λ x i has. absurd (none_in_empty x has);
       run_by = λ stands. refl;
       imports = λ i has. has;
       ports = λ i h stands.
@@ -296,8 +291,5 @@ read_stage_is_none is = let joints_so : ◌≡◌ {A = ℕ} 2 1 = ap (λ (x : Pl
 pub argument_is_asked : ArgumentIsAsked
 argument_is_asked = (_, refl, refl)
 
-serve_ask : Serve ≡ Ask → ⊥
-serve_ask e = cc e
-
 pub outcome_is_not_asked : OutcomeIsNotAsked
-outcome_is_not_asked (c, there, asks) = serve_ask (ap (λ (x : Contact). x.role) (same_Some _ c there) ∙ asks)
+outcome_is_not_asked (c, there, asks) = serve_is_not_ask (ap (λ (x : Contact). x.role) (same_Some _ c there) ∙ asks)

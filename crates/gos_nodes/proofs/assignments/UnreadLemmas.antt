@@ -6,8 +6,10 @@ use Rattle.std.proofs.Common.{◌≡◌, ℕ, Bool, true, false, List, [], ◌�
 use Rattle.gos_types.specs.declared.shakes.Role.{Role}
 use Rattle.gos_types.specs.declared.shakes.Role.TheVariants.{Serve, Ask}
 use Rattle.std.proofs.lemmas.Option.{same_Some}
+use Rattle.std.proofs.lemmas.List.{append-nil}
 use Rattle.gos_types.specs.Types.{Type', Var, IsGround}
 use Rattle.gos_types.specs.Events.{Direction, Request, Answer}
+use Rattle.gos_types.proofs.BoolLemmas.{true_is_not_false}
 use Rattle.gos_plan.specs.Kinds as kinds
 use Rattle.gos_plan.specs.Kinds.{Part, Contact, asks, serves}
 use Rattle.gos_plan.specs.Firing.{Slot, Req, Ans, Token, Row}
@@ -16,13 +18,12 @@ use Rattle.gos_plan.specs.Tokens.{Tokens, Element, Fire, Out, In, asking_in, pla
 use Rattle.gos_plan.specs.Orderly.{named_by, handshake_at, Open, none_open, with_open, after_taken, after_put, after_puts, ComesWell, AllComeWell, ComesInOrder, AllWelcome, OrderlyFrom}
 use Rattle.gos_plan.proofs.AskingLemmas.{RequestAsks, PutsAsking, row_asks}
 use Rattle.gos_plan.proofs.HeldLemmas.{nothing_there, takes_of}
-use Rattle.gos_plan.proofs.JointLemmas.{found, fits, stands_there, same_is}
+use Rattle.gos_plan.proofs.JointLemmas.{found, fits, stands_there, same_is, which_end}
 use Rattle.gos_plan.proofs.ProjectionLemmas.{named}
+use Rattle.gos_plan.proofs.ElementLemmas.{firing_part, orderly_then}
 use Rattle.gos_realises.specs.realises.Regular.{Pass, InputsKeepTurns, IsRegular}
 use Rattle.gos_realises.proofs.realises.InputLemmas.{passed, passed_then, inputs_then, first_turns, later_turns, last_order, runs_then, in_there, out_there}
-use Rattle.gos_realises.proofs.quiet.HoldLemmas.{orderly_append}
 use Rattle.gos_joining.specs.webs.Cutting.{StandsIn}
-use Rattle.gos_joining.proofs.webs.CutLemmas.{which_end, part_there}
 use Rattle.gos_nodes.specs.windows.Regions.{IsLoyal}
 use Rattle.gos_nodes.proofs.windows.PortLemmas.{stands_place}
 use Rattle.gos_nodes.specs.windows.OneSession.{IsAsked, AllStay, EndsWell, IsOneSession, IsRegularAt, IsLoyalAt}
@@ -70,12 +71,8 @@ stay_come c (In (PartEnd i h) v ∷ xs) ys all last = absurd all.0
 stay_come c (In (ResultEnd h) v ∷ xs) ys all last = absurd all.0
 stay_come c (In (ImportEnd i h) v ∷ xs) ys all last = (inr (i, h, refl, all.0), stay_come c xs ys all.1 last)
 
-no_more : (xs : List Element) → xs ++ [] ≡ xs
-no_more [] = refl
-no_more (x ∷ xs) = ap (λ (l : List Element). x ∷ l) (no_more xs)
-
 well_come : (c : Plan) (xs : List Element) → EndsWell 1 c xs → AllCome c xs
-well_come c xs (inl all) = subst (AllCome c) (no_more xs) (stay_come c xs [] all tt)
+well_come c xs (inl all) = subst (AllCome c) (append-nil xs) (stay_come c xs [] all tt)
 well_come c xs (inr (zs, v, all, is)) = subst (AllCome c) (sym is) (stay_come c zs (Out (ResultEnd 1) v ∷ []) all tt)
 
 session_come : (c : Plan) (xs : List Element) → IsOneSession 1 c xs → AllCome c xs
@@ -83,9 +80,6 @@ session_come c [] one = absurd one
 session_come c (Fire i t ∷ xs) one = absurd one
 session_come c (Out e v ∷ xs) one = absurd one
 session_come c (In e v ∷ xs) one = (inl one.0, well_come c xs one.1)
-
-not_both : (b : Bool) → b ≡ true → b ≡ false → ⊥
-not_both b up down = let both : true ≡ false = sym up ∙ down in cc both
 
 module _ (p : Plan) (w : ℕ) (right : IsRight p) (outcome : p.outcome ≡ Var w) (regular : IsRegular p) where
   abbrev c : Plan
@@ -191,7 +185,7 @@ module _ (p : Plan) (w : ℕ) (right : IsRight p) (outcome : p.outcome ≡ Var w
       )
   one_put i k is (Ans h) asking o s shut well = (
     apart_same (PartEnd i h) (λ place.
-        not_both (o (ResultEnd 0)) (sym (ap o (ap (λ (x : Option End). named_by x (PartEnd i h)) place)) ∙ well.0) shut),
+        true_is_not_false (o (ResultEnd 0)) (sym (ap o (ap (λ (x : Option End). named_by x (PartEnd i h)) place)) ∙ well.0) shut),
     shut,
   )
 
@@ -257,7 +251,7 @@ module _ (p : Plan) (w : ℕ) (right : IsRight p) (outcome : p.outcome ≡ Var w
               idle = so.idle;
               ran = runs_then p hs y first s t so.ran does;
               turns = inputs_then p [] hs (y ∷ []) so.turns turn;
-              orderly = orderly_append p hs (y ∷ []) none_open o m first s t so.orderly (m, t, does, comes, welcome, (refl, refl));
+              orderly = orderly_then p hs (y ∷ []) none_open o m first s t so.orderly (m, t, does, comes, welcome, (refl, refl));
               shut = shut;
             };
       }
@@ -276,7 +270,7 @@ module _ (p : Plan) (w : ℕ) (right : IsRight p) (outcome : p.outcome ≡ Var w
       same = held_same s (end_of i slot) (way_of slot) v held
 
       kind : (k : Part) × (slice_get p.parts i ≡ Some k)
-      kind = part_there (slice_get p.parts i) (s.state i) slot row by
+      kind = firing_part (slice_get p.parts i) (s.state i) slot row by
 
       takes_same : (y : Row) → firing_of (slice_get p.parts i) (s.state i) slot ≡ Some y → Same (end_of i y.takes)
       takes_same y fires = subst (λ (x : Slot). Same (end_of i x)) (sym (takes_of (slice_get p.parts i) (s.state i) slot y fires)) same

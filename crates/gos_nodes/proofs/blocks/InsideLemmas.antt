@@ -6,6 +6,7 @@
 use Rattle.std.specs.Prelude.{◌≡◌, ◌≢◌, ℕ, zero, suc, ◌+◌, ◌&&◌, not, Bool, true, false, List, [], ◌∷◌, ◌++◌, Option, Some, None, if◌then◌else◌}
 use Rattle.std.proofs.Common.{arith, refl, sym, ap, subst, inl, inr, ◌∙◌}
 use Rattle.gos_types.specs.Types.{Type', Com, Exp, Var}
+use Rattle.gos_types.proofs.BytesLemmas.{same_bytes_eq}
 use Rattle.gos_model.specs.Terms.{Name, Term, Import, Deref, New, Loc, Scope, Wait, Put}
 use Rattle.gos_model.specs.Typing.{Imports, Typed, import_type}
 use Rattle.gos_model.specs.Substitution.{instantiate}
@@ -13,22 +14,24 @@ use Rattle.gos_model.specs.Stores.{Store, without}
 use Rattle.gos_model.specs.Steps.{IsValue}
 use Rattle.gos_model.specs.Labels.{Port, Given, Taken, Label, taken, is_answer, IsAnswer}
 use Rattle.gos_model.specs.Moves.{Program, Config, Idle, Running, Act, Computing, Showing, Unfoldings, Answers, Move, Moves, labels, Stalled}
+use Rattle.gos_model.proofs.MoveLemmas.{moves_then, unfoldings_then}
 use Rattle.gos_programs.specs.contexts.Contexts.{ScopeBody}
 use Rattle.gos_programs.specs.contexts.Renaming.{IsInjective, IsFreeOf, beside}
 use Rattle.gos_programs.specs.contexts.Widening.{AreAmong, Knows}
 use Rattle.gos_programs.specs.contexts.LocalVariable.{placed, HasOthers, IsHome, IsElsewhere}
 use Rattle.gos_programs.proofs.contexts.BackwardLemmas.{OneLabel, waits_within}
 use Rattle.gos_programs.proofs.contexts.LocalLemmas.{other_moves, read_asked, write_answered, unfoldings_before, read_answered, write_asked}
-use Rattle.gos_programs.proofs.contexts.PlacedLemmas.{same_true, name_cases, unfoldings_placed, value_placed, bodies_placed}
+use Rattle.gos_programs.proofs.contexts.PlacedLemmas.{name_cases, unfoldings_placed, value_placed, bodies_placed}
 use Rattle.gos_programs.proofs.contexts.PluggedLemmas.{move_plugged, unfoldings_plugged, stays_running}
 use Rattle.gos_programs.proofs.contexts.ReachedLemmas.{reached_lifted}
 use Rattle.gos_programs.proofs.contexts.StoreLemmas.{later_at}
 use Rattle.gos_programs.proofs.contexts.WideningLemmas.{move_widens, waits_widely}
 use Rattle.gos_programs.specs.variables.Waits.{WaitsAt, request_of, answer_of, requests_at, answers_at}
 use Rattle.gos_programs.proofs.variables.WaitLemmas.{sources_wait, none_waits, waits_counted, zero_none}
-use Rattle.gos_programs.proofs.variables.UnfoldedLemmas.{waits_before}
+use Rattle.gos_programs.proofs.variables.UnfoldedLemmas.{waits_before, answers_value}
 use Rattle.gos_programs.proofs.variables.VariableLemmas.{placed_waits}
-use Rattle.gos_nodes.proofs.parallel.MoveLemmas.{moves_then, silent_then, unfoldings_then, Ended, answer_value}
+use Rattle.gos_nodes.proofs.parallel.MoveLemmas.{Ended}
+use Rattle.gos_nodes.proofs.nodes.MatchedLemmas.{both_silent}
 
 -- the store of the variable alone, at location 0; all others are renamed to the next one
 abbrev pub home_store : ℕ → ℕ → Store
@@ -220,7 +223,7 @@ module _ (own wide whole : Program) (y : Name) (w : ℕ) (among : AreAmong own.i
       record {
         acts = first.acts ++ more.acts;
         to = more.to;
-        silent = silent_then first.acts more.acts first.silent more.silent;
+        silent = both_silent first.acts more.acts first.silent more.silent;
         moves = moves_then whole first.acts more.acts c first.to more.to first.moves more.moves;
         inside = more.inside;
       }
@@ -262,14 +265,14 @@ module _ (own wide whole : Program) (y : Name) (w : ℕ) (among : AreAmong own.i
   -- the four labels
   request_one : (e v : ℕ) → is_answer e ≡ false → (requests_at y (Showing (taken y e v)) ≡ 1) × (answers_at y (Showing (taken y e v)) ≡ 0)
   request_one e v asks =
-      let here = same_true y y refl in (
+      let here = same_bytes_eq y y refl in (
         ap (λ (b : Bool). if_both b (not (is_answer e))) here ∙ ap (λ (b : Bool). if_both true (not b)) asks,
         ap (λ (b : Bool). if_both b (is_answer e)) here ∙ ap (λ (b : Bool). if_both true b) asks,
       )
 
   answer_one : (e v : ℕ) → is_answer e ≡ true → (requests_at y (Showing (taken y e v)) ≡ 0) × (answers_at y (Showing (taken y e v)) ≡ 1)
   answer_one e v answers =
-      let here = same_true y y refl in (
+      let here = same_bytes_eq y y refl in (
         ap (λ (b : Bool). if_both b (not (is_answer e))) here ∙ ap (λ (b : Bool). if_both true (not b)) answers,
         ap (λ (b : Bool). if_both b (is_answer e)) here ∙ ap (λ (b : Bool). if_both true b) answers,
       )
@@ -327,7 +330,7 @@ module _ (own wide whole : Program) (y : Name) (w : ℕ) (among : AreAmong own.i
   pub leaves : (k : ℕ) (t : Term) (s : Store) (o : Label) (next c : Config) → Inside k 0 (Running t s) c → Ended own t s o next → Left o c
   leaves k t s o next c i e =
       let (z, made, now) = inside_moves e.acts k 0 (Running t s) (Running e.term e.store) c (silent_others e.acts e.silent) i e.moves in
-      let value : IsValue e.last = answer_value o e.last e.answers in
+      let value : IsValue e.last = answers_value o e.last e.answers in
       let same : e.term ≡ now.term = running_term e.term now.term e.store now.store now.own_is in
       let within : Unfoldings e.count (placed suc y 0 e.term) e.last =
       subst (λ (x : Term). Unfoldings e.count (placed suc y 0 e.term) x) (value_placed suc y 0 e.last value) (unfoldings_placed suc y 0 e.count e.term e.last e.unfolds) in
@@ -339,7 +342,7 @@ module _ (own wide whole : Program) (y : Name) (w : ℕ) (among : AreAmong own.i
       let last : Move whole Computing (Running now.now store) (Running e.last (without store 0)) = (count, Scope 0 e.last, all, inl (value, refl, refl)) in
       record {
         acts = e.acts ++ Computing ∷ [];
-        silent = silent_then e.acts (Computing ∷ []) e.silent refl;
+        silent = both_silent e.acts (Computing ∷ []) e.silent refl;
         last = e.last;
         store = without store 0;
         moves =

@@ -11,10 +11,11 @@ use Rattle.gos_model.specs.Typing.{Imported}
 use Rattle.gos_plan.specs.Kinds.{Contact, contacts_of}
 use Rattle.gos_plan.specs.Firing.{Phase, Rest, Active}
 use Rattle.gos_plan.specs.Plans.{End, ImportEnd, ResultEnd, Plan, contact_at, contacts_of_import, same_end}
-use Rattle.gos_plan.specs.Tokens.{Tokens, Element, Fire, Out, In, way_put, Does, Runs, IsIdle}
+use Rattle.gos_plan.specs.Tokens.{Tokens, Element, Out, In, way_put, Does, Runs, IsIdle}
 use Rattle.gos_plan.specs.TokenBits.{LiteralFits, AllFit}
-use Rattle.gos_plan.proofs.JointLemmas.{same_is, same_itself}
+use Rattle.gos_plan.proofs.JointLemmas.{same_is}
 use Rattle.gos_plan.proofs.TokenBitsLemmas.{all_stay_fit}
+use Rattle.gos_plan.proofs.ElementLemmas.{runs_then}
 use Rattle.gos_joining.specs.webs.Cutting.{StandsIn, cut_tokens}
 use Rattle.gos_joining.proofs.webs.CutLemmas as cuts
 use Rattle.gos_realises.specs.realises.Regular.{Pass, pass, way_in, way_out, is_request, is_open, ComesInTurn}
@@ -22,9 +23,10 @@ use Rattle.gos_realises.specs.realises.Realises.{AllGround}
 use Rattle.gos_realises.proofs.realises.RingLemmas.{after}
 use Rattle.gos_realises.proofs.realises.ToldLemmas.{there_is}
 use Rattle.gos_realises.proofs.realises.InputLemmas.{import_serves, one_ground}
+use Rattle.gos_realises.proofs.realises.PassLemmas.{open_itself, open_otherwise, same_turn}
 use Rattle.gos_nodes.proofs.windows.KeepingLemmas.{InTurn}
 use Rattle.gos_nodes.proofs.parallel.StepLemmas.{gate, Same, Local, fires, puts_out, takes_in}
-use Rattle.gos_nodes.proofs.parallel.LinkedLemmas.{Comes, first_comes, past_all}
+use Rattle.gos_nodes.proofs.parallel.LinkedLemmas.{Comes, first_comes, past_all, turn_append}
 use Rattle.gos_nodes.proofs.windows.AskedLemmas.{done_contact}
 use Rattle.gos_nodes.specs.blocks.Block.{Block, IsBlock}
 use Rattle.gos_nodes.proofs.blocks.RegionLemmas as region
@@ -58,16 +60,6 @@ pub record Linked (b : Block) (past own : List Pass) (s : Tokens) : Type 0 where
   pub imports : ImportsAgree b past own
   pub others : (j n : ℕ) → b.cut.inner (ImportEnd j n) ≡ None → is_open past (ImportEnd j n) ≡ false
 
-pub turn_append : (p : Plan) (past : List Pass) (ys zs : List Element) → InTurn p past ys → InTurn p (past_all p ys past) zs → InTurn p past (ys ++ zs)
-turn_append p past [] zs one other = other
-turn_append p past (Fire i t ∷ ys) zs one other = turn_append p past ys zs one other
-turn_append p past (Out e v ∷ ys) zs one other = turn_append p (after p (Out e v) past) ys zs one other
-turn_append p past (In e v ∷ ys) zs one other = (one.0, turn_append p (after p (In e v) past) ys zs one.1 other)
-
-same_turn : (past own : List Pass) (a c : End) (way : Direction) → is_open past a ≡ is_open own c → ComesInTurn past a way → ComesInTurn own c way
-same_turn past own a c Request same turn = sym same ∙ turn
-same_turn past own a c Answer same turn = sym same ∙ turn
-
 -- what a stage tells
 module _ (up : Bool) (ph : Phase) (ask ans : Option ℕ) where
   pub when_asking : Stage up ph ask ans → up ≡ false → (ph ≡ Rest) × (ask ≡ None) × (ans ≡ None)
@@ -93,17 +85,6 @@ module _ (up : Bool) (ph : Phase) (ask ans : Option ℕ) where
   when_working (is_asked opened rest some empty) e = let bad : Rest ≡ Active = sym rest ∙ e in absurd (cc bad)
   when_working (works opened phase none empty) e = (opened, none, empty)
   when_working (has_ended v opened rest none here) e = let bad : Rest ≡ Active = sym rest ∙ e in absurd (cc bad)
-
--- after one pass
-pub past_other : (e c : End) (way : Direction) (past : List Pass) → (e ≡ c → ⊥) → is_open (pass e way ∷ past) c ≡ is_open past c
-past_other e c way past other = by_test (same_end e c) refl
-  where
-    by_test : (t : Bool) → same_end e c ≡ t → is_open (pass e way ∷ past) c ≡ is_open past c
-    by_test true t = absurd (other (same_is e c t))
-    by_test false t = ap (λ (x : Bool). if x then is_request way else is_open past c) t
-
-pub past_itself : (e : End) (way : Direction) (past : List Pass) → is_open (pass e way ∷ past) e ≡ is_request way
-past_itself e way past = ap (λ (x : Bool). if x then is_request way else is_open past e) (same_itself e)
 
 -- an answer closes all
 pub closed_after : (e c : End) (past : List Pass) → is_open past c ≡ false → is_open (pass e Answer ∷ past) c ≡ false
@@ -193,11 +174,11 @@ module _ (r : Plan) (b : Block) (is : IsBlock r b) (literals : All LiteralFits r
       record {
         driven = record { result = linked.driven.result; stage = linked.driven.stage };
         variable = λ h.
-            past_other (ImportEnd i k) (ImportEnd b.place h) way own (λ e. let same : i ≡ b.place = cc e in not_variable i j k leads same) ∙ linked.variable h;
+            open_otherwise (ImportEnd i k) (ImportEnd b.place h) way own (λ e. let same : i ≡ b.place = cc e in not_variable i j k leads same) ∙ linked.variable h;
         imports = λ a c n apart stood led.
             λ m. if same_imports i j k a c n stands leads stood led m then is_request way else linked.imports a c n apart stood led m;
         others = λ c n none.
-            past_other (ImportEnd j k) (ImportEnd c n) way past
+            open_otherwise (ImportEnd j k) (ImportEnd c n) way past
             (λ e. let clash : None ≡ Some (ImportEnd i k) = sym none ∙ (ap b.cut.inner (sym e) ∙ inner_import i j k stands leads) in cc clash)
             ∙ linked.others c n none;
       }
@@ -268,7 +249,7 @@ module _ (r : Plan) (b : Block) (is : IsBlock r b) (literals : All LiteralFits r
         (served_linked h past own s t linked phase gates)),
     (
       subst (λ w. ComesInTurn (pass (ImportEnd b.place h) w ∷ own) (ImportEnd b.place h) (way_in (contact_at b.body (ImportEnd b.place h)))) (sym asks)
-          (subst (λ w. ComesInTurn (pass (ImportEnd b.place h) Request ∷ own) (ImportEnd b.place h) w) (sym answers) (past_itself (ImportEnd b.place h) Request own)),
+          (subst (λ w. ComesInTurn (pass (ImportEnd b.place h) Request ∷ own) (ImportEnd b.place h) w) (sym answers) (open_itself (ImportEnd b.place h) Request own)),
       tt,
     ),
   )
@@ -335,10 +316,10 @@ module _ (r : Plan) (b : Block) (is : IsBlock r b) (literals : All LiteralFits r
   seen_runs x s w (told v s' t' unseen state ans none ask) ys u runs = subst (λ (a : Tokens). Runs b.body ys a u) unseen runs
   seen_runs x s w (starts v s' t' sees rest ask active none ans) ys u runs = (cut_tokens b.cut b.body t', sees, runs)
   seen_runs x s w (read v s' t' stands served active state gates) ys u runs =
-      cuts.after b.body (Out (ImportEnd b.place 0) v ∷ In (ImportEnd b.place 0) (s'.state b.own).number ∷ []) ys (cut_tokens b.cut b.body s')
+      runs_then b.body (Out (ImportEnd b.place 0) v ∷ In (ImportEnd b.place 0) (s'.state b.own).number ∷ []) ys (cut_tokens b.cut b.body s')
       (cut_tokens b.cut b.body t') u served runs
   seen_runs x s w (write v s' t' stands served active state gates) ys u runs =
-      cuts.after b.body (Out (ImportEnd b.place 1) v ∷ In (ImportEnd b.place 1) 0 ∷ []) ys (cut_tokens b.cut b.body s') (cut_tokens b.cut b.body t') u served runs
+      runs_then b.body (Out (ImportEnd b.place 1) v ∷ In (ImportEnd b.place 1) 0 ∷ []) ys (cut_tokens b.cut b.body s') (cut_tokens b.cut b.body t') u served runs
   seen_runs x s w (ended v s' t' sees active rest ask ans) ys u runs = (cut_tokens b.cut b.body t', sees, runs)
   seen_runs x s w (lost j k v s' t' c there none unseen same) ys u runs = subst (λ (a : Tokens). Runs b.body ys a u) unseen runs
 

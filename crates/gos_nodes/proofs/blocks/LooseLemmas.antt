@@ -6,13 +6,14 @@ use Rattle.gos_plan.specs.Tokens.{Tokens, In, places_of, Does}
 use Rattle.gos_plan.specs.Orderly.{Open, with_open, ComesInOrder}
 use Rattle.gos_plan.specs.TokenBits.{LiteralFits}
 use Rattle.gos_plan.proofs.HeldLemmas as held
+use Rattle.gos_plan.proofs.JointLemmas.{apart_is_not_same}
 use Rattle.gos_joining.specs.webs.Cutting.{lies_at}
 use Rattle.gos_joining.proofs.webs.CutLemmas.{Owns}
 use Rattle.gos_realises.specs.realises.Regular.{Pass}
 use Rattle.gos_realises.proofs.realises.RingLemmas.{after}
 use Rattle.gos_nodes.proofs.windows.PortLemmas.{stands_place}
 use Rattle.gos_nodes.proofs.parallel.StepLemmas.{Same}
-use Rattle.gos_nodes.proofs.parallel.OpenLemmas.{opened_so, not_same}
+use Rattle.gos_nodes.proofs.parallel.OpenLemmas.{opened_so}
 use Rattle.gos_nodes.specs.blocks.Block.{Block, IsBlock}
 use Rattle.gos_nodes.proofs.blocks.RegionLemmas.{Held}
 use Rattle.gos_nodes.proofs.blocks.LinkedLemmas.{runs_body}
@@ -32,8 +33,8 @@ module _ (r : Plan) (b : Block) (is : IsBlock r b) (k n : ℕ) (none : b.cut.inn
       → OpenAgree b.cut b.body (with_open (ImportEnd k n) true o) (with_open (ImportEnd i n) true own)
   loose_agrees i own_none o own agree m also =
       opened_so (same_end (lies_at b.cut m) (ImportEnd k n)) true (o (lies_at b.cut m))
-      (not_same (lies_at b.cut m) (ImportEnd k n) (λ e. not_lies (lies_at b.cut m) (lies r b is m also) e))
-      ∙ (agree m also ∙ sym (opened_so (same_end m (ImportEnd i n)) true (own m) (not_same m (ImportEnd i n) (λ e. not_own e also))))
+      (apart_is_not_same (lies_at b.cut m) (ImportEnd k n) (λ e. not_lies (lies_at b.cut m) (lies r b is m also) e))
+      ∙ (agree m also ∙ sym (opened_so (same_end m (ImportEnd i n)) true (own m) (apart_is_not_same m (ImportEnd i n) (λ e. not_own e also))))
     where
       not_own : m ≡ ImportEnd i n → Held b.body m → ⊥
       not_own e (inl owned) =

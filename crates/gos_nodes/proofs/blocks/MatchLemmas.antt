@@ -2,12 +2,14 @@
 use Rattle.std.specs.Prelude.{◌≡◌, ◌≢◌, ℕ, true, false, List, [], ◌∷◌, ◌++◌, Option, Some, None, All, slice_get}
 use Rattle.std.proofs.Common.{arith, refl, sym, ap, subst, inl, ◌∙◌}
 use Rattle.gos_types.specs.Events.{Direction, Request, Answer}
+use Rattle.gos_types.proofs.BytesLemmas.{same_bytes_eq}
 use Rattle.gos_model.specs.Terms.{Name, Term, Import, New, Loc, Scope}
 use Rattle.gos_model.specs.Typing.{Imported, Typed}
 use Rattle.gos_model.specs.Substitution.{instantiate}
 use Rattle.gos_model.specs.Stores.{Store}
 use Rattle.gos_model.specs.Labels.{Given, Taken, Label, given, taken}
 use Rattle.gos_model.specs.Moves.{Program, Config, Idle, Running, Act, Computing, Showing, Answers, Moves, labels, Stalled}
+use Rattle.gos_model.proofs.MoveLemmas.{idle_is_stalled, no_moves}
 use Rattle.gos_plan.specs.Kinds.{Contact, asks}
 use Rattle.gos_plan.specs.Firing.{Phase, Rest, Active, State, Req, Ans, Row, at}
 use Rattle.gos_plan.specs.Plans.{PartEnd, ImportEnd, ResultEnd, Plan, contact_at}
@@ -21,10 +23,11 @@ use Rattle.gos_realises.specs.realises.Matched.{port_if, event_number, shows, as
 use Rattle.gos_realises.specs.realises.Realises.{AllGround, NamesDiffer}
 use Rattle.gos_realises.proofs.realises.RingLemmas.{after}
 use Rattle.gos_realises.proofs.realises.ToldLemmas.{one_name}
+use Rattle.gos_realises.proofs.realises.MatchedLemmas.{matched_agrees}
 use Rattle.gos_programs.specs.contexts.Plugged.{AreInner}
 use Rattle.gos_programs.specs.contexts.Widening.{Knows}
-use Rattle.gos_programs.proofs.contexts.PlacedLemmas.{same_true}
 use Rattle.gos_programs.proofs.contexts.WideningLemmas.{sources_known, runs_known}
+use Rattle.gos_programs.proofs.contexts.InnerLemmas.{idle_inner}
 use Rattle.gos_nodes.proofs.windows.KeepingLemmas.{InTurn}
 use Rattle.gos_nodes.proofs.parallel.StepLemmas.{gate, Same, Local, fires, puts_out, takes_in}
 use Rattle.gos_nodes.proofs.parallel.LinkedLemmas.{Comes, first_comes, past_all}
@@ -40,7 +43,7 @@ use Rattle.gos_nodes.proofs.blocks.OutputLemmas.{import_real}
 use Rattle.gos_nodes.proofs.blocks.OpenLemmas.{firing_same}
 use Rattle.gos_nodes.proofs.blocks.OrderLemmas.{local_firing}
 use Rattle.gos_nodes.proofs.blocks.QuietLemmas.{body_quiet, whole_idle}
-use Rattle.gos_nodes.proofs.blocks.IdleLemmas.{idle_waits, idle_inner, no_moves, Came, came_on, matched_agrees}
+use Rattle.gos_nodes.proofs.blocks.IdleLemmas.{Came, came_on}
 use Rattle.gos_nodes.proofs.blocks.ImportLemmas.{wide_imports, body_among, variable_typed, others_same, variable_new}
 use Rattle.gos_nodes.proofs.blocks.InsideLemmas.{home_store, AllOthers, Inside, inside_moves, silent_moves, reads, writes, leaves, inside_waits, begins, first_step}
 
@@ -84,7 +87,7 @@ module _
   -- where nothing is possible the whole can only wait
   whole_waits : (s : Tokens) (inner c : Config) → Stood s inner c → IsQuiet r s → Agrees b.body on_body (cut_tokens b.cut b.body s) inner → Came on_body inner
       → Stalled on_whole c
-  whole_waits s inner c (rests rest none empty inner_is is_idle) quiet agrees came = subst (Stalled on_whole) (sym is_idle) (idle_waits on_whole)
+  whole_waits s inner c (rests rest none empty inner_is is_idle) quiet agrees came = subst (Stalled on_whole) (sym is_idle) (idle_is_stalled on_whole)
   whole_waits s inner c (waits rest some empty inner_is is_body) quiet agrees came =
       absurd (quiet.0 b.own (Req 3) (fired r b.own begin_row 0 s)
       (0, begin_row, ap (held_at s Request) (gate_at_part r b is) ∙ some, local_firing r b is literals (Req 3) begin_row Rest s rest refl, refl))
@@ -131,7 +134,7 @@ module _
         not_given (slice_get b.body.imports i) x at,
         λ e. let one : Taken x.name ≡ Taken b.variable.name = sym (ap port_if at) ∙ e in
             let name : x.name ≡ b.variable.name = cc one in
-            apart (grind (arith, tests, same_true x.name b.variable.name name)),
+            apart (grind (arith, tests, same_bytes_eq x.name b.variable.name name)),
       )
 
   local_others : (x y : Element) → Local b.cut r b.body x y → AllOthers b.variable.name (shows b.body y)

@@ -4,6 +4,7 @@
 use Rattle.std.specs.Prelude.{◌≡◌, ℕ, suc, Bool, true, false, List, [], ◌∷◌, Option, Some, None, nat_eq, nat_lt, slice_get, length, if◌then◌else◌}
 use Rattle.std.proofs.Common.{arith, refl, sym, ap, subst, inl, inr, ◌∙◌}
 use Rattle.std.proofs.lemmas.Option.{same_Some, slice_get_within}
+use Rattle.std.proofs.lemmas.Bool.{eqb-true}
 use Rattle.gos_types.specs.declared.shakes.Role.{Role}
 use Rattle.gos_types.specs.declared.shakes.Role.TheVariants.{Serve, Ask}
 use Rattle.gos_types.specs.Events.{Direction, Request, Answer}
@@ -173,9 +174,6 @@ lies r b is (ImportEnd i k) (inr same) = absurd (cc same)
 lies r b is (ResultEnd k) (inl stands) = at_driver 0 (ap (λ n. b.cut.outer (ResultEnd n)) (region.result_shake r b is k stands) ∙ is.result)
 lies r b is (ResultEnd k) (inr same) = at_driver 0 (ap (lies_at b.cut) same ∙ is.result)
 
-equal_numbers : (i j : ℕ) → nat_eq i j ≡ true → i ≡ j
-equal_numbers i j e = grind (arith, e)
-
 -- what b.body region's element opens and closes in the whole
 module _ (r : Plan) (b : Block) (is : IsBlock r b) where
   pub record SideStep (x : Element) (s : Tokens) (o next : Open) : Type 0 where
@@ -238,7 +236,7 @@ module _ (r : Plan) (b : Block) (is : IsBlock r b) where
         where
           by_test : (bb : Bool) → nat_eq b.own (b.cut.part j) ≡ bb → bb ≡ false
           by_test true e =
-              let same : b.own ≡ b.cut.part j = equal_numbers b.own (b.cut.part j) e in
+              let same : b.own ≡ b.cut.part j = eqb-true b.own (b.cut.part j) e in
               let clash : None ≡ Some j = sym is.outside ∙ (ap b.cut.number same ∙ (is.cut.parts j k there).1) in absurd (cc clash)
           by_test false e = refl
 

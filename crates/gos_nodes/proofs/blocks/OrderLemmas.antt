@@ -14,7 +14,7 @@ use Rattle.gos_plan.specs.Plans.{End, PartEnd, ImportEnd, ResultEnd, Plan, conta
 use Rattle.gos_plan.specs.Tokens.{Tokens, Element, Fire, Out, In, held_at, token_at, with_token, with_state, end_of, shake_of, way_of, way_taken, way_put, firing_of, Passes, Does, IsIdle}
 use Rattle.gos_plan.specs.Orderly.{Open, named_by, handshake_at, none_open, with_open, after_taken, after_put, ComesWell, ComesInOrder, AllWelcome, OrderlyFrom}
 use Rattle.gos_plan.specs.TokenBits.{LiteralFits}
-use Rattle.gos_plan.proofs.JointLemmas.{same_itself}
+use Rattle.gos_plan.proofs.JointLemmas.{same_itself, apart_is_not_same}
 use Rattle.gos_plan.proofs.HeldLemmas as held
 use Rattle.gos_plan.proofs.DecidedLemmas.{one_state}
 use Rattle.gos_plan.proofs.ProjectionLemmas.{named}
@@ -22,11 +22,12 @@ use Rattle.gos_nodes.specs.sessions.Sessions as sessions
 use Rattle.gos_joining.specs.webs.Cutting.{lies_at, StandsIn, cut_tokens}
 use Rattle.gos_realises.specs.realises.Regular.{Pass, is_request, is_open, way_out, OutputsKeepTurns}
 use Rattle.gos_realises.proofs.realises.RingLemmas.{after}
+use Rattle.gos_realises.proofs.realises.PassLemmas.{open_itself}
 use Rattle.gos_nodes.specs.parallel.Parallel.{IsPartOf}
 use Rattle.gos_nodes.proofs.windows.TurnLemmas.{import_result}
 use Rattle.gos_nodes.proofs.parallel.StepLemmas.{gate, Same, Local, fires, puts_out, takes_in, Sees, Unseen}
 use Rattle.gos_nodes.proofs.parallel.LinkedLemmas.{Comes}
-use Rattle.gos_nodes.proofs.parallel.OpenLemmas.{opened_so, not_same, comes_by}
+use Rattle.gos_nodes.proofs.parallel.OpenLemmas.{opened_so, comes_by}
 use Rattle.gos_nodes.proofs.parallel.OrderLemmas.{lies_open}
 use Rattle.gos_nodes.proofs.windows.AskedLemmas.{done_contact}
 use Rattle.gos_nodes.specs.blocks.Block.{Block, IsBlock}
@@ -34,7 +35,7 @@ use Rattle.gos_nodes.proofs.blocks.DriverLemmas.{begin_row, read_row, write_row,
 use Rattle.gos_nodes.proofs.blocks.RegionLemmas as region
 use Rattle.gos_nodes.proofs.blocks.RegionLemmas.{result_held}
 use Rattle.gos_nodes.proofs.blocks.StepLemmas.{Step, of_body, asked, told, starts, read, write, ended, lost, Served, IsSeen, Differ, gate_at_result, gate_at_part, gate_apart, asked_there, own_state}
-use Rattle.gos_nodes.proofs.blocks.LinkedLemmas.{runs_body, Driven, when_starting, when_working, past_itself, seen, way_asked, way_told, variable_contact, asked_turn}
+use Rattle.gos_nodes.proofs.blocks.LinkedLemmas.{runs_body, Driven, when_starting, when_working, seen, way_asked, way_told, variable_contact, asked_turn}
 use Rattle.gos_nodes.proofs.blocks.OpenLemmas.{OpenAgree, IsApart, put_agrees, taken_agrees, put_well, firing_same, Lies, in_part, at_import, at_driver, lies, side_step}
 use Rattle.gos_nodes.proofs.blocks.OutputLemmas.{is_active}
 
@@ -49,7 +50,7 @@ module _ (r : Plan) (b : Block) (is : IsBlock r b) (literals : All LiteralFits r
   not_result e (at_driver h at) same = let bad : PartEnd b.own h ≡ ResultEnd 0 = sym at ∙ same in cc bad
 
   result_apart : IsApart b.cut b.body (ResultEnd 0)
-  result_apart n held = not_same (ResultEnd 0) (lies_at b.cut n) (λ e. not_result (lies_at b.cut n) (lies r b is n held) (sym e))
+  result_apart n held = apart_is_not_same (ResultEnd 0) (lies_at b.cut n) (λ e. not_result (lies_at b.cut n) (lies r b is n held) (sym e))
 
   -- what is open in the whole and in its body
   pub record Opened (past : List Pass) (o own : Open) (s : Tokens) : Type 0 where
@@ -115,7 +116,7 @@ module _ (r : Plan) (b : Block) (is : IsBlock r b) (literals : All LiteralFits r
       keeps = ready e v (with_token b.body e Request None (cut_tokens b.cut b.body s)) does
 
       up : is_open (after b.body (Out e v) own) (ImportEnd b.place h) ≡ true
-      up = past_itself e (way_out (contact_at b.body e)) own ∙ ap is_request way
+      up = open_itself e (way_out (contact_at b.body e)) own ∙ ap is_request way
 
   -- each token finds the part ready
   welcome_part : (s : Tokens) (o : Open) (past own : List Pass) → Driven b past own s → Ready b.body own (cut_tokens b.cut b.body s)
@@ -197,7 +198,7 @@ module _ (r : Plan) (b : Block) (is : IsBlock r b) (literals : All LiteralFits r
   with_itself e t o = ap (λ (x : Bool). if x then t else o e) (same_itself e)
 
   with_other : (e n : End) (t : Bool) (o : Open) → (n ≡ e → ⊥) → with_open e t o n ≡ o n
-  with_other e n t o other = opened_so (same_end n e) t (o n) (not_same n e other)
+  with_other e n t o other = opened_so (same_end n e) t (o n) (apart_is_not_same n e other)
 
   own_put_agrees : (o own : Open) → OpenAgree b.cut b.body o own
       → OpenAgree b.cut b.body (with_open (PartEnd b.own 0) true o) (after_put b.body (ResultEnd 0) Request own)

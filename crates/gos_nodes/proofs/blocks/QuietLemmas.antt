@@ -10,10 +10,11 @@ use Rattle.gos_plan.specs.Tokens.{Tokens, Element, Fire, Out, places_of, token_a
 use Rattle.gos_plan.specs.TokenBits.{LiteralFits}
 use Rattle.gos_plan.proofs.JointLemmas.{contained, found}
 use Rattle.gos_plan.proofs.HeldLemmas.{nothing_there}
+use Rattle.gos_plan.proofs.ElementLemmas.{firing_part}
 use Rattle.gos_joining.specs.webs.Webs.{joint}
 use Rattle.gos_joining.specs.webs.Cutting.{lies_at, StandsIn, asks_in, cut_tokens}
 use Rattle.gos_joining.proofs.webs.MovedLemmas.{listed}
-use Rattle.gos_joining.proofs.webs.CutLemmas.{asks_one, asks_there, part_there}
+use Rattle.gos_joining.proofs.webs.CutLemmas.{asks_one, asks_there}
 use Rattle.gos_realises.proofs.realises.InputLemmas.{result_asks}
 use Rattle.gos_nodes.specs.parallel.Parallel.{IsJointOf, IsPartOf}
 use Rattle.gos_nodes.proofs.parallel.StepLemmas.{gate}
@@ -86,7 +87,7 @@ module _ (r : Plan) (b : Block) (is : IsBlock r b) (literals : All LiteralFits r
     where
       no_fire : (j : ℕ) (t : Slot) (u : Tokens) → Does b.body (Fire j t) (cut_tokens b.cut b.body s) u → ⊥
       no_fire j t u (v, row, lies, by, leads) =
-          let (k, there) = part_there (slice_get b.body.parts j) ((cut_tokens b.cut b.body s).state j) t row by in
+          let (k, there) = firing_part (slice_get b.body.parts j) ((cut_tokens b.cut b.body s).state j) t row by in
           quiet.0 (b.cut.part j) t (fired r (b.cut.part j) row v s) (
             v,
             row,

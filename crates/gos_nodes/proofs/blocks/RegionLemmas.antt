@@ -7,6 +7,7 @@ use Rattle.std.proofs.Common.{arith, refl, sym, ap, subst, inl, inr, ◌∙◌}
 use Rattle.std.proofs.lemmas.Option.{none-some}
 use Rattle.gos_types.specs.Types.{Type', IsDone}
 use Rattle.gos_types.specs.Events.{Direction, Request, Answer}
+use Rattle.gos_types.proofs.BoolLemmas.{same_tests}
 use Rattle.gos_model.specs.Typing.{Imported}
 use Rattle.gos_plan.specs.Kinds as kinds
 use Rattle.gos_plan.specs.Kinds.{Contact, asks, contacts_of}
@@ -14,11 +15,11 @@ use Rattle.gos_plan.specs.Firing.{State, Slot}
 use Rattle.gos_plan.specs.Plans.{End, PartEnd, ImportEnd, ResultEnd, Plan, contact_at, contacts_of_import, same_end, turned_if}
 use Rattle.gos_plan.specs.Tokens.{Tokens, Out, In, IsPortEnd, places_of, held_at, with_held, token_at, with_token, with_state, end_of, shake_of, Passes, Does}
 use Rattle.gos_plan.specs.Orderly.{named_by, handshake_at}
-use Rattle.gos_plan.proofs.JointLemmas.{Found, contained, found, has_place, joined, same_is, same_itself, stands_there}
+use Rattle.gos_plan.proofs.JointLemmas.{Found, contained, found, has_place, joined, same_is, same_itself, stands_there, asking_stands, serving_stands, which_end}
 use Rattle.gos_nodes.specs.sessions.Sessions.{bits}
 use Rattle.gos_joining.specs.webs.Cutting.{lies_at, StandsIn, cut_tokens}
-use Rattle.gos_joining.proofs.webs.MovedLemmas.{listed, same_bool}
-use Rattle.gos_joining.proofs.webs.CutLemmas.{name_by, Owns, port_own, port_lies, one_end, asker_asks, asker_own, place_there, no_place, token_cut, token_put, token_lost, state_lost, stands_own, which_end, first_stands, last_stands}
+use Rattle.gos_joining.proofs.webs.MovedLemmas.{listed}
+use Rattle.gos_joining.proofs.webs.CutLemmas.{name_by, Owns, port_own, port_lies, one_end, asker_asks, asker_own, place_there, no_place, token_cut, token_put, token_lost, state_lost, stands_own}
 use Rattle.gos_realises.proofs.realises.InputLemmas.{result_asks}
 use Rattle.gos_joining.specs.webs.Webs.{joint}
 use Rattle.gos_nodes.specs.parallel.Parallel.{IsJointOf}
@@ -210,10 +211,10 @@ module _ (r : Plan) (b : Block) (is : IsBlock r b) where
       of_joint : IsJointOf b.cut b.body there.joint.asking there.joint.serving
           → (PartEnd b.own h ≡ there.joint.asking) ⊎ (PartEnd b.own h ≡ there.joint.serving) → Owns b.body (port b h)
       of_joint (x, y, has, at, beyond) (inl one) =
-          let own = stands_own b.body (joint x y) x is.cut.right (contained b.body.joints (joint x y) has) (first_stands (joint x y)) in
+          let own = stands_own b.body (joint x y) x is.cut.right (contained b.body.joints (joint x y) has) (asking_stands (joint x y)) in
           subst (Owns b.body) (port_alone x own h (at ∙ sym one)) own
       of_joint (x, y, has, at, beyond) (inr one) =
-          let own = stands_own b.body (joint x y) y is.cut.right (contained b.body.joints (joint x y) has) (last_stands (joint x y)) in
+          let own = stands_own b.body (joint x y) y is.cut.right (contained b.body.joints (joint x y) has) (serving_stands (joint x y)) in
           subst (Owns b.body) (port_alone y own h (beyond ∙ sym one)) own
 
   pub free : places_of b.body (ResultEnd 0) ≡ None → places_of r (PartEnd b.own 0) ≡ None
@@ -255,7 +256,7 @@ module _ (r : Plan) (b : Block) (block : IsBlock r b) where
   one_held a c (inr is) (inr also) same = is ∙ sym also
 
   pub same_held : (a c : End) → Held b.body a → Held b.body c → same_end (lies_at b.cut a) (lies_at b.cut c) ≡ same_end a c
-  same_held a c held also = same_bool (same_end (lies_at b.cut a) (lies_at b.cut c)) (same_end a c) to from
+  same_held a c held also = same_tests (same_end (lies_at b.cut a) (lies_at b.cut c)) (same_end a c) to from
     where
       to : same_end (lies_at b.cut a) (lies_at b.cut c) ≡ true → same_end a c ≡ true
       to t = subst (λ (x : End). same_end a x ≡ true) (one_held a c held also (same_is (lies_at b.cut a) (lies_at b.cut c) t)) (same_itself a)

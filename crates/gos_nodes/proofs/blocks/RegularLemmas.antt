@@ -5,6 +5,7 @@
 use Rattle.std.specs.Prelude.{◌≡◌, ◌⊎◌, ℕ, Bool, true, false, All, Option, Some, None, List, [], ◌∷◌, ◌++◌}
 use Rattle.std.proofs.Common.{refl, sym, ap, subst, inl, inr, ◌∙◌}
 use Rattle.std.proofs.lemmas.Option.{same_Some}
+use Rattle.std.proofs.lemmas.List.{append-nil}
 use Rattle.gos_types.specs.declared.shakes.Role.TheVariants.{Ask}
 use Rattle.gos_types.specs.Events.{Request, Answer}
 use Rattle.gos_plan.specs.Kinds.{Contact}
@@ -19,6 +20,7 @@ use Rattle.gos_realises.specs.realises.Regular.{Pass, pass, way_in, is_open, Com
 use Rattle.gos_realises.proofs.realises.InputLemmas.{passed, InputTurns, first_turn, later_turns}
 use Rattle.gos_realises.proofs.realises.IdleLemmas.{idle_welcome}
 use Rattle.gos_realises.proofs.realises.RingLemmas.{after, OutputTurns}
+use Rattle.gos_sharing.proofs.behind.StepLemmas.{out_joined}
 use Rattle.gos_nodes.specs.windows.Nodes.{IsRestful}
 use Rattle.gos_nodes.proofs.windows.RestLemmas.{closed_rests}
 use Rattle.gos_nodes.proofs.windows.OpenLemmas.{ground_heard}
@@ -27,9 +29,9 @@ use Rattle.gos_nodes.proofs.windows.MeetLemmas.{Meets, IsUnjoined, HasPorts, hea
 use Rattle.gos_nodes.proofs.windows.TurnLemmas.{Turned, closed_turned, open_before}
 use Rattle.gos_nodes.proofs.parallel.StepLemmas.{gate, Same, Unseen, Sees, Local, fires, puts_out, takes_in}
 use Rattle.gos_nodes.proofs.parallel.LinkedLemmas.{Comes, past_all}
-use Rattle.gos_nodes.proofs.parallel.HistoryLemmas.{nil_end, passed_append, History, Grown, grow, grown, at_first}
+use Rattle.gos_nodes.proofs.parallel.HistoryLemmas.{passed_append, History, Grown, grow, grown, at_first}
 use Rattle.gos_nodes.proofs.parallel.LooseLemmas.{loose_comes, loose_contact, loose_does, own_now}
-use Rattle.gos_nodes.proofs.parallel.RegularLemmas.{comes_of_turn, outputs_before}
+use Rattle.gos_nodes.proofs.parallel.RegularLemmas.{comes_of_turn}
 use Rattle.gos_nodes.proofs.parallel.QuietLemmas.{Neat, neat_step, neat_first}
 use Rattle.gos_nodes.specs.blocks.Block.{Block, IsBlock, OpenBlockIsRegular, OpenBlockIsRestful, BlockIsRegular}
 use Rattle.gos_nodes.proofs.blocks.RegionLemmas.{body_done}
@@ -122,7 +124,7 @@ module _
         one.own_now one.comes one.opened one.rest.0 one.welcome
         (λ turned.
         output_turn r b is literals ports x s w z past own [] holds.driven holds.shared
-        (subst (λ (l : List Element). OutputsKeepTurns b.body own l) (sym (nil_end ys)) next.outputs) turned)
+        (subst (λ (l : List Element). OutputsKeepTurns b.body own l) (sym (append-nil ys)) next.outputs) turned)
       where
         ys : List Element
         ys = seen r b is literals x s w z
@@ -133,13 +135,13 @@ module _
         next : Grown b.body (Inside first) (Inside s) (Inside w) hs ys lo
         next =
             grow b.body regular (Inside first) (Inside s) (Inside w) hs ys lo body_idle holds.body
-            (subst (λ (l : List Element). Runs b.body l (Inside s) (Inside w)) (nil_end ys) (seen_runs r b is literals x s w z [] (Inside w) refl))
+            (subst (λ (l : List Element). Runs b.body l (Inside s) (Inside w)) (append-nil ys) (seen_runs r b is literals x s w z [] (Inside w) refl))
             (seen_inputs r b is ports literals x s w z past own holds.driven holds.shared holds.body.turned turn)
 
         one : Next r b is literals x s w past o [] next.now (Inside w)
         one =
             order_step r b is literals past own o lo next.now (Inside w) [] x s w z seen_so does holds.driven comes_in holds.opened holds.body.welcome
-            (subst (λ (l : List Element). OrderlyFrom b.body l lo (Inside s) next.now (Inside w)) (sym (nil_end ys)) next.piece)
+            (subst (λ (l : List Element). OrderlyFrom b.body l lo (Inside s) next.now (Inside w)) (sym (append-nil ys)) next.piece)
 
   -- an input at an end that stands in no joint
   module _
@@ -250,7 +252,7 @@ module _
   along (x ∷ xs) s t past hs o lo holds (w, does, runs) turns =
       let one = next_of x s w past hs o lo holds does (first_turn r past x xs turns) (step r b is literals x s w holds.fit does) in
       let ((u, z, rest), outputs) = along xs w t (after r x past) one.hs one.now one.lo one.holds runs (later_turns r past x xs turns) in
-      ((u, z, (one.now, w, does, one.comes, one.welcome, rest)), outputs_before r past x xs one.output outputs)
+      ((u, z, (one.now, w, does, one.comes, one.welcome, rest)), out_joined r past x xs one.output outputs)
 
   holds_first : Holds first [] [] none_open none_open
   holds_first =

@@ -16,9 +16,11 @@ use Rattle.gos_realises.specs.realises.Regular.{Pass, pass, way_in, way_out, is_
 use Rattle.gos_realises.specs.realises.Realises.{NamesDiffer}
 use Rattle.gos_realises.proofs.realises.RingLemmas.{after}
 use Rattle.gos_nodes.specs.windows.OpenNodes.{IsHeard}
-use Rattle.gos_nodes.proofs.windows.PortLemmas.{stands_place, place_stands}
+use Rattle.gos_nodes.proofs.windows.PortLemmas.{stands_place}
 use Rattle.gos_nodes.proofs.windows.MeetLemmas.{Meets, met_joined, HasPorts, AreFollowed, met_at, met_contact, met_contacts, met_import, followed_pass, alike}
 use Rattle.gos_realises.proofs.realises.InputLemmas.{InputTurns}
+use Rattle.gos_realises.proofs.realises.PassLemmas.{open_itself}
+use Rattle.gos_sharing.proofs.buffers.BranchLemmas.{place_stands}
 use Rattle.gos_nodes.proofs.windows.TurnLemmas.{Turned, closed_turned, import_kept, imports_turned, open_before, comes_so, import_result, region_turned}
 use Rattle.gos_nodes.proofs.parallel.StepLemmas.{gate, Local, fires, puts_out, takes_in}
 use Rattle.gos_nodes.proofs.parallel.LinkedLemmas.{past_all}
@@ -26,7 +28,7 @@ use Rattle.gos_nodes.specs.blocks.Block.{Block, IsBlock}
 use Rattle.gos_nodes.proofs.blocks.RegionLemmas as region
 use Rattle.gos_nodes.proofs.blocks.RegionLemmas.{body_done}
 use Rattle.gos_nodes.proofs.blocks.StepLemmas.{Step, of_body, asked, told, starts, read, write, ended, lost, IsSeen}
-use Rattle.gos_nodes.proofs.blocks.LinkedLemmas.{runs_body, Driven, when_working, past_itself, twice_same, seen, body_asked, variable_contact, ways}
+use Rattle.gos_nodes.proofs.blocks.LinkedLemmas.{runs_body, Driven, when_working, twice_same, seen, body_asked, variable_contact, ways}
 
 pub body_ports : (r : Plan) (b : Block) → IsBlock r b → IsHeard b.cut r b.body → NamesDiffer r.imports → NamesDiffer b.body.imports → HasPorts r b.cut b.body
 body_ports r b is heard whole_names names =
@@ -193,7 +195,7 @@ module _ (r : Plan) (b : Block) (is : IsBlock r b) (ports : HasPorts r b.cut b.b
         let e = ImportEnd b.place h in (
           subst (λ w. KeepsTurns b.body (pass e w ∷ own) (pass e (way_in (contact_at b.body e)))) (sym asks)
               (subst (λ w. KeepsTurns b.body (pass e Request ∷ own) (pass e w)) (sym answers) (
-                past_itself e Request own,
+                open_itself e Request own,
                 subst (KeepsTurnsOf (whole_type b.body.imports b.body.outcome))
                     (λ l m. sym (twice_same e (whole_end 0 b.body.imports m) own (variable_shut past own shared h)) l) kept,
               )),

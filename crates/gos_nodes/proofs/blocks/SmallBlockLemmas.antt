@@ -3,12 +3,14 @@ use Rattle.std.specs.Prelude.{◌≡◌, ◌⊎◌, ℕ, zero, suc, [], ◌∷�
 use Rattle.std.proofs.Common.{arith, refl, sym, ap, subst, inl, inr}
 use Rattle.std.proofs.lemmas.List.Elements.{All-nil, All-cons}
 use Rattle.std.proofs.lemmas.Option.{none-some, same_Some}
+use Rattle.gos_types.proofs.ListLemmas.{none_in_empty}
 use Rattle.gos_model.specs.Terms as terms
 use Rattle.gos_model.specs.Typing.{Imported}
 use Rattle.gos_plan.specs.Kinds.{Part, Skip, Local}
 use Rattle.gos_plan.specs.Plans.{End, PartEnd, ImportEnd, ResultEnd, Joint, contact_at, IsRight}
 use Rattle.gos_plan.specs.Tokens.{IsPortEnd}
 use Rattle.gos_plan.specs.TokenBits.{LiteralFits}
+use Rattle.gos_plan.proofs.JointLemmas.{result_is_no_import}
 use Rattle.gos_joining.specs.webs.Webs.{joint}
 use Rattle.gos_joining.specs.webs.Cutting.{lies_at, IsInside, IsOutside, StandsIn, IsCut}
 use Rattle.gos_joining.proofs.webs.SmallWebLemmas.{one_port}
@@ -16,9 +18,6 @@ use Rattle.gos_nodes.specs.parallel.Parallel.{IsJointOf, IsPartOf}
 use Rattle.gos_nodes.specs.parallel.SmallParallel.{skip_number}
 use Rattle.gos_nodes.proofs.blocks.RealisesLemmas.{block_realises}
 use Rattle.gos_nodes.specs.blocks.SmallBlocks.{skip_block, one_bit, unused, new_skip, body_outer, body_inner, body_out, NewSkipIsBlock, NewSkipIsRealised, VariableIsNeeded, WidthIsNeeded, OtherPartIsNot}
-
-none_in : {A : Type 0} (x : A) → Contains [] x → ⊥
-none_in x (n, within, e) = omega (arith, within)
 
 whole_is_right : IsRight new_skip
 whole_is_right = (((0, 0, refl, refl), refl, refl), (((0, 0, refl, refl), refl, refl), tt))
@@ -74,9 +73,6 @@ body_is_cut =
       all = all_joints;
     }
 
-no_import : (i h : ℕ) → ResultEnd 0 ≡ ImportEnd i h → ⊥
-no_import i h e = cc e
-
 one_import : (i : Imported) → Contains unused.imports i → (i ≡ one_bit) ⊎ Contains new_skip.imports i
 one_import i (zero, l, is) = inl (sym is)
 one_import i (suc n, l, is) = absurd (omega (arith, l))
@@ -104,9 +100,9 @@ new_skip_is_block =
       there = refl;
       type = refl;
       served = λ h. refl;
-      imports = λ i h apart stands. absurd (no_import i h (one_port (ImportEnd i h) tt stands));
+      imports = λ i h apart stands. absurd (result_is_no_import i h (one_port (ImportEnd i h) tt stands));
       others = one_import;
-      fresh = λ i has. absurd (none_in i has);
+      fresh = λ i has. absurd (none_in_empty i has);
       run = (0, omega arith, refl);
       joints = whole_joints;
       parts = whole_parts;

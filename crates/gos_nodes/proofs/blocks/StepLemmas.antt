@@ -5,19 +5,21 @@
 use Rattle.std.specs.Prelude.{◌≡◌, ◌⊎◌, ◌<◌, ℕ, suc, Bool, true, false, List, [], ◌∷◌, ◌++◌, Option, Some, None, All, nat_eq, slice_get, if◌then◌else◌}
 use Rattle.std.proofs.Common.{arith, refl, sym, ap, subst, inl, inr, ◌∙◌}
 use Rattle.gos_types.specs.Events.{Direction, Request, Answer}
+use Rattle.gos_model.proofs.NumberLemmas.{nat_eq_itself}
 use Rattle.gos_plan.specs.Kinds.{Part, Contact, asks}
 use Rattle.gos_plan.specs.Firing.{Phase, Rest, Active, State, Slot, Req, Ans, Token, Row, at}
 use Rattle.gos_plan.specs.Plans.{End, PartEnd, ImportEnd, ResultEnd, Plan, contact_at}
 use Rattle.gos_plan.specs.Tokens.{Tokens, Element, Fire, Out, In, places_of, held_at, with_held, token_at, with_token, with_state, with_puts, end_of, way_of, firing_of, fired, way_taken, Passes, Does, Runs}
 use Rattle.gos_plan.specs.TokenBits.{LiteralFits, AllFit}
-use Rattle.gos_plan.proofs.JointLemmas.{contained, found}
+use Rattle.gos_plan.proofs.JointLemmas.{contained, found, asking_stands, serving_stands, which_end}
 use Rattle.gos_plan.proofs.HeldLemmas.{nothing_there}
-use Rattle.gos_plan.proofs.TurnLemmas.{token_state, fired_state, nat_eq_self}
+use Rattle.gos_plan.proofs.TurnLemmas.{token_state, fired_state}
+use Rattle.gos_plan.proofs.ElementLemmas.{firing_part}
 use Rattle.gos_nodes.specs.sessions.Sessions.{bits}
 use Rattle.gos_joining.specs.webs.Webs.{joint}
 use Rattle.gos_joining.specs.webs.Cutting.{Cut, lies_at, StandsIn, cut_tokens, out_if, in_if, ins_of, firing_in, outside_firing}
 use Rattle.gos_joining.proofs.webs.MovedLemmas.{listed}
-use Rattle.gos_joining.proofs.webs.CutLemmas.{Owns, token_lost, part_there, fire_cut, stands_own, which_end, first_stands, last_stands, element_is_cut}
+use Rattle.gos_joining.proofs.webs.CutLemmas.{Owns, token_lost, fire_cut, stands_own, element_is_cut}
 use Rattle.gos_realises.proofs.realises.InputLemmas.{result_asks}
 use Rattle.gos_nodes.specs.parallel.Parallel.{IsJointOf, IsPartOf}
 use Rattle.gos_nodes.proofs.parallel.StepLemmas.{gate, result_gate, part_gate, gate_elsewhere, Local, fires, puts_out, takes_in, passes_out, passes_in, Unseen, Sees, Same}
@@ -97,7 +99,7 @@ module _ (r : Plan) (b : Block) (is : IsBlock r b) where
   gate_beside v s = ap (λ o. gate (with_held Answer o (Some v) s) Request) gate_at_part
 
   new_state : (c : State) (s : Tokens) → (with_state b.own c s).state b.own ≡ c
-  new_state c s = ap (λ (t : Bool). if t then c else s.state b.own) (nat_eq_self b.own)
+  new_state c s = ap (λ (t : Bool). if t then c else s.state b.own) (nat_eq_itself b.own)
 
   kept_state : (k : ℕ) (way : Direction) (held : Option ℕ) (s : Tokens) → (with_token r (PartEnd b.own k) way held s).state b.own ≡ s.state b.own
   kept_state k way held s = token_state r (PartEnd b.own k) way held s b.own
@@ -227,9 +229,9 @@ module _ (r : Plan) (b : Block) (is : IsBlock r b) where
 
       of_joint : (a c : End) → IsJointOf b.cut b.body a c → (ImportEnd j k ≡ a) ⊎ (ImportEnd j k ≡ c) → ⊥
       of_joint a c (x, y, has, at, beyond) (inl one) =
-          of_body_end x (stands_own b.body (joint x y) x is.cut.right (contained b.body.joints (joint x y) has) (first_stands (joint x y))) (at ∙ sym one)
+          of_body_end x (stands_own b.body (joint x y) x is.cut.right (contained b.body.joints (joint x y) has) (asking_stands (joint x y))) (at ∙ sym one)
       of_joint a c (x, y, has, at, beyond) (inr one) =
-          of_body_end y (stands_own b.body (joint x y) y is.cut.right (contained b.body.joints (joint x y) has) (last_stands (joint x y))) (beyond ∙ sym one)
+          of_body_end y (stands_own b.body (joint x y) y is.cut.right (contained b.body.joints (joint x y) has) (serving_stands (joint x y))) (beyond ∙ sym one)
 
       by_place : (o : Option End) → places_of r (ImportEnd j k) ≡ o → o ≡ None
       by_place None e = refl
@@ -346,7 +348,7 @@ module _ (r : Plan) (b : Block) (is : IsBlock r b) where
 
     fire_step : (i : ℕ) (slot : Slot) (s t : Tokens) → AllFit r s → Does r (Fire i slot) s t → Step r b (Fire i slot) s t
     fire_step i slot s t fit does =
-        let part = part_there (slice_get r.parts i) (s.state i) slot does.1 does.3 in by_part (is.parts i part.0 part.1)
+        let part = firing_part (slice_get r.parts i) (s.state i) slot does.1 does.3 in by_part (is.parts i part.0 part.1)
       where
         by_part : IsPartOf b.cut i ⊎ (i ≡ b.own) → Step r b (Fire i slot) s t
         by_part (inl (j, number)) =

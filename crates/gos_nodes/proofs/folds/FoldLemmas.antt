@@ -4,17 +4,17 @@ use Rattle.std.proofs.Common.{◌≡◌, ℕ, List, ◌⊎◌, Option, Some, inl
 use Rattle.std.proofs.lemmas.Option.{none-some, same_Some}
 use Rattle.gos_plan.specs.Kinds.{Part, Contact, asks, serves}
 use Rattle.gos_plan.specs.Plans.{End, PartEnd, ImportEnd, ResultEnd, Plan, contacts_of_part, contact_at}
+use Rattle.gos_plan.proofs.ContactLemmas.{serves_is_not_asks, part_is_there}
 use Rattle.gos_joining.specs.webs.Webs.{Dot, Tie, tie, Web, Meet, Way, here, along, Connects, joint}
 use Rattle.gos_joining.specs.webs.Cutting.{lies_at, IsOutside}
-use Rattle.gos_joining.proofs.webs.CutLemmas.{name_by, name_of, outside_name, part_at, port_lies}
-use Rattle.gos_joining.proofs.webs.WebLemmas.{serves_not_asks}
+use Rattle.gos_joining.proofs.webs.CutLemmas.{name_by, name_of, outside_name, port_lies}
 use Rattle.gos_joining.proofs.webs.WayLemmas.{way_then, way_back, mapped_way}
 use Rattle.gos_nodes.specs.windows.Regions.{Serving}
 use Rattle.gos_nodes.specs.folds.Folds.{Fold, Follows, IsFolded, IsSpare, IsFold}
 
 -- one end doesn't both ask and serve
 pub connects_two : (v : Web) (c : Plan) (a b : End) → Connects v c a b → a ≡ b → ⊥
-connects_two v c a b (q, m, asked, served, way) same = serves_not_asks q m q m (sym served ∙ (ap (contact_at c) (sym same) ∙ asked))
+connects_two v c a b (q, m, asked, served, way) same = serves_is_not_asks q m q m (sym served ∙ (ap (contact_at c) (sym same) ∙ asked))
 
 -- A dot stands for one, to which a way leads.
 pub record Leads (ts : List Tie) (x : Dot) (o : Option Dot) : Type 0 where
@@ -54,14 +54,14 @@ module _
   -- ends of the region have their handshakes in the whole, and their names
   pub laid_contact : (e : End) (k : Contact) → contact_at c e ≡ Some k → contact_at r (lies_at f.cut e) ≡ Some k
   laid_contact (PartEnd i h) k at =
-      let one = part_at (slice_get c.parts i) h k at in
+      let one = part_is_there (slice_get c.parts i) h k at in
       ap (λ (o : Option Part). slice_get (contacts_of_part o) h) ((is.parts i one.0 one.1).0 ∙ sym one.1) ∙ at
   laid_contact (ImportEnd i h) k at = (is.ports (ImportEnd i h) k tt at).2
   laid_contact (ResultEnd h) k at = (is.ports (ResultEnd h) k tt at).2
 
   pub laid_name : (e : End) (k : Contact) → contact_at c e ≡ Some k → name_of f.cut (lies_at f.cut e) ≡ Some e
   laid_name (PartEnd i h) k at =
-      let one = part_at (slice_get c.parts i) h k at in ap (name_by f.cut (f.cut.part i) h) (is.parts i one.0 one.1).1
+      let one = part_is_there (slice_get c.parts i) h k at in ap (name_by f.cut (f.cut.part i) h) (is.parts i one.0 one.1).1
   laid_name (ImportEnd i h) k at =
       let port = is.ports (ImportEnd i h) k tt at in outside_name f.cut (f.cut.outer (ImportEnd i h)) port.0 ∙ port.1
   laid_name (ResultEnd h) k at =

@@ -1,14 +1,14 @@
 -- A folded web has a plan: its joints are those of the whole whose ends stand for its own.
 use Rattle.std.specs.Prelude.{◌≡◌, ◌&&◌, Bool, true, false, not, IsTrue, List, [], ◌∷◌, ◌⊎◌, Option, Some, None, Contains, if◌then◌else◌}
-use Rattle.std.proofs.Common.{refl, sym, ◌∙◌, ap, subst, arith, inl, inr}
+use Rattle.std.proofs.Common.{refl, sym, ◌∙◌, ap, subst, inl, inr}
 use Rattle.std.proofs.lemmas.Option.{none-some, same_Some}
 use Rattle.gos_plan.specs.Kinds.{Contact, asks, serves}
 use Rattle.gos_plan.specs.Plans.{End, PartEnd, ImportEnd, ResultEnd, Joint, Plan, contact_at, same_end, stands_in, is_free, Fits, AreRight}
-use Rattle.gos_plan.proofs.JointLemmas.{IsIn, same_itself, same_is, contained}
+use Rattle.gos_plan.proofs.JointLemmas.{IsIn, same_itself, same_is, contained, free_later, which_end}
 use Rattle.gos_joining.specs.webs.Webs.{Dot, Web, Connects, WaysFit, joint, IsOfWeb}
 use Rattle.gos_joining.specs.webs.Cutting.{lies_at}
 use Rattle.gos_joining.proofs.webs.MovedLemmas.{listed}
-use Rattle.gos_joining.proofs.webs.CutLemmas.{name_of, which_end, stands_by}
+use Rattle.gos_joining.proofs.webs.CutLemmas.{name_of, stands_by}
 use Rattle.gos_nodes.specs.windows.Regions.{Serving}
 use Rattle.gos_nodes.specs.folds.Folds.{Fold, IsFold, with_joints, FoldHasPlan}
 use Rattle.gos_nodes.proofs.folds.FoldLemmas as folds
@@ -133,12 +133,6 @@ to_cut f w c (y ∷ js) j x a b (inr later) dot asking serving =
 abbrev laid : Fold → Joint → Joint
 laid f j = joint (lies_at f.cut j.asking) (lies_at f.cut j.serving)
 
-free_there : (e : End) (before : List Joint) (j : Joint) → IsIn j before → IsTrue (is_free e before) → stands_in e j ≡ true → ⊥
-free_there e [] j h free t = h
-free_there e (x ∷ xs) j (inl is) free t =
-    let u : stands_in e x ≡ true = subst (λ (y : Joint). stands_in e y ≡ true) is t in grind (arith, free, u)
-free_there e (x ∷ xs) j (inr later) free t = free_there e xs j later (grind (arith, free)) t
-
 laid_stands : (f : Fold) (e : End) (y : Joint) → stands_in e y ≡ true → stands_in (lies_at f.cut e) (laid f y) ≡ true
 laid_stands f e y t = stands_by (lies_at f.cut e) (laid f y) (either (which_end e y t))
   where
@@ -156,7 +150,7 @@ free_laid f e (y ∷ bs) before within free =
   where
     by_test : (b : Bool) → stands_in e y ≡ b → IsTrue (is_free e bs) → (not (stands_in e y) && is_free e bs) ≡ true
     by_test true t rest =
-        absurd (free_there (lies_at f.cut e) before (laid f y) (within y (inl refl)) free (laid_stands f e y t))
+        absurd (free_later (lies_at f.cut e) before (laid f y) (within y (inl refl)) free (laid_stands f e y t))
     by_test false t rest = ap (λ (b : Bool). not b && is_free e bs) t ∙ rest
 
 more_laid : (f : Fold) (bs before : List Joint) (j : Joint) → AllLaid f bs before → AllLaid f bs (j ∷ before)

@@ -5,12 +5,11 @@ use Rattle.std.proofs.lemmas.Option.{none-some, same_Some}
 use Rattle.gos_plan.specs.Kinds.{Contact, asks, serves}
 use Rattle.gos_plan.specs.Plans.{End, PartEnd, ImportEnd, ResultEnd, Joint, Plan, contact_at, same_end, stands_in, is_free}
 use Rattle.gos_plan.specs.Tokens.{IsPortEnd}
-use Rattle.gos_plan.proofs.JointLemmas.{IsIn, same_itself, same_is, stands_there, joined, contained}
+use Rattle.gos_plan.proofs.JointLemmas.{IsIn, same_itself, same_is, stands_there, joined, contained, which_end, stands_somewhere}
 use Rattle.gos_realises.specs.realises.Regular.{count}
 use Rattle.gos_joining.specs.webs.Webs.{Dot, Web, Connects, joint, IsOfWeb}
 use Rattle.gos_joining.specs.webs.Cutting.{lies_at, IsInside, StandsIn}
 use Rattle.gos_joining.proofs.webs.MovedLemmas.{listed}
-use Rattle.gos_joining.proofs.webs.CutLemmas.{which_end}
 use Rattle.gos_joining.proofs.webs.WayLemmas.{way_back}
 use Rattle.gos_sharing.specs.sharing.Sharing.{caller_end}
 use Rattle.gos_nodes.specs.windows.Regions.{Serving, IsOther, IsRegion}
@@ -27,18 +26,6 @@ free_of e (x ∷ xs) j (inr later) stands = either (stands_in e x) (is_free e xs
     either : (b d : Bool) → d ≡ false → (not b && d) ≡ false
     either true d h = refl
     either false d h = h
-
-stands_of : (e : End) (js : List Joint) → is_free e js ≡ false → (j : Joint) × IsIn j js × (stands_in e j ≡ true)
-stands_of e [] free = let no : true ≡ false = free in absurd (cc no)
-stands_of e (x ∷ xs) free = by_test (stands_in e x) refl (λ h. stands_of e xs h)
-  where
-    by_test : (b : Bool) → stands_in e x ≡ b
-        → (is_free e xs ≡ false → (j : Joint) × IsIn j xs × (stands_in e j ≡ true))
-        → (j : Joint) × IsIn j (x ∷ xs) × (stands_in e j ≡ true)
-    by_test true t further = (x, inl refl, t)
-    by_test false t further =
-        let rest : is_free e xs ≡ false = sym (ap (λ (b : Bool). not b && is_free e xs) t) ∙ free in
-        let (j, is_in, stands) = further rest in (j, inr is_in, stands)
 
 -- the ports of the joined cut
 port_true : (e : End) → IsPortEnd e → is_port e ≡ true
@@ -70,7 +57,7 @@ port_is : (outer : End → End) (c : Plan) (b e : End) (o : Option End) → port
 port_is outer c b e None h = absurd (none-some e h)
 port_is outer c b e (Some d) h =
     let (port, lies, free, same) = when_kept (is_port d) (same_end (outer d) b) (is_free d c.joints) d e h in
-    let (j, is_in, stands) = stands_of d c.joints free in
+    let (j, is_in, stands) = stands_somewhere d c.joints free in
     subst (Inner outer c b) same (port_known d port, (j, listed c.joints j is_in, stands), same_is (outer d) b lies)
 
 module _

@@ -12,7 +12,7 @@ use Rattle.gos_plan.specs.Firing.{State}
 use Rattle.gos_plan.specs.Plans.{End, PartEnd, ImportEnd, ResultEnd, Plan, contact_at}
 use Rattle.gos_plan.specs.Tokens.{Tokens, Element, Fire, Out, In, IsPortEnd, way_taken, Does, Runs}
 use Rattle.gos_realises.specs.realises.Regular.{Pass, pass, way_in, way_out, InputsKeepTurns}
-use Rattle.gos_realises.specs.realises.Matched.{label_at, shows, GoesOn, Agrees, IsMatched, program_of, RealisesDone}
+use Rattle.gos_realises.specs.realises.Matched.{label_at, shows, GoesOn, IsMatched, program_of, RealisesDone}
 use Rattle.gos_realises.specs.realises.Realises.{AllGround, NamesDiffer}
 use Rattle.gos_joining.specs.webs.Cutting.{StandsIn}
 use Rattle.gos_nodes.specs.sessions.Sessions.{Form, Session, session_of, value_of}
@@ -31,7 +31,8 @@ use Rattle.gos_nodes.proofs.nodes.SilentLemmas.{silent_inner, one_inner, inner_s
 use Rattle.gos_nodes.proofs.nodes.FrameLemmas.{IsFrame, frame_is, framed, framed_unfolds}
 use Rattle.gos_nodes.proofs.nodes.RegionLemmas.{token_stands, outside_stays, fires_goes_on, out_shown, in_shown}
 use Rattle.gos_realises.proofs.realises.InputLemmas.{in_there}
-use Rattle.gos_nodes.proofs.nodes.PortLemmas.{request_shown, answer_shown, no_other_out, no_other_in, out_held, ground_one, ground_all, among, import_port, comes_open, OpenStand, open_first, open_then}
+use Rattle.gos_realises.proofs.realises.PlaceLemmas.{ground_by}
+use Rattle.gos_nodes.proofs.nodes.PortLemmas.{request_shown, answer_shown, no_other_out, no_other_in, out_held, ground_one, among, import_port, comes_open, OpenStand, open_first, open_then}
 
 -- a child's program
 abbrev pub child : Stage → Session → Program
@@ -51,17 +52,12 @@ pub record Inner (d : ℕ) (f : Form) (g : Stage) (ys : List Element) (s : Token
   pub turns : InputsKeepTurns g.plan past ys
   pub stand : OpenStand g.plan past
 
--- where a list is matched, the state agrees with the configuration
-pub agrees_here : (p : Plan) (g : Program) (xs : List Element) (s : Tokens) (c : Config) → IsMatched p g xs s c → Agrees p g s c
-agrees_here p g [] s c h = h
-agrees_here p g (x ∷ xs) s c h = h.0
-
 no_idle : (m : Term) (s : Store) → Running m s ≡ Idle → ⊥
 no_idle m s e = cc e
 
 -- the imports of a stage are ground, and are among those of the whole
 stage_ground : (r : Plan) (d : ℕ) (g : Stage) → AllGround r.imports → IsStage r d g → AllGround g.plan.imports
-stage_ground r d g ground is = ground_all g.plan.imports (λ x there. ground_one r.imports x ground (is.imports x there))
+stage_ground r d g ground is = ground_by g.plan.imports (λ x there. ground_one r.imports x ground (is.imports x there))
 
 pub stage_among : (r : Plan) (d : ℕ) (g : Stage) → NamesDiffer r.imports → IsStage r d g → AreAmong g.plan.imports r.imports
 stage_among r d g differ is = among g.plan.imports r.imports differ is.imports

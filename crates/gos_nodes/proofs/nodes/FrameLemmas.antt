@@ -23,9 +23,6 @@ abbrev of_some : Option Session → Type 0
 of_some None = Unit {0}
 of_some (Some e) = IsFrame e.frame
 
-none_some : (e : Session) → None ≡ Some e → ⊥
-none_some e x = cc x
-
 pub frame_is : (f : Form) (p : Phase) (n : ℕ) (e : Session) → session_of f p n ≡ Some e → IsFrame e.frame
 frame_is f p n e h = subst of_some h (each f p n)
   where

@@ -1,13 +1,14 @@
 -- A node's list is matched by its term: at rest, asked, within a session, and answered.
-use Rattle.std.specs.Prelude.{◌≡◌, ◌≢◌, ◌⊎◌, ℕ, ◌^◌, ◌<◌, Bool, true, false, IsTrue, List, [], ◌∷◌, ◌++◌, Option, Some, slice_get, Contains}
+use Rattle.std.specs.Prelude.{◌≡◌, ◌≢◌, ◌⊎◌, ℕ, ◌^◌, ◌<◌, Bool, true, false, List, [], ◌∷◌, ◌++◌, Option, Some, slice_get, Contains}
 use Rattle.std.proofs.Common.{refl, sym, ap, subst, inl, inr, ◌∙◌}
 use Rattle.gos_types.specs.Types.{Type', IsDone}
 use Rattle.gos_types.specs.Events.{Request, Answer}
 use Rattle.gos_model.specs.Terms.{Term}
 use Rattle.gos_model.specs.Typing.{Typed}
 use Rattle.gos_model.specs.Stores.{Store}
-use Rattle.gos_model.specs.Labels.{given, is_output}
-use Rattle.gos_model.specs.Moves.{Program, Config, Idle, Running, Act, Showing, Unfoldings, Moves, labels, Stalled}
+use Rattle.gos_model.specs.Labels.{given}
+use Rattle.gos_model.specs.Moves.{Program, Config, Idle, Running, Act, Showing, Unfoldings, Moves, labels}
+use Rattle.gos_model.proofs.MoveLemmas.{labels_then, idle_is_stalled}
 use Rattle.gos_plan.specs.Kinds.{Part}
 use Rattle.gos_plan.specs.Firing.{Rest, State, Slot, Req, Ans, Token, Row, at, put, firing}
 use Rattle.gos_plan.specs.Plans.{PartEnd, ResultEnd, Plan}
@@ -17,6 +18,7 @@ use Rattle.gos_plan.proofs.DecidedLemmas.{one_state}
 use Rattle.gos_plan.proofs.TokenBitsLemmas.{all_stay_fit, idle_fits}
 use Rattle.gos_realises.specs.realises.Matched.{asks_on, shows, GoesOn, Agrees, IsMatched, program_of, RealisesDone}
 use Rattle.gos_realises.proofs.realises.InputLemmas.{protocol_keeps_turns, matching_suffices}
+use Rattle.gos_realises.proofs.realises.MatchedLemmas.{matched_agrees}
 use Rattle.gos_nodes.specs.sessions.Sessions.{Form, Session, bits, own_part, own_term, own_type, run_shake, value_of, session_of, Computes, LeadsOn}
 use Rattle.gos_nodes.proofs.sessions.TableLemmas.{tables_are_right}
 use Rattle.gos_programs.proofs.contexts.WideningLemmas.{sources_known, runs_known}
@@ -27,19 +29,10 @@ use Rattle.gos_nodes.specs.windows.Windows.{form_runner, seen, HoldsOnly, StirsO
 use Rattle.gos_nodes.proofs.windows.WholeLemmas.{zero_only}
 use Rattle.gos_nodes.proofs.windows.FormLemmas.{quiet_is_within, own_part_can, lists_are_staged, node_is_regular}
 use Rattle.gos_nodes.specs.nodes.Realised.{AreRealised, NodeIsMatched, NodeRealises}
-use Rattle.gos_nodes.proofs.nodes.SilentLemmas.{labels_then, unfold_first, silent_inner}
+use Rattle.gos_nodes.proofs.nodes.SilentLemmas.{unfold_first, silent_inner}
 use Rattle.gos_nodes.proofs.nodes.FrameLemmas.{frame_is, framed, framed_waits}
 use Rattle.gos_nodes.proofs.nodes.PortLemmas.{request_shown, answer_shown, answers_value}
-use Rattle.gos_nodes.proofs.nodes.ChildLemmas.{child, Inner, agrees_here, stage_among, opens, goes_within, ends}
-
--- an idle program can only wait
-run_is_no_output : (o : _) → IsTrue (is_output o) → Showing o ≡ Showing (given 0 0) → ⊥
-run_is_no_output o out e =
-    let is : o ≡ given 0 0 = cc e in
-    let no : false ≡ true = subst (λ l. IsTrue (is_output l)) is out in cc no
-
-pub idle_is_stalled : (p : Program) → Stalled p Idle
-idle_is_stalled p = (λ d move. let e = move.0 in cc e, λ o d out move. run_is_no_output o out move.0)
+use Rattle.gos_nodes.proofs.nodes.ChildLemmas.{child, Inner, stage_among, opens, goes_within, ends}
 
 pub running_is_not_idle : (m : Term) (s : Store) → Running m s ≡ Idle → ⊥
 running_is_not_idle m s e = cc e
@@ -102,7 +95,7 @@ module _
         framed_waits (child g e) whole e.frame m st (frame_is f (s.state d).phase (s.state d).number e inner.at)
         (stage_among r d g node.names (node.stages g has))
         (runs_known (child g e) inner.acts m st (sources_known g.plan.imports [] e.term e.ty inner.typed) inner.ran)
-        ((agrees_here g.plan (child g e) ys (seen g s) (Running m st) inner.matched).0 (quiet_is_within r d f gs g s node has only q)),
+        ((matched_agrees g.plan (child g e) ys (seen g s) (Running m st) inner.matched).0 (quiet_is_within r d f gs g s node has only q)),
     λ x. absurd (running_is_not_idle (e.frame m) st x),
   )
 

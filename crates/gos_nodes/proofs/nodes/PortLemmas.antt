@@ -4,7 +4,8 @@ use Rattle.std.proofs.Common.{arith, refl, sym, ap, subst, inl, inr, ◌∙◌}
 use Rattle.std.proofs.lemmas.Bool.{cond-false}
 use Rattle.gos_types.specs.declared.shakes.Role.TheVariants.{Serve}
 use Rattle.gos_types.specs.Types.{Type', Com, Exp, Var, Pair, Fun, IsGround, IsDone}
-use Rattle.gos_types.specs.Events.{Direction, Request, Answer}
+use Rattle.gos_types.specs.Events.{Direction, Answer}
+use Rattle.gos_types.proofs.ListLemmas.{none_in_empty}
 use Rattle.gos_model.specs.Terms.{Name}
 use Rattle.gos_model.specs.Typing.{Imported, Imports}
 use Rattle.gos_model.specs.Labels.{Given, Taken, given}
@@ -14,7 +15,7 @@ use Rattle.gos_plan.specs.Plans.{End, ImportEnd, ResultEnd, Plan, turned_if, con
 use Rattle.gos_plan.specs.Tokens.{Tokens, Out, In, way_put, way_taken, bits_of, token_at, Passes, Does}
 use Rattle.gos_plan.specs.TokenBits.{TokensFit}
 use Rattle.gos_plan.proofs.JointLemmas.{same_is}
-use Rattle.gos_realises.specs.realises.Regular.{Pass, pass, is_open, is_request, way_in, way_out, ComesInTurn}
+use Rattle.gos_realises.specs.realises.Regular.{Pass, pass, is_open, is_request, way_in, ComesInTurn}
 use Rattle.gos_realises.specs.realises.Matched.{port_if, event_number, label_at, shows}
 use Rattle.gos_realises.specs.realises.Realises.{AllGround, NamesDiffer}
 use Rattle.gos_realises.proofs.realises.InputLemmas.{import_serves, one_ground}
@@ -23,22 +24,10 @@ use Rattle.gos_joining.proofs.renumbered.ImportLemmas.{has_type, type_has}
 use Rattle.gos_joining.specs.webs.Cutting.{StandsIn}
 use Rattle.gos_programs.specs.contexts.Widening.{AreAmong}
 use Rattle.gos_nodes.specs.sessions.Sessions.{value_of}
+use Rattle.gos_nodes.proofs.windows.TurnLemmas.{result_way_in, result_way_out}
+use Rattle.gos_nodes.proofs.windows.WholeLemmas.{zero_only}
 
 -- the result of a command or an expression has one handshake, at which the outside asks
-asked_by : (t : Type') → IsDone t → way_in (turned_if (slice_get (contacts_of t) 0)) ≡ Request
-asked_by Com d = refl
-asked_by (Exp w) d = refl
-asked_by (Var w) d = absurd d
-asked_by (Pair a b) d = absurd d
-asked_by (Fun a b) d = absurd d
-
-answered_by : (t : Type') → IsDone t → way_out (turned_if (slice_get (contacts_of t) 0)) ≡ Answer
-answered_by Com d = refl
-answered_by (Exp w) d = refl
-answered_by (Var w) d = absurd d
-answered_by (Pair a b) d = absurd d
-answered_by (Fun a b) d = absurd d
-
 no_more : (t : Type') (h : ℕ) → IsDone t → turned_if (slice_get (contacts_of t) (suc h)) ≡ None
 no_more Com h d = refl
 no_more (Exp w) h d = refl
@@ -47,10 +36,10 @@ no_more (Pair a b) h d = absurd d
 no_more (Fun a b) h d = absurd d
 
 pub request_shown : (p : Plan) (v : ℕ) → IsDone p.outcome → shows p (In (ResultEnd 0) v) ≡ given 0 v ∷ []
-request_shown p v d = ap (λ way. record { port = Given; event = event_number way 0; value = v } ∷ []) (asked_by p.outcome d)
+request_shown p v d = ap (λ way. record { port = Given; event = event_number way 0; value = v } ∷ []) (result_way_in p.outcome d)
 
 pub answer_shown : (p : Plan) (v : ℕ) → IsDone p.outcome → shows p (Out (ResultEnd 0) v) ≡ given 1 v ∷ []
-answer_shown p v d = ap (λ way. record { port = Given; event = event_number way 0; value = v } ∷ []) (answered_by p.outcome d)
+answer_shown p v d = ap (λ way. record { port = Given; event = event_number way 0; value = v } ∷ []) (result_way_out p.outcome d)
 
 passes_nothing : (p : Plan) (e : End) (v : ℕ) (o : Option Contact) (s t : Tokens) → o ≡ None → Passes p (Out e v) o s t → ⊥
 passes_nothing p e v o s t none h = subst (λ (x : Option Contact). Passes p (Out e v) x s t) none h
@@ -75,30 +64,17 @@ out_held p e v s t (port, passes) = by_contact (contact_at p e) refl passes
     by_contact (Some c) is h = (c, is, h.0)
 
 -- imports
-none_there : {A : Type 0} (x : A) → Contains [] x → ⊥
-none_there x (k, less, e) = omega (arith, less)
-
-contains_head : {A : Type 0} (x : A) (xs : List A) → Contains (x ∷ xs) x
-contains_head x xs = (0, omega arith, refl)
-
-contains_tail : {A : Type 0} (x y : A) (xs : List A) → Contains xs y → Contains (x ∷ xs) y
-contains_tail x y xs (k, less, e) = (suc k, omega (arith, less), e)
-
 contains_cases : {A : Type 0} (x y : A) (xs : List A) → Contains (x ∷ xs) y → (x ≡ y) ⊎ Contains xs y
 contains_cases x y xs (zero, less, e) = inl e
 contains_cases x y xs (suc k, less, e) = inr (k, omega (arith, less), e)
 
 pub ground_one : (is : List Imported) (x : Imported) → AllGround is → Contains is x → IsGround x.ty
-ground_one [] x all there = absurd (none_there x there)
+ground_one [] x all there = absurd (none_in_empty x there)
 ground_one (i ∷ is) x all there =
     elim (contains_cases i x is there) [
       | inl e ↦ subst (λ (y : Imported). IsGround y.ty) e all.0
       | inr later ↦ ground_one is x all.1 later
     ]
-
-pub ground_all : (is : List Imported) → ((x : Imported) → Contains is x → IsGround x.ty) → AllGround is
-ground_all [] f = tt
-ground_all (i ∷ is) f = (f i (contains_head i is), ground_all is (λ x there. f x (contains_tail i x is there)))
 
 -- imports that are all among others of different names have their types there
 pub among : (is js : Imports) → NamesDiffer js → ((i : Imported) → Contains is i → Contains js i) → AreAmong is js
@@ -145,14 +121,11 @@ open_then p past i h way stands f j k e = by_end (same_end (ImportEnd i h) (Impo
     by_end false t = f j k (sym (cond-false (same_end (ImportEnd i h) (ImportEnd j k)) (is_request way) (is_open past (ImportEnd j k)) t) ∙ e)
 
 -- the value of an answer answers with it
-zero_fits : (v : ℕ) → v < 2 ^ 0 → v ≡ 0
-zero_fits v less = omega (arith, less)
-
 answers_by : (t : Type') (v : ℕ) (c : Contact) → IsDone t → turned_if (slice_get (contacts_of t) 0) ≡ Some c → v < 2 ^ bits_of c Answer
     → Answers (given 1 v) (value_of t v)
 answers_by Com v c d at fits =
     let bits : bits_of c Answer ≡ 0 = ap (λ o. bits_if o) (sym at) in
-    let small : v < 2 ^ 0 = subst (λ (b : ℕ). v < 2 ^ b) bits fits in inl (refl, ap (λ k. given 1 k) (zero_fits v small))
+    let small : v < 2 ^ 0 = subst (λ (b : ℕ). v < 2 ^ b) bits fits in inl (refl, ap (λ k. given 1 k) (zero_only v small))
 answers_by (Exp w) v c d at fits = inr (v, w, refl, refl)
 answers_by (Var w) v c d at fits = absurd d
 answers_by (Pair a b) v c d at fits = absurd d
@@ -162,15 +135,15 @@ pub answers_value : (p : Plan) (t : Type') (s : Tokens) (v : ℕ) → p.outcome 
     → token_at p s (ResultEnd 0) Answer ≡ Some v → Answers (given 1 v) (value_of t v)
 answers_value p t s v is d fits held = by_contact (contact_at p (ResultEnd 0)) refl
   where
-    none_there : (u : Type') → IsDone u → turned_if (slice_get (contacts_of u) 0) ≡ None → ⊥
-    none_there Com d e = cc e
-    none_there (Exp w) d e = cc e
-    none_there (Var w) d e = d
-    none_there (Pair a b) d e = d
-    none_there (Fun a b) d e = d
+    no_contact : (u : Type') → IsDone u → turned_if (slice_get (contacts_of u) 0) ≡ None → ⊥
+    no_contact Com d e = cc e
+    no_contact (Exp w) d e = cc e
+    no_contact (Var w) d e = d
+    no_contact (Pair a b) d e = d
+    no_contact (Fun a b) d e = d
 
     by_contact : (o : Option Contact) → contact_at p (ResultEnd 0) ≡ o → Answers (given 1 v) (value_of t v)
-    by_contact None e = absurd (none_there t d (ap (λ (u : Type'). turned_if (slice_get (contacts_of u) 0)) (sym is) ∙ e))
+    by_contact None e = absurd (no_contact t d (ap (λ (u : Type'). turned_if (slice_get (contacts_of u) 0)) (sym is) ∙ e))
     by_contact (Some c) e =
         answers_by t v c d (ap (λ (u : Type'). turned_if (slice_get (contacts_of u) 0)) (sym is) ∙ e)
         (fits (ResultEnd 0) c Answer v e held)

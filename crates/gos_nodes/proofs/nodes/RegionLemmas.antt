@@ -2,25 +2,25 @@
 -- shows the same.
 use Rattle.std.specs.Prelude.{◌≡◌, ◌≢◌, ℕ, true, List, [], ◌∷◌, Option, Some, None, slice_get, length, nat_eq, nat_lt}
 use Rattle.std.proofs.Common.{arith, refl, sym, ap, ◌∙◌}
-use Rattle.std.proofs.lemmas.Bool.{cond-true, cond-false}
+use Rattle.std.proofs.lemmas.Bool.{cond-true, cond-false, ne_eqb}
 use Rattle.std.proofs.lemmas.Option.{slice_get_within}
 use Rattle.gos_types.specs.Events.{Direction, Answer}
 use Rattle.gos_model.specs.Typing.{Imported}
 use Rattle.gos_model.specs.Labels.{Label}
 use Rattle.gos_model.specs.Moves.{Act}
 use Rattle.gos_plan.specs.Kinds.{Part, Contact}
-use Rattle.gos_plan.specs.Firing.{Rest, Slot, Req, Ans, State, Row, at}
+use Rattle.gos_plan.specs.Firing.{Rest, Slot, Req, Ans, State, at}
 use Rattle.gos_plan.specs.Plans.{End, PartEnd, ImportEnd, Joint, Plan, contact_at, contacts_of_import}
 use Rattle.gos_plan.specs.Tokens.{Tokens, Element, Fire, Out, In, places_of, held_at, token_at, way_taken, way_put, firing_of, Passes, Does}
-use Rattle.gos_plan.proofs.JointLemmas.{IsIn, Found, found, stands_there, contained}
+use Rattle.gos_plan.proofs.JointLemmas.{IsIn, Found, found, stands_there, contained, which_end}
 use Rattle.gos_plan.proofs.TurnLemmas.{token_state, fired_state}
+use Rattle.gos_plan.proofs.ElementLemmas.{firing_part}
 use Rattle.gos_realises.specs.realises.Regular.{way_in, way_out}
 use Rattle.gos_realises.specs.realises.Matched.{port_if, event_number, label_at, shows, GoesOn}
 use Rattle.gos_joining.specs.webs.Webs.{joint}
 use Rattle.gos_joining.specs.webs.Cutting.{Cut, lies_at, StandsIn, asks_in, cut_tokens}
 use Rattle.gos_joining.proofs.webs.MovedLemmas.{listed}
-use Rattle.gos_joining.proofs.webs.CutLemmas.{which_end, stands_cut, asks_there}
-use Rattle.gos_programs.proofs.contexts.StoreLemmas.{eq_false}
+use Rattle.gos_joining.proofs.webs.CutLemmas.{stands_cut, asks_there}
 use Rattle.gos_nodes.specs.windows.Regions.{Serving, IsRegion, whole_element}
 use Rattle.gos_nodes.specs.windows.Nodes.{Stage}
 use Rattle.gos_nodes.specs.windows.Windows.{seen}
@@ -50,10 +50,6 @@ token_same f ss r c is e (j, listing, stands) s way =
     ∙ ap (held_at s way) (sym there))
 
 -- what is outside stays as it is
-pub part_there : (o : Option Part) (q : State) (t : Slot) (row : Row) → firing_of o q t ≡ Some row → (k : Part) × (o ≡ Some k)
-part_there None q t row h = absurd (cc h)
-part_there (Some k) q t row h = (k, refl)
-
 apart_number : (f : Cut) (i j d : ℕ) → f.number i ≡ Some j → f.number d ≡ None → d ≢ i
 apart_number f i j d there none same = let clash : Some j ≡ None = sym there ∙ (ap f.number (sym same) ∙ none) in cc clash
 
@@ -68,11 +64,11 @@ comes_state p e v d (Some c) s t (fits, is) = ap (λ (u : Tokens). u.state d) is
 pub outside_stays : (r : Plan) (g : Stage) → IsRegion g.cut g.sides r g.plan → (n : ℕ) → g.cut.number n ≡ None → (y : Element) (s u t : Tokens)
     → Does g.plan y (seen g s) u → Does r (whole_element g.cut y) s t → t.state n ≡ s.state n
 outside_stays r g region n out (Fire i slot) s u t (v, row, held, by, to) (w, line, lies, fires, is_t) =
-    let there = part_there (slice_get g.plan.parts i) ((seen g s).state i) slot row by in
+    let there = firing_part (slice_get g.plan.parts i) ((seen g s).state i) slot row by in
     let other : n ≢ g.cut.part i = apart_number g.cut (g.cut.part i) i n (region.parts i there.0 there.1).1 out in
     ap (λ (x : Tokens). x.state n) is_t
     ∙ (fired_state r (g.cut.part i) line w s n
-    ∙ cond-false (nat_eq n (g.cut.part i)) (line.next w) (s.state n) (eq_false n (g.cut.part i) other))
+    ∙ cond-false (nat_eq n (g.cut.part i)) (line.next w) (s.state n) (ne_eqb n (g.cut.part i) other))
 outside_stays r g region n out (Out e v) s u t does (port, passes) = passes_state r (lies_at g.cut e) v n (contact_at r (lies_at g.cut e)) s t passes
 outside_stays r g region n out (In e v) s u t does (port, passes) = comes_state r (lies_at g.cut e) v n (contact_at r (lies_at g.cut e)) s t passes
 
@@ -88,7 +84,7 @@ pub fires_goes_on : (r : Plan) (g : Stage) → IsRegion g.cut g.sides r g.plan �
     → Does g.plan (Fire i slot) (seen g s) u → GoesOn g.plan (seen g s) (Fire i slot) acts → GoesOn r s (Fire (g.cut.part i) slot) acts
 fires_goes_on r g region i (Req h) s u t acts does k = tt
 fires_goes_on r g region i (Ans h) s u t acts (v, row, held, by, to) k = λ w line lies fires asks.
-    let there = part_there (slice_get g.plan.parts i) ((seen g s).state i) (Ans h) row by in
+    let there = firing_part (slice_get g.plan.parts i) ((seen g s).state i) (Ans h) row by in
     let stands : StandsIn g.plan (PartEnd i h) = token_stands g.plan (seen g s) (PartEnd i h) Answer v held in
     let same : token_at g.plan (seen g s) (PartEnd i h) Answer ≡ Some w =
     token_same g.cut g.sides r g.plan region (PartEnd i h) stands s Answer ∙ lies in

@@ -13,7 +13,7 @@ use Rattle.gos_nodes.proofs.nodes.PortLemmas.{answer_shown}
 use Rattle.gos_nodes.proofs.windows.KeepingLemmas.{turns_keep_protocol}
 
 -- after its answer a program is idle
-ends_idle : (p : Program) (acts : List Act) (c d : Config) (v : ℕ) → Moves p acts c d → labels acts ≡ given 1 v ∷ [] → d ≡ Idle
+pub ends_idle : (p : Program) (acts : List Act) (c d : Config) (v : ℕ) → Moves p acts c d → labels acts ≡ given 1 v ∷ [] → d ≡ Idle
 ends_idle p acts Idle d v h e =
     let event : 1 ≡ 0 = ap (λ o. o.event) (idle_shows p acts d (given 1 v) [] h e) in absurd (omega (arith, event))
 ends_idle p acts (Running m s) d v h e = (answer_last p acts m s d v h e).6

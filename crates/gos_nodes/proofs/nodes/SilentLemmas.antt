@@ -1,11 +1,12 @@
 -- Lists of moves by what they show: nothing, a request, one label, an answer.
-use Rattle.std.specs.Prelude.{◌≡◌, ◌≢◌, ℕ, zero, suc, List, [], ◌∷◌, ◌++◌}
+use Rattle.std.specs.Prelude.{◌≡◌, ◌≢◌, ℕ, List, [], ◌∷◌}
 use Rattle.std.proofs.Common.{arith, refl, sym, ap, subst, inl, inr, ◌∙◌}
 use Rattle.gos_model.specs.Terms.{Term, Import, Deref, Wait, Put}
 use Rattle.gos_model.specs.Typing.{Imports}
 use Rattle.gos_model.specs.Stores.{Store}
 use Rattle.gos_model.specs.Labels.{Given, Taken, Label, given}
 use Rattle.gos_model.specs.Moves.{Program, Config, Idle, Running, Act, Computing, Showing, Unfoldings, Answers, Move, Moves, labels}
+use Rattle.gos_model.proofs.MoveLemmas.{unfoldings_then}
 use Rattle.gos_programs.specs.contexts.Plugged.{AreInner}
 use Rattle.gos_programs.proofs.contexts.BackwardLemmas.{OneLabel}
 use Rattle.gos_programs.proofs.contexts.PluggedLemmas.{acts_of, stays_running, inner_rest}
@@ -19,12 +20,6 @@ no_tail x xs e = cc e
 
 same_head : {A : Type 0} (x y : A) (xs ys : List A) → x ∷ xs ≡ y ∷ ys → (x ≡ y) × (xs ≡ ys)
 same_head x y xs ys e = (cc, cc)
-
--- labels of two lists
-pub labels_then : (xs ys : List Act) → labels (xs ++ ys) ≡ labels xs ++ labels ys
-labels_then [] ys = refl
-labels_then (Computing ∷ xs) ys = labels_then xs ys
-labels_then (Showing o ∷ xs) ys = ap (λ ls. o ∷ ls) (labels_then xs ys)
 
 -- no label of the given port is shown
 pub silent_inner : (acts : List Act) → labels acts ≡ [] → AreInner acts
@@ -68,18 +63,18 @@ asked_first p (Showing q ∷ acts) d o (b, (is, to), hs) e =
 taken_given : (x : List ℕ) → Taken x ≡ Given → ⊥
 taken_given x e = cc e
 
-port_taken : (i : Imports) (o : Label) (a b : Term) → OneLabel i o a b → o.port ≡ Given → ⊥
-port_taken i o (Import x) b (inl (inl (h, e, et))) is = taken_given x (ap (λ l. l.port) (sym e) ∙ is)
-port_taken i o (Import x) b (inl (inr (w, h, e, et))) is = taken_given x (ap (λ l. l.port) (sym e) ∙ is)
-port_taken i o (Deref m) b (inl (x, w, em, h, e, et)) is = taken_given x (ap (λ l. l.port) (sym e) ∙ is)
-port_taken i o (Put m k) b (inl (x, w, em, h, e, et)) is = taken_given x (ap (λ l. l.port) (sym e) ∙ is)
-port_taken i o (Wait x n) b (inr (p, e, h)) is = taken_given x (sym p ∙ is)
-port_taken i o a b (inl h) is = absurd h
-port_taken i o a b (inr h) is = absurd h
+pub port_is_taken : (i : Imports) (o : Label) (a b : Term) → OneLabel i o a b → o.port ≡ Given → ⊥
+port_is_taken i o (Import x) b (inl (inl (h, e, et))) is = taken_given x (ap (λ l. l.port) (sym e) ∙ is)
+port_is_taken i o (Import x) b (inl (inr (w, h, e, et))) is = taken_given x (ap (λ l. l.port) (sym e) ∙ is)
+port_is_taken i o (Deref m) b (inl (x, w, em, h, e, et)) is = taken_given x (ap (λ l. l.port) (sym e) ∙ is)
+port_is_taken i o (Put m k) b (inl (x, w, em, h, e, et)) is = taken_given x (ap (λ l. l.port) (sym e) ∙ is)
+port_is_taken i o (Wait x n) b (inr (p, e, h)) is = taken_given x (sym p ∙ is)
+port_is_taken i o a b (inl h) is = absurd h
+port_is_taken i o a b (inr h) is = absurd h
 
 pub shown_taken : (p : Program) (o : Label) (s u : Store) (m t : Term) → Move p (Showing o) (Running m s) (Running t u) → o.port ≡ Given → ⊥
 shown_taken p o s u m t (n, v, us, h) is =
-    reached_lifted (OneLabel p.imports o) (λ a b. o.port ≡ Given → ⊥) (port_taken p.imports o) (λ c a b q. q) v t
+    reached_lifted (OneLabel p.imports o) (λ a b. o.port ≡ Given → ⊥) (port_is_taken p.imports o) (λ c a b q. q) v t
     (acts_of p.imports (Showing o) s u v t h).0 is
 
 -- its last label is its answer
@@ -119,14 +114,10 @@ no_request p (Showing o ∷ acts) m s d v (Running t u, h, hs) e =
     shown_taken p o s u m t h (ap (λ l. l.port) (same_head o (given 0 v) (labels acts) [] e).0)
 
 -- unfoldings before a move
-pub unfolds_then : (n k : ℕ) (m t u : Term) → Unfoldings n m t → Unfoldings k t u → (j : ℕ) × Unfoldings j m u
-unfolds_then zero k m t u h hs = (k, subst (λ (x : Term). Unfoldings k x u) (sym h) hs)
-unfolds_then (suc n) k m t u (v, h, hs) rest = let r = unfolds_then n k v t u hs rest in (suc r.0, (v, h, r.1))
-
 pub unfold_first : (p : Program) (a : Act) (acts : List Act) (n : ℕ) (m t : Term) (s : Store) (c : Config)
     → Unfoldings n m t → Moves p (a ∷ acts) (Running t s) c → Moves p (a ∷ acts) (Running m s) c
 unfold_first p a acts n m t s c us (b, (k, u, more, h), hs) =
-    let r = unfolds_then n k m t u us more in (b, (r.0, u, r.1, h), hs)
+    let r = unfoldings_then n k m t u us more in (b, (r.0, u, r.1, h), hs)
 
 -- an idle program shows its request first
 pub idle_shows : (p : Program) (acts : List Act) (d : Config) (o : Label) (ls : List Label) → Moves p acts Idle d → labels acts ≡ o ∷ ls → o ≡ given 0 0

@@ -1,6 +1,7 @@
 -- `skip ; skip` is a node of two stages, which realise the terms of its sessions.
-use Rattle.std.specs.Prelude.{◌≡◌, ℕ, [], Some, None, Contains}
+use Rattle.std.specs.Prelude.{◌≡◌, ℕ, [], Some, Contains}
 use Rattle.std.proofs.Common.{arith, refl, subst}
+use Rattle.std.proofs.lemmas.Option.{none-some, same_Some}
 use Rattle.gos_types.specs.Types.{Com}
 use Rattle.gos_model.specs.Terms as terms
 use Rattle.gos_model.specs.Typing.{Typed}
@@ -27,12 +28,6 @@ first_session = session 0 terms.Skip Com (λ x. terms.Seq x terms.Skip)
 abbrev second_session : Session
 second_session = session 1 terms.Skip Com (λ x. x)
 
-no_session : (e : Session) → None ≡ Some e → ⊥
-no_session e h = cc h
-
-some_session : (d e : Session) → Some d ≡ Some e → d ≡ e
-some_session d e h = cc h
-
 -- a stage for each session, which realises the session's term
 abbrev HasStage : Session → Type 0
 HasStage e =
@@ -41,10 +36,10 @@ HasStage e =
 
 stage_of : (p : Phase) (n : ℕ) (e : Session) → session_of twice_form p n ≡ Some e → HasStage e
 stage_of First n e h =
-    subst (λ (x : Session). HasStage x) (some_session first_session e h) (skip_stage first_out 0, (0, omega arith, refl), refl, refl, refl, skip_realises)
+    subst (λ (x : Session). HasStage x) (same_Some first_session e h) (skip_stage first_out 0, (0, omega arith, refl), refl, refl, refl, skip_realises)
 stage_of Second n e h =
-    subst (λ (x : Session). HasStage x) (some_session second_session e h) (skip_stage second_out 1, (1, omega arith, refl), refl, refl, refl, skip_realises)
-stage_of p n e h = absurd (no_session e h)
+    subst (λ (x : Session). HasStage x) (same_Some second_session e h) (skip_stage second_out 1, (1, omega arith, refl), refl, refl, refl, skip_realises)
+stage_of p n e h = absurd (none-some e h)
 
 pub twice_is_node : TwiceIsNode
 twice_is_node = small.twice_is_node

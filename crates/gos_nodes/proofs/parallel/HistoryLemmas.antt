@@ -1,23 +1,16 @@
 -- The list of a regular plan, so far and one piece further.
 use Rattle.std.specs.Prelude.{◌≡◌, List, [], ◌∷◌, ◌++◌}
-use Rattle.std.proofs.Common.{refl, sym, ap, subst, ◌∙◌}
+use Rattle.std.proofs.Common.{refl, sym, subst, ◌∙◌}
 use Rattle.gos_plan.specs.Plans.{Plan}
 use Rattle.gos_plan.specs.Tokens.{Tokens, Element, Fire, Out, In, Runs, IsIdle}
 use Rattle.gos_plan.specs.Orderly.{Open, none_open, AllWelcome, OrderlyFrom, IsOrderly}
 use Rattle.gos_plan.proofs.DecidedLemmas.{one_state, one_open}
+use Rattle.gos_plan.proofs.ElementLemmas.{runs_then}
 use Rattle.gos_realises.specs.realises.Regular.{Pass, InputsKeepTurns, OutputsKeepTurns, IsRegular}
 use Rattle.gos_realises.proofs.realises.InputLemmas.{passed, inputs_then, outputs_last}
 use Rattle.gos_realises.proofs.realises.RingLemmas.{after}
 use Rattle.gos_nodes.proofs.windows.TurnLemmas.{Turned}
 use Rattle.gos_nodes.proofs.parallel.LinkedLemmas.{past_all}
-
-pub nil_end : (ys : List Element) → ys ++ [] ≡ ys
-nil_end [] = refl
-nil_end (y ∷ ys) = ap (λ (l : List Element). y ∷ l) (nil_end ys)
-
-runs_append : (p : Plan) (ys zs : List Element) (s u w : Tokens) → Runs p ys s u → Runs p zs u w → Runs p (ys ++ zs) s w
-runs_append p [] zs s u w is more = subst (λ (a : Tokens). Runs p zs a w) is more
-runs_append p (y ∷ ys) zs s u w (t, one, rest) more = (t, one, runs_append p ys zs t u w rest more)
 
 passed_all : (p : Plan) (past : List Pass) (ys : List Element) → passed p past ys ≡ past_all p ys past
 passed_all p past [] = refl
@@ -80,7 +73,7 @@ grow p regular first s w hs ys o idle history runs inputs =
     }
   where
     all_runs : Runs p (hs ++ ys) first w
-    all_runs = runs_append p hs ys first s w history.runs runs
+    all_runs = runs_then p hs ys first s w history.runs runs
 
     all_inputs : InputsKeepTurns p [] (hs ++ ys)
     all_inputs = inputs_then p [] hs ys history.inputs inputs

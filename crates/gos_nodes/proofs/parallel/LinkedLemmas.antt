@@ -13,7 +13,6 @@ use Rattle.gos_plan.specs.Firing.{Phase, Rest, Both, LeftOnly, RightOnly}
 use Rattle.gos_plan.specs.Plans.{End, ImportEnd, ResultEnd, Plan, contact_at, contacts_of_import, same_end, turned_if}
 use Rattle.gos_plan.specs.Tokens.{Tokens, Element, Fire, Out, In, way_put, Does, Runs, IsIdle}
 use Rattle.gos_plan.specs.TokenBits.{LiteralFits, AllFit}
-use Rattle.gos_plan.proofs.JointLemmas.{same_is}
 use Rattle.gos_plan.proofs.TokenBitsLemmas.{all_stay_fit}
 use Rattle.gos_joining.specs.webs.Cutting.{Cut, StandsIn, cut_tokens}
 use Rattle.gos_realises.specs.realises.Regular.{Pass, pass, way_in, way_out, is_request, is_open, ComesInTurn}
@@ -21,6 +20,7 @@ use Rattle.gos_realises.specs.realises.Realises.{AllGround}
 use Rattle.gos_realises.proofs.realises.RingLemmas.{after}
 use Rattle.gos_realises.proofs.realises.ToldLemmas.{there_is}
 use Rattle.gos_realises.proofs.realises.InputLemmas.{import_serves, one_ground}
+use Rattle.gos_realises.proofs.realises.PassLemmas.{open_otherwise, same_turn}
 use Rattle.gos_nodes.specs.parallel.Parallel.{IsSide, IsParallel}
 use Rattle.gos_nodes.proofs.windows.KeepingLemmas.{InTurn}
 use Rattle.gos_nodes.proofs.parallel.RegionLemmas as region
@@ -84,15 +84,11 @@ abbrev pub past_all : Plan → List Element → List Pass → List Pass
 past_all p [] past = past
 past_all p (y ∷ ys) past = past_all p ys (after p y past)
 
-turn_append : (p : Plan) (past : List Pass) (ys zs : List Element) → InTurn p past ys → InTurn p (past_all p ys past) zs → InTurn p past (ys ++ zs)
+pub turn_append : (p : Plan) (past : List Pass) (ys zs : List Element) → InTurn p past ys → InTurn p (past_all p ys past) zs → InTurn p past (ys ++ zs)
 turn_append p past [] zs one other = other
 turn_append p past (Fire i t ∷ ys) zs one other = turn_append p past ys zs one other
 turn_append p past (Out e v ∷ ys) zs one other = turn_append p (after p (Out e v) past) ys zs one other
 turn_append p past (In e v ∷ ys) zs one other = (one.0, turn_append p (after p (In e v) past) ys zs one.1 other)
-
-same_turn : (past own : List Pass) (a b : End) (way : Direction) → is_open past a ≡ is_open own b → ComesInTurn past a way → ComesInTurn own b way
-same_turn past own a b Request same turn = sym same ∙ turn
-same_turn past own a b Answer same turn = sym same ∙ turn
 
 -- what a stage tells
 module _ (up : Bool) (ph : Phase) (ask ans : Option ℕ) where
@@ -130,17 +126,10 @@ right_not_rest : (ph : Phase) → ph ≡ RightOnly → ph ≡ Rest → ⊥
 right_not_rest ph e f = let bad : RightOnly ≡ Rest = sym e ∙ f in cc bad
 
 -- imports, after one pass
-pub past_other : (e b : End) (way : Direction) (past : List Pass) → (e ≡ b → ⊥) → is_open (pass e way ∷ past) b ≡ is_open past b
-past_other e b way past other = by_test (same_end e b) refl
-  where
-    by_test : (t : Bool) → same_end e b ≡ t → is_open (pass e way ∷ past) b ≡ is_open past b
-    by_test true t = absurd (other (same_is e b t))
-    by_test false t = ap (λ (c : Bool). if c then is_request way else is_open past b) t
-
 agree_other : (f : Cut) (p : Plan) (e : End) (way : Direction) (past own : List Pass)
     → ((i j k : ℕ) → StandsIn p (ImportEnd i k) → f.outer (ImportEnd i k) ≡ ImportEnd j k → e ≡ ImportEnd j k → ⊥)
     → ImportsAgree f p past own → ImportsAgree f p (pass e way ∷ past) own
-agree_other f p e way past own other agree i j k stands leads = past_other e (ImportEnd j k) way past (other i j k stands leads) ∙ agree i j k stands leads
+agree_other f p e way past own other agree i j k stands leads = open_otherwise e (ImportEnd j k) way past (other i j k stands leads) ∙ agree i j k stands leads
 
 agree_both : (d h : ℕ) (f : Cut) (r p : Plan) → IsSide d h f r p → (i j k : ℕ) (way : Direction) (past own : List Pass)
     → ((a b c e : ℕ) → StandsIn p (ImportEnd a c) → StandsIn p (ImportEnd b e) → same_end (f.outer (ImportEnd a c)) (f.outer (ImportEnd b e)) ≡ same_end (ImportEnd a c) (ImportEnd b e))
@@ -242,7 +231,7 @@ module _
             not_both_inner d f g r p q is b c (ImportEnd i k) (ImportEnd a c) (ap f.inner (sym e) ∙ inner_left i j k stands leads) (inner_right a b c stood led))
             linked.right_imports;
         others = λ a b none nor.
-            past_other (ImportEnd j k) (ImportEnd a b) way past
+            open_otherwise (ImportEnd j k) (ImportEnd a b) way past
             (λ e. let clash : None ≡ Some (ImportEnd i k) = sym none ∙ (ap f.inner (sym e) ∙ inner_left i j k stands leads) in cc clash)
             ∙ linked.others a b none nor;
       }
@@ -268,7 +257,7 @@ module _
             (λ a b c e one other. region.same_held d 1 g r q is.right (free_right d f g r p q is) (ImportEnd a c) (ImportEnd b e) (inl one) (inl other)) stands leads
             linked.right_imports;
         others = λ a b none nor.
-            past_other (ImportEnd j k) (ImportEnd a b) way past
+            open_otherwise (ImportEnd j k) (ImportEnd a b) way past
             (λ e. let clash : None ≡ Some (ImportEnd i k) = sym nor ∙ (ap g.inner (sym e) ∙ inner_right i j k stands leads) in cc clash)
             ∙ linked.others a b none nor;
       }

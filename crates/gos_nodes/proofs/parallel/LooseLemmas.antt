@@ -11,6 +11,7 @@ use Rattle.gos_plan.specs.Tokens.{Tokens, In, places_of, bits_of, way_put, with_
 use Rattle.gos_plan.specs.Orderly.{Open, named_by, handshake_at, with_open, after_put, ComesWell, ComesInOrder}
 use Rattle.gos_plan.specs.TokenBits.{LiteralFits}
 use Rattle.gos_plan.proofs.HeldLemmas as held
+use Rattle.gos_plan.proofs.JointLemmas.{apart_is_not_same}
 use Rattle.gos_joining.specs.webs.Cutting.{Cut, lies_at, cut_tokens}
 use Rattle.gos_joining.proofs.webs.CutLemmas.{Owns}
 use Rattle.gos_realises.specs.realises.Regular.{Pass}
@@ -21,7 +22,7 @@ use Rattle.gos_nodes.specs.parallel.Parallel.{IsSide, IsParallel}
 use Rattle.gos_nodes.proofs.parallel.RegionLemmas.{Held}
 use Rattle.gos_nodes.proofs.parallel.StepLemmas.{Same, Unseen, Sees}
 use Rattle.gos_nodes.proofs.parallel.LinkedLemmas.{left_runs, right_runs}
-use Rattle.gos_nodes.proofs.parallel.OpenLemmas.{OpenAgree, opened_so, Lies, in_part, at_import, at_driver, lies, not_same}
+use Rattle.gos_nodes.proofs.parallel.OpenLemmas.{OpenAgree, opened_so, Lies, in_part, at_import, at_driver, lies}
 use Rattle.gos_nodes.proofs.parallel.OrderLemmas.{Opened}
 
 -- in the whole
@@ -68,12 +69,12 @@ pub apart_side : (d h : ℕ) (f : Cut) (r p : Plan) → IsSide d h f r p → (k 
     → OpenAgree f p (with_open (ImportEnd k n) true o) own
 apart_side d h f r p side k n none o own agree m also =
     opened_so (same_end (lies_at f m) (ImportEnd k n)) true (o (lies_at f m))
-    (not_same (lies_at f m) (ImportEnd k n) (λ e. not_lies d h f (lies_at f m) k n (lies d h f r p side m also) none e)) ∙ agree m also
+    (apart_is_not_same (lies_at f m) (ImportEnd k n) (λ e. not_lies d h f (lies_at f m) k n (lies d h f r p side m also) none e)) ∙ agree m also
 
 pub loose_side : (d h : ℕ) (f : Cut) (r p : Plan) → IsSide d h f r p → (k n : ℕ) → f.inner (ImportEnd k n) ≡ None → (i : ℕ) → places_of p (ImportEnd i n) ≡ None
     → (o own : Open) → OpenAgree f p o own → OpenAgree f p (with_open (ImportEnd k n) true o) (with_open (ImportEnd i n) true own)
 loose_side d h f r p side k n none i own_none o own agree m also =
-    apart_side d h f r p side k n none o own agree m also ∙ sym (opened_so (same_end m (ImportEnd i n)) true (own m) (not_same m (ImportEnd i n) (λ e. not_own e also)))
+    apart_side d h f r p side k n none o own agree m also ∙ sym (opened_so (same_end m (ImportEnd i n)) true (own m) (apart_is_not_same m (ImportEnd i n) (λ e. not_own e also)))
   where
     not_own : m ≡ ImportEnd i n → Held p m → ⊥
     not_own e (inl own) =

@@ -6,8 +6,9 @@ use Rattle.gos_types.specs.Events.{Direction, Request, Answer}
 use Rattle.gos_model.specs.Terms.{Term, Skip, Par}
 use Rattle.gos_model.specs.Typing.{Imported, Typed}
 use Rattle.gos_model.specs.Stores.{Store}
-use Rattle.gos_model.specs.Labels.{Given, Taken, Label, given, is_output}
+use Rattle.gos_model.specs.Labels.{Given, Taken, Label, given}
 use Rattle.gos_model.specs.Moves.{Program, Config, Idle, Running, Act, Computing, Showing, Unfoldings, Move, Moves, labels, Stalled}
+use Rattle.gos_model.proofs.MoveLemmas.{moves_then, unfoldings_then, idle_is_stalled}
 use Rattle.gos_plan.specs.Kinds.{Contact, asks, contacts_of}
 use Rattle.gos_plan.specs.Firing.{Phase, Rest, Both, LeftOnly, RightOnly, Slot, Req, Ans, Row, at, quiet_row}
 use Rattle.gos_plan.specs.Plans.{PartEnd, ResultEnd, Plan, contact_at, turned_if}
@@ -19,6 +20,7 @@ use Rattle.gos_realises.specs.realises.Regular.{Pass, way_in, way_out, is_open}
 use Rattle.gos_realises.specs.realises.Matched.{port_if, event_number, shows, asks_on, GoesOn, Agrees, IsMatched, program_of}
 use Rattle.gos_realises.specs.realises.Realises.{AllGround}
 use Rattle.gos_realises.proofs.realises.RingLemmas.{after}
+use Rattle.gos_realises.proofs.realises.MatchedLemmas.{matched_agrees}
 use Rattle.gos_programs.specs.contexts.Contexts.{ParLeft, ParRight}
 use Rattle.gos_programs.specs.contexts.Renaming.{renamed, beside}
 use Rattle.gos_programs.specs.contexts.Widening.{Knows}
@@ -29,6 +31,7 @@ use Rattle.gos_programs.proofs.contexts.TogetherLemmas.{two_renamings, waits_tog
 use Rattle.gos_programs.specs.results.Results.{IsResult}
 use Rattle.gos_programs.proofs.results.ResultLemmas.{results_are_typed}
 use Rattle.gos_programs.proofs.contexts.EndedLemmas.{right_waits_for_ended, left_waits_for_ended}
+use Rattle.gos_programs.proofs.variables.UnfoldedLemmas.{answers_value}
 use Rattle.gos_nodes.specs.parallel.Parallel.{IsSide, IsParallel}
 use Rattle.gos_nodes.proofs.parallel.DriverLemmas.{begin_row, end_row}
 use Rattle.gos_nodes.proofs.windows.KeepingLemmas.{InTurn}
@@ -39,30 +42,21 @@ use Rattle.gos_nodes.proofs.parallel.OutputLemmas.{import_real}
 use Rattle.gos_nodes.proofs.parallel.OpenLemmas.{firing_same}
 use Rattle.gos_nodes.proofs.parallel.OrderLemmas.{par_firing}
 use Rattle.gos_nodes.proofs.parallel.QuietLemmas.{Neat, neat_step, side_quiet, whole_idle}
-use Rattle.gos_nodes.proofs.parallel.MoveLemmas.{AllTaken, inner_from, moves_then, silent_then, request_begins, Ended, answer_ends, answer_value, unfoldings_then}
-use Rattle.gos_nodes.proofs.parallel.StandLemmas.{One, Two, also_holds, Stand, rests, waits, both_run, left_alone, right_alone, is_done, silent_inner, one_moves, left_moves, right_moves, stand_left, stand_right}
+use Rattle.gos_nodes.proofs.parallel.MoveLemmas.{AllTaken, inner_from, request_begins, Ended, answer_ends}
+use Rattle.gos_nodes.proofs.parallel.StandLemmas.{One, Two, also_holds, Stand, rests, waits, both_run, left_alone, right_alone, is_done, one_moves, left_moves, right_moves, stand_left, stand_right}
+use Rattle.gos_nodes.proofs.nodes.SilentLemmas.{silent_inner}
+use Rattle.gos_nodes.proofs.nodes.MatchedLemmas.{both_silent}
 
 -- the result of a command
 skip_of : (v : Term) → (k : ℕ) × IsResult Com v k → v ≡ Skip
 skip_of v (k, inl (same, is, none)) = is
 skip_of v (k, inr (w, wrong, is, fits)) = absurd (cc wrong)
 
--- Idle can only wait
-idle_waits : (g : Program) → Stalled g Idle
-idle_waits g = ((λ e move. cc move.0), λ o e output move. shown o output (cc move.0))
-  where
-    shown : (o : Label) → is_output o ≡ true → o ≡ given 0 0 → ⊥
-    shown o output same = let bad : false ≡ true = sym (ap is_output same) ∙ output in cc bad
-
 abbrev Came : Program → Config → Type 0
 Came g c = (acts : List Act) × Moves g acts Idle c
 
 came_on : (g : Program) (acts : List Act) (c e : Config) → Came g c → Moves g acts c e → Came g e
 came_on g acts c e (before, moves) more = (before ++ acts, moves_then g before acts Idle c e moves more)
-
-matched_agrees : (a : Plan) (g : Program) (ys : List Element) (s : Tokens) (c : Config) → IsMatched a g ys s c → Agrees a g s c
-matched_agrees a g [] s c matched = matched
-matched_agrees a g (y ∷ ys) s c matched = matched.0
 
 module _
     (d : ℕ) (f g : Cut) (r p q : Plan) (is : IsParallel d f g r p q) (literals : All LiteralFits r.parts) (ground : AllGround r.imports) (m n : Term)
@@ -98,7 +92,7 @@ module _
   whole_waits : (s : Tokens) (left right c : Config) → Stood s left right c → IsQuiet r s → Agrees p on_left (cut_tokens f p s) left
       → Agrees q on_right (cut_tokens g q s) right → Came on_left left → Came on_right right → Stalled on_both c
   whole_waits s left right c (rests rest none empty left_is right_is is_idle) quiet left_agrees right_agrees left_came right_came =
-      subst (Stalled on_both) (sym is_idle) (idle_waits on_both)
+      subst (Stalled on_both) (sym is_idle) (idle_is_stalled on_both)
   whole_waits s left right c (waits rest some empty left_is right_is is_body) quiet left_agrees right_agrees left_came right_came =
       let row = begin_row (s.state d).number in
       absurd (quiet.0 d (Req 2) (fired r d row 0 s)
@@ -319,12 +313,12 @@ module _
   left_skip : (t : Term) (v : Store) (o : Label) (c : Config) → Came on_left (Running t v) → (e : Ended on_left t v o c) → e.last ≡ Skip
   left_skip t v o c came e =
       let (acts, moves) = came_on on_left e.acts (Running t v) (Running e.term e.store) came e.moves in
-      skip_of e.last (results_are_typed on_left Com acts e.term e.last e.store e.count left_typed moves e.unfolds (answer_value o e.last e.answers))
+      skip_of e.last (results_are_typed on_left Com acts e.term e.last e.store e.count left_typed moves e.unfolds (answers_value o e.last e.answers))
 
   right_skip : (t : Term) (v : Store) (o : Label) (c : Config) → Came on_right (Running t v) → (e : Ended on_right t v o c) → e.last ≡ Skip
   right_skip t v o c came e =
       let (acts, moves) = came_on on_right e.acts (Running t v) (Running e.term e.store) came e.moves in
-      skip_of e.last (results_are_typed on_right Com acts e.term e.last e.store e.count right_typed moves e.unfolds (answer_value o e.last e.answers))
+      skip_of e.last (results_are_typed on_right Com acts e.term e.last e.store e.count right_typed moves e.unfolds (answers_value o e.last e.answers))
 
   renamed_ends : (naming : ℕ → ℕ) (count : ℕ) (t u last : Term) → t ≡ u → last ≡ Skip → Unfoldings count t last → Unfoldings count (renamed naming u) Skip
   renamed_ends naming count t u last same skip unfolds =
@@ -430,7 +424,7 @@ module _
           moves =
               subst (λ (x : Config). Moves on_both (one.acts ++ other.acts) x z) (sym is_body)
               (moves_then on_both one.acts other.acts (Running (Par m n) []) e z made also_made);
-          shown = silent_then one.acts other.acts one.silent other.silent;
+          shown = both_silent one.acts other.acts one.silent other.silent;
           goes_on = tt;
           stood = both_run both none (ans ∙ empty) both_now;
           left_came = came_on on_left left_acts left left_to left_came left_made;
@@ -546,7 +540,7 @@ module _
           moves =
               moves_then on_both e.acts (Computing ∷ []) c z (Running Skip now.whole) made
               (subst (λ (x : Config). Moves on_both (Computing ∷ []) x (Running Skip now.whole)) (sym now.whole_is) (Running Skip now.whole, last, refl));
-          shown = silent_then e.acts (Computing ∷ []) e.silent refl;
+          shown = both_silent e.acts (Computing ∷ []) e.silent refl;
           goes_on = quiet_goes (Ans 0) row s (e.acts ++ Computing ∷ []) (par_firing d f g r p q is literals (Ans 0) row LeftOnly s only refl) (λ k. refl);
           stood = is_done now.whole rest' (ask ∙ none) ans e.idle right_is refl;
           left_came = came_on on_left acts left to left_came moves;
@@ -578,7 +572,7 @@ module _
           moves =
               moves_then on_both e.acts (Computing ∷ []) c z (Running Skip now.whole) made
               (subst (λ (x : Config). Moves on_both (Computing ∷ []) x (Running Skip now.whole)) (sym now.whole_is) (Running Skip now.whole, last, refl));
-          shown = silent_then e.acts (Computing ∷ []) e.silent refl;
+          shown = both_silent e.acts (Computing ∷ []) e.silent refl;
           goes_on = quiet_goes (Ans 1) row s (e.acts ++ Computing ∷ []) (par_firing d f g r p q is literals (Ans 1) row RightOnly s only refl) (λ k. refl);
           stood = is_done now.whole rest' (ask ∙ none) ans left_is e.idle refl;
           left_came = left_came;

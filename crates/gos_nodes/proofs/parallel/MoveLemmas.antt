@@ -1,16 +1,15 @@
 -- Lists of moves that match one element: how they begin and end by the labels that they show.
-use Rattle.std.specs.Prelude.{◌≡◌, ◌≢◌, ℕ, zero, suc, List, [], ◌∷◌, ◌++◌}
-use Rattle.std.proofs.Common.{refl, sym, ap, subst, inl, inr, ◌∙◌}
-use Rattle.gos_model.specs.Terms.{Name, Term, Import, Deref, Wait, Put}
-use Rattle.gos_model.specs.Typing.{Imports}
+use Rattle.std.specs.Prelude.{◌≡◌, ◌≢◌, ℕ, List, [], ◌∷◌}
+use Rattle.std.proofs.Common.{refl, sym, ap, subst, ◌∙◌}
+use Rattle.gos_model.specs.Terms.{Term}
 use Rattle.gos_model.specs.Stores.{Store}
-use Rattle.gos_model.specs.Steps.{IsValue}
-use Rattle.gos_model.specs.Labels.{Given, Taken, Label, given, taken}
+use Rattle.gos_model.specs.Labels.{Given, Label, given, taken}
 use Rattle.gos_model.specs.Moves.{Program, Config, Idle, Running, Act, Computing, Showing, Acts, Answers, Unfoldings, Moves, labels}
 use Rattle.gos_programs.specs.contexts.Plugged.{AreInner}
 use Rattle.gos_programs.proofs.contexts.BackwardLemmas.{OneLabel}
-use Rattle.gos_programs.proofs.contexts.PluggedLemmas.{acts_of, stays_running, inner_rest}
+use Rattle.gos_programs.proofs.contexts.PluggedLemmas.{acts_of}
 use Rattle.gos_programs.proofs.contexts.ReachedLemmas.{reached_lifted}
+use Rattle.gos_nodes.proofs.nodes.SilentLemmas.{port_is_taken}
 
 -- none of these labels is of the given port
 abbrev pub AllTaken : List Label → Type 0
@@ -24,26 +23,6 @@ inner_of (Showing o ∷ acts) taken = (taken.0, inner_of acts taken.1)
 
 pub inner_from : (acts : List Act) (ls : List Label) → labels acts ≡ ls → AllTaken ls → AreInner acts
 inner_from acts ls same taken = inner_of acts (subst AllTaken (sym same) taken)
-
--- lists of moves, one after another
-pub moves_then : (g : Program) (first bs : List Act) (c d e : Config) → Moves g first c d → Moves g bs d e → Moves g (first ++ bs) c e
-moves_then g [] bs c d e start more = subst (λ (x : Config). Moves g bs x e) (sym start) more
-moves_then g (a ∷ first) bs c d e (b, move, moves) more = (b, move, moves_then g first bs b d e moves more)
-
-labels_then : (first bs : List Act) → labels (first ++ bs) ≡ labels first ++ labels bs
-labels_then [] bs = refl
-labels_then (Computing ∷ first) bs = labels_then first bs
-labels_then (Showing o ∷ first) bs = λ i. o ∷ labels_then first bs i
-
-pub silent_then : (first bs : List Act) → labels first ≡ [] → labels bs ≡ [] → labels (first ++ bs) ≡ []
-silent_then first bs one other = labels_then first bs ∙ (λ i. one i ++ other i)
-
--- inner moves lead from a running term to a running term
-pub stay_running : (g : Program) (acts : List Act) (t : Term) (s : Store) (c : Config) → AreInner acts → Moves g acts (Running t s) c
-    → (u : Term) × (v : Store) × (c ≡ Running u v)
-stay_running g [] t s c inner is = (t, s, sym is)
-stay_running g (a ∷ acts) t s c inner (Idle, move, moves) = absurd (stays_running g a acts s t inner move)
-stay_running g (a ∷ acts) t s c inner (Running u v, move, moves) = stay_running g acts u v c (inner_rest a acts inner) moves
 
 -- from Idle nothing but the request comes
 pub idle_silent : (g : Program) (acts : List Act) (c : Config) → Moves g acts Idle c → labels acts ≡ [] → (acts ≡ []) × (c ≡ Idle)
@@ -73,19 +52,6 @@ request_begins g (Computing ∷ acts) c l (b, (is, to), moves) none = absurd (cc
 request_begins g (Showing o ∷ acts) c l (b, (is, to), moves) none =
     record { acts = acts; silent = rest_silent o l (labels acts) none; moves = subst (λ (x : Config). Moves g acts x c) to moves }
 
--- a label that a running term shows is of a port that it takes
-port_not : (o : Label) (x : Name) (e k : ℕ) → o.port ≡ Given → o ≡ taken x e k → ⊥
-port_not o x e k is same = let bad : Given ≡ Taken x = sym is ∙ ap (λ (l : Label). l.port) same in cc bad
-
-label_taken : (i : Imports) (o : Label) (a b : Term) → OneLabel i o a b → o.port ≡ Given → ⊥
-label_taken i o (Import x) b (inl (inl (h, e, et))) is = port_not o x 0 0 is e
-label_taken i o (Import x) b (inl (inr (w, h, e, et))) is = port_not o x 0 0 is e
-label_taken i o (Deref m) b (inl (x, w, em, h, e, et)) is = port_not o x 0 0 is e
-label_taken i o (Put m k) b (inl (x, w, em, h, e, et)) is = port_not o x 2 k is e
-label_taken i o (Wait x n) b (inr (p, e, h)) is = let bad : Given ≡ Taken x = sym is ∙ p in cc bad
-label_taken i o a b (inl h) is = h
-label_taken i o a b (inr h) is = h
-
 pub record Ended (g : Program) (t : Term) (s : Store) (o : Label) (c : Config) : Type 0 where
   pub acts : List Act
   pub silent : labels acts ≡ []
@@ -100,7 +66,7 @@ pub record Ended (g : Program) (t : Term) (s : Store) (o : Label) (c : Config) :
 
 shown_within : (g : Program) (o : Label) (s v : Store) (t u : Term) → Acts g.imports (Showing o) s v t u → o.port ≡ Given → ⊥
 shown_within g o s v t u (reached, same) is =
-    reached_lifted (OneLabel g.imports o) (λ a b. ⊥) (λ a b h. label_taken g.imports o a b h is) (λ c a b h. h) t u reached
+    reached_lifted (OneLabel g.imports o) (λ a b. ⊥) (λ a b h. port_is_taken g.imports o a b h is) (λ c a b h. h) t u reached
 
 pub answer_ends : (g : Program) (acts : List Act) (t : Term) (s : Store) (c : Config) (o : Label) → o.port ≡ Given → Moves g acts (Running t s) c
     → labels acts ≡ o ∷ [] → Ended g t s o c
@@ -137,13 +103,3 @@ answer_ends g (Showing l ∷ acts) t s c o is (Idle, (n, u, hs, h), moves) none 
 answer_ends g (Showing l ∷ acts) t s c o is (Running u v, (n, x, hs, h), moves) none =
     let same : l ≡ o = cc none in
     absurd (shown_within g l s v x u (acts_of g.imports (Showing l) s v x u h) (ap (λ (y : Label). y.port) same ∙ is))
-
--- what ends with an answer is a value
-pub answer_value : (o : Label) (t : Term) → Answers o t → IsValue t
-answer_value o t (inl (is, e)) = inl is
-answer_value o t (inr (k, w, is, e)) = inr (k, w, is)
-
--- unfoldings, one after another
-pub unfoldings_then : (n j : ℕ) (m v t : Term) → Unfoldings n m v → Unfoldings j v t → (i : ℕ) × Unfoldings i m t
-unfoldings_then zero j m v t h g = (j, subst (λ (x : Term). Unfoldings j x t) (sym h) g)
-unfoldings_then (suc n) j m v t (u, h, hs) g = let (i, k) = unfoldings_then n j u v t hs g in (suc i, (u, h, k))

@@ -4,6 +4,7 @@
 use Rattle.std.specs.Prelude.{◌≡◌, ℕ, Bool, true, false, List, [], ◌∷◌, Option, Some, None, nat_eq, nat_lt, slice_get, length, if◌then◌else◌}
 use Rattle.std.proofs.Common.{arith, refl, sym, ap, subst, inl, inr, ◌∙◌}
 use Rattle.std.proofs.lemmas.Option.{same_Some, slice_get_within}
+use Rattle.std.proofs.lemmas.Bool.{eqb-true}
 use Rattle.gos_types.specs.declared.shakes.Role.{Role}
 use Rattle.gos_types.specs.declared.shakes.Role.TheVariants.{Serve, Ask}
 use Rattle.gos_types.specs.Events.{Direction, Request, Answer}
@@ -12,7 +13,6 @@ use Rattle.gos_plan.specs.Firing.{Rest, Slot, Token, Row, at, firing}
 use Rattle.gos_plan.specs.Plans.{End, PartEnd, ImportEnd, ResultEnd, Plan, contact_at, same_end}
 use Rattle.gos_plan.specs.Tokens.{Tokens, Element, Fire, Out, In, places_of, token_at, with_token, with_state, end_of, way_of, way_taken, way_put, firing_of, Passes, Does}
 use Rattle.gos_plan.specs.Orderly.{Open, handshake_at, with_open, after_taken, after_put, ComesWell, AllComeWell, after_puts, ComesInOrder}
-use Rattle.gos_plan.proofs.JointLemmas.{same_is}
 use Rattle.gos_plan.proofs.AskingLemmas.{TakesAsking, PutsAsking, row_asks}
 use Rattle.gos_plan.proofs.ProjectionLemmas.{taken_other, puts_other}
 use Rattle.gos_joining.specs.webs.Cutting.{Cut, lies_at, StandsIn, cut_tokens}
@@ -176,13 +176,6 @@ lies d h f r p side (ResultEnd k) (inl stands) =
     at_driver (ap (λ n. f.outer (ResultEnd n)) (region.result_shake d h f r p side k stands) ∙ side.result)
 lies d h f r p side (ResultEnd k) (inr is) = at_driver (ap (lies_at f) is ∙ side.result)
 
-pub not_same : (a b : End) → (a ≡ b → ⊥) → same_end a b ≡ false
-not_same a b never = by_test (same_end a b) refl
-  where
-    by_test : (t : Bool) → same_end a b ≡ t → t ≡ false
-    by_test true e = absurd (never (same_is a b e))
-    by_test false e = refl
-
 -- a firing that comes in order: its token and its row are one
 pub comes_of : (r : Plan) (i : ℕ) (slot : Slot) (s w : Tokens) (o m : Open) (does : Does r (Fire i slot) s w)
     → AllComeWell r i (does.1.puts does.0) (after_taken r (end_of i slot) (way_of slot) o)
@@ -209,9 +202,6 @@ comes_by r i slot s w o m row does known facts v other lying firing =
     subst (λ (y : Row). AllComeWell r i (y.puts v) (after_taken r (end_of i slot) (way_of slot) o)
     (with_state i (y.next v) (with_token r (end_of i y.takes) (way_of y.takes) None s))
     × (m ≡ after_puts r i (y.puts v) (after_taken r (end_of i slot) (way_of slot) o))) same (facts v)
-
-equal_numbers : (i j : ℕ) → nat_eq i j ≡ true → i ≡ j
-equal_numbers i j e = grind (arith, e)
 
 -- what a region's element opens and closes in the whole
 module _
@@ -277,7 +267,7 @@ module _
         where
           by_test : (b : Bool) → nat_eq d (c.part j) ≡ b → b ≡ false
           by_test true e =
-              let same : d ≡ c.part j = equal_numbers d (c.part j) e in
+              let same : d ≡ c.part j = eqb-true d (c.part j) e in
               let clash : None ≡ Some j = sym side.outside ∙ (ap c.number same ∙ (side.cut.parts j k there).1) in absurd (cc clash)
           by_test false e = refl
 

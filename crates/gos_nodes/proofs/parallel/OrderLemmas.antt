@@ -15,7 +15,7 @@ use Rattle.gos_plan.specs.Plans.{End, PartEnd, ImportEnd, ResultEnd, Plan, conta
 use Rattle.gos_plan.specs.Tokens.{Tokens, Element, Fire, Out, In, places_of, held_at, token_at, with_token, with_state, end_of, shake_of, way_of, way_taken, way_put, firing_of, Does, IsIdle}
 use Rattle.gos_plan.specs.Orderly.{Open, named_by, handshake_at, none_open, with_open, after_taken, after_put, ComesWell, ComesInOrder, AllWelcome, OrderlyFrom}
 use Rattle.gos_plan.specs.TokenBits.{LiteralFits}
-use Rattle.gos_plan.proofs.JointLemmas.{same_itself}
+use Rattle.gos_plan.proofs.JointLemmas.{same_itself, apart_is_not_same}
 use Rattle.gos_plan.proofs.HeldLemmas as held
 use Rattle.gos_plan.proofs.HeldLemmas.{nothing_there}
 use Rattle.gos_plan.proofs.DecidedLemmas.{one_state}
@@ -23,13 +23,14 @@ use Rattle.gos_plan.proofs.ProjectionLemmas.{named}
 use Rattle.gos_joining.specs.webs.Cutting.{Cut, lies_at, cut_tokens}
 use Rattle.gos_realises.specs.realises.Regular.{Pass, is_request, is_open}
 use Rattle.gos_realises.proofs.realises.RingLemmas.{after}
+use Rattle.gos_sharing.proofs.cores.VariableLemmas.{apart_shakes}
 use Rattle.gos_nodes.specs.parallel.Parallel.{IsSide, IsPartOf, IsParallel}
 use Rattle.gos_nodes.proofs.parallel.RegionLemmas as region
 use Rattle.gos_nodes.proofs.parallel.RegionLemmas.{Held, result_held}
 use Rattle.gos_nodes.proofs.parallel.DriverLemmas.{begin_row, end_row}
-use Rattle.gos_nodes.proofs.parallel.StepLemmas.{gate, Same, Local, fires, puts_out, takes_in, Step, of_left, of_right, asked, told, starts, left_ends, right_ends, left_ends_all, right_ends_all, lost, Sees, Unseen, IsSeen, part_ends, Differ, free_left, free_right, not_both_inner, gate_at_result, gate_at_part, gate_apart}
+use Rattle.gos_nodes.proofs.parallel.StepLemmas.{gate, Same, Local, fires, puts_out, takes_in, Step, of_left, of_right, asked, told, starts, left_ends, right_ends, left_ends_all, right_ends_all, lost, Sees, Unseen, IsSeen, Differ, free_left, free_right, not_both_inner, gate_at_result, gate_at_part, gate_apart}
 use Rattle.gos_nodes.proofs.parallel.LinkedLemmas.{left_runs, right_runs, Stage, Driven, Comes, left_seen, right_seen, when_starting, when_working, way_asked, way_told, asked_turn}
-use Rattle.gos_nodes.proofs.parallel.OpenLemmas.{OpenAgree, IsApart, opened_so, put_agrees, taken_agrees, Lies, in_part, at_import, at_driver, lies, not_same, comes_by, firing_same, side_step}
+use Rattle.gos_nodes.proofs.parallel.OpenLemmas.{OpenAgree, IsApart, opened_so, put_agrees, taken_agrees, Lies, in_part, at_import, at_driver, lies, comes_by, firing_same, side_step}
 
 -- a token that lies at an end under its own name
 pub lies_open : (r : Plan) (e : End) (o : Open) (s : Tokens) (v : ℕ) → handshake_at r e ≡ e → held.AllFit o s → token_at r s e Answer ≡ Some v → o e ≡ true
@@ -65,7 +66,7 @@ module _
       let same : d ≡ a = cc (at, also) in
       let clash : None ≡ Some c = sym is.right.outside ∙ (ap g.number same ∙ number) in cc clash
   apart_ends b (at_driver at) (at_import a c e also inner) = let bad : PartEnd d 0 ≡ ImportEnd c e = sym at ∙ also in cc bad
-  apart_ends b (at_driver at) (at_driver also) = let same : PartEnd d 0 ≡ PartEnd d 1 = sym at ∙ also in part_ends d 0 1 zero_not_one same
+  apart_ends b (at_driver at) (at_driver also) = let same : PartEnd d 0 ≡ PartEnd d 1 = sym at ∙ also in apart_shakes d 0 1 zero_not_one same
     where
       zero_not_one : Differ 0 1
       zero_not_one e = omega (arith, e)
@@ -77,19 +78,19 @@ module _
 
   right_apart : (m : End) → Held q m → IsApart f p (lies_at g m)
   right_apart m also n held =
-      not_same (lies_at g m) (lies_at f n)
+      apart_is_not_same (lies_at g m) (lies_at f n)
       (λ e. apart_ends (lies_at f n) (lies d 0 f r p is.left n held) (subst (Lies d 1 g) e (lies d 1 g r q is.right m also)))
 
   left_apart : (m : End) → Held p m → IsApart g q (lies_at f m)
   left_apart m also n held =
-      not_same (lies_at f m) (lies_at g n)
+      apart_is_not_same (lies_at f m) (lies_at g n)
       (λ e. apart_ends (lies_at f m) (lies d 0 f r p is.left m also) (subst (Lies d 1 g) (sym e) (lies d 1 g r q is.right n held)))
 
   result_apart_left : IsApart f p (ResultEnd 0)
-  result_apart_left n held = not_same (ResultEnd 0) (lies_at f n) (λ e. not_result 0 f (lies_at f n) (lies d 0 f r p is.left n held) (sym e))
+  result_apart_left n held = apart_is_not_same (ResultEnd 0) (lies_at f n) (λ e. not_result 0 f (lies_at f n) (lies d 0 f r p is.left n held) (sym e))
 
   result_apart_right : IsApart g q (ResultEnd 0)
-  result_apart_right n held = not_same (ResultEnd 0) (lies_at g n) (λ e. not_result 1 g (lies_at g n) (lies d 1 g r q is.right n held) (sym e))
+  result_apart_right n held = apart_is_not_same (ResultEnd 0) (lies_at g n) (λ e. not_result 1 g (lies_at g n) (lies d 1 g r q is.right n held) (sym e))
 
   free_p : places_of p (ResultEnd 0) ≡ None → places_of r (PartEnd d 0) ≡ None
   free_p = free_left d f g r p q is
@@ -237,13 +238,13 @@ module _
   with_itself e b o = ap (λ (t : Bool). if t then b else o e) (same_itself e)
 
   with_other : (e n : End) (b : Bool) (o : Open) → (n ≡ e → ⊥) → with_open e b o n ≡ o n
-  with_other e n b o other = opened_so (same_end n e) b (o n) (not_same n e other)
+  with_other e n b o other = opened_so (same_end n e) b (o n) (apart_is_not_same n e other)
 
   one_not_zero : PartEnd d 1 ≡ PartEnd d 0 → ⊥
-  one_not_zero = part_ends d 1 0 (λ e. omega (arith, e))
+  one_not_zero = apart_shakes d 1 0 (λ e. omega (arith, e))
 
   zero_not_one : PartEnd d 0 ≡ PartEnd d 1 → ⊥
-  zero_not_one = part_ends d 0 1 (λ e. omega (arith, e))
+  zero_not_one = apart_shakes d 0 1 (λ e. omega (arith, e))
 
   -- no end of a region is that at which the part asks the other
   left_not_one : (n : End) → Held p n → lies_at f n ≡ PartEnd d 1 → ⊥

@@ -11,10 +11,11 @@ use Rattle.gos_plan.specs.Tokens.{Tokens, Element, Fire, Out, In, places_of, sam
 use Rattle.gos_plan.proofs.JointLemmas.{contained, found, same_is}
 use Rattle.gos_plan.proofs.HeldLemmas.{nothing_there}
 use Rattle.gos_plan.proofs.TurnLemmas.{token_state}
+use Rattle.gos_plan.proofs.ElementLemmas.{firing_part}
 use Rattle.gos_joining.specs.webs.Webs.{joint}
 use Rattle.gos_joining.specs.webs.Cutting.{Cut, lies_at, StandsIn, asks_in, cut_tokens}
 use Rattle.gos_joining.proofs.webs.MovedLemmas.{listed}
-use Rattle.gos_joining.proofs.webs.CutLemmas.{asker_asks, asks_one, asks_there, part_there}
+use Rattle.gos_joining.proofs.webs.CutLemmas.{asker_asks, asks_one, asks_there}
 use Rattle.gos_realises.proofs.realises.InputLemmas.{result_asks}
 use Rattle.gos_nodes.specs.parallel.Parallel.{IsSide, IsJointOf, IsPartOf, IsParallel}
 use Rattle.gos_nodes.proofs.parallel.RegionLemmas as region
@@ -73,7 +74,7 @@ neat_state r i k there q s neat =
 
 pub neat_step : (r : Plan) (x : Element) (s w : Tokens) → Does r x s w → Neat r s → Neat r w
 neat_step r (Fire i slot) s w (v, row, lies, by, leads) neat =
-    let (k, there) = part_there (slice_get r.parts i) (s.state i) slot row by in
+    let (k, there) = firing_part (slice_get r.parts i) (s.state i) slot row by in
     subst (Neat r) (sym leads)
     (neat_puts r i (row.puts v) (with_state i (row.next v) (with_token r (end_of i row.takes) (way_of row.takes) None s))
     (neat_state r i k there (row.next v) (with_token r (end_of i row.takes) (way_of row.takes) None s)
@@ -135,7 +136,7 @@ module _
     where
       no_fire : (j : ℕ) (t : Slot) (u : Tokens) → Does a (Fire j t) (cut_tokens c a s) u → ⊥
       no_fire j t u (v, row, lies, by, leads) =
-          let (k, there) = part_there (slice_get a.parts j) ((cut_tokens c a s).state j) t row by in
+          let (k, there) = firing_part (slice_get a.parts j) ((cut_tokens c a s).state j) t row by in
           quiet.0 (c.part j) t (fired r (c.part j) row v s) (
             v,
             row,

@@ -6,6 +6,7 @@ use Rattle.std.specs.Prelude.{◌≡◌, ◌⊎◌, ℕ, true, List, [], ◌∷�
 use Rattle.std.proofs.Common.{arith, refl, sym, ap, subst, inl, inr, ◌∙◌}
 use Rattle.gos_types.specs.Types.{Type', IsDone}
 use Rattle.gos_types.specs.Events.{Direction, Request, Answer}
+use Rattle.gos_types.proofs.BoolLemmas.{same_tests}
 use Rattle.gos_plan.specs.Kinds as kinds
 use Rattle.gos_plan.specs.Kinds.{Contact, asks, contacts_of}
 use Rattle.gos_plan.specs.Firing.{State, Token, Row, Slot}
@@ -14,7 +15,7 @@ use Rattle.gos_plan.specs.Tokens.{Tokens, Out, In, IsPortEnd, places_of, held_at
 use Rattle.gos_plan.specs.Orderly.{named_by, handshake_at}
 use Rattle.gos_plan.proofs.JointLemmas.{contained, found, joined, same_is, same_itself, stands_there}
 use Rattle.gos_joining.specs.webs.Cutting.{Cut, lies_at, StandsIn, cut_tokens}
-use Rattle.gos_joining.proofs.webs.MovedLemmas.{listed, same_bool}
+use Rattle.gos_joining.proofs.webs.MovedLemmas.{listed}
 use Rattle.gos_joining.proofs.webs.CutLemmas.{name_by, Owns, one_end, asker_asks, asker_own, place_there, no_place, token_cut, token_put, token_lost, state_lost}
 use Rattle.gos_realises.proofs.realises.InputLemmas.{result_asks}
 use Rattle.gos_nodes.specs.parallel.Parallel.{IsSide}
@@ -159,7 +160,7 @@ module _
   one_held a b (inr is) (inr also) same = is ∙ sym also
 
   pub same_held : (a b : End) → Held p a → Held p b → same_end (lies_at f a) (lies_at f b) ≡ same_end a b
-  same_held a b held also = same_bool (same_end (lies_at f a) (lies_at f b)) (same_end a b) to from
+  same_held a b held also = same_tests (same_end (lies_at f a) (lies_at f b)) (same_end a b) to from
     where
       to : same_end (lies_at f a) (lies_at f b) ≡ true → same_end a b ≡ true
       to t = subst (λ (x : End). same_end a x ≡ true) (one_held a b held also (same_is (lies_at f a) (lies_at f b) t)) (same_itself a)

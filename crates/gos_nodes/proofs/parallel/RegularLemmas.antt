@@ -5,6 +5,7 @@
 use Rattle.std.specs.Prelude.{◌≡◌, ◌⊎◌, ℕ, Bool, true, false, All, Option, Some, None, List, [], ◌∷◌, ◌++◌}
 use Rattle.std.proofs.Common.{refl, sym, ap, subst, inl, inr, ◌∙◌}
 use Rattle.std.proofs.lemmas.Option.{same_Some}
+use Rattle.std.proofs.lemmas.List.{append-nil}
 use Rattle.gos_types.specs.declared.shakes.Role.TheVariants.{Ask}
 use Rattle.gos_types.specs.Types.{IsDone}
 use Rattle.gos_plan.specs.Kinds.{Contact}
@@ -20,6 +21,7 @@ use Rattle.gos_realises.specs.realises.Regular.{Pass, pass, way_in, is_open, Com
 use Rattle.gos_realises.proofs.realises.InputLemmas.{passed, InputTurns, first_turn, later_turns}
 use Rattle.gos_realises.proofs.realises.IdleLemmas.{idle_welcome}
 use Rattle.gos_realises.proofs.realises.RingLemmas.{after, OutputTurns}
+use Rattle.gos_sharing.proofs.behind.StepLemmas.{out_joined}
 use Rattle.gos_nodes.specs.windows.Nodes.{IsRestful}
 use Rattle.gos_nodes.proofs.windows.RestLemmas.{closed_rests}
 use Rattle.gos_nodes.proofs.windows.OpenLemmas.{ground_heard}
@@ -30,7 +32,7 @@ use Rattle.gos_nodes.specs.parallel.Parallel.{IsParallel, OpenParallelIsRegular,
 use Rattle.gos_nodes.proofs.parallel.StepLemmas.{gate, Same, Unseen, Sees, Local, fires, puts_out, takes_in, Step, of_left, of_right, asked, told, starts, left_ends, right_ends, left_ends_all, right_ends_all, lost, IsSeen, step}
 use Rattle.gos_nodes.proofs.parallel.LinkedLemmas.{left_runs, right_runs, Stage, when_told, Driven, Comes, past_all, left_seen, right_seen, seen_left_runs, seen_right_runs, fits_on, driven_step, driven_first}
 use Rattle.gos_nodes.proofs.parallel.SharedLemmas.{side_ports, left_done, right_done, Owner, on_left, on_right, Shared, shared_first, left_pass, right_pass, whole_turned, shared_step, left_input, right_input, seen_inputs}
-use Rattle.gos_nodes.proofs.parallel.HistoryLemmas.{nil_end, passed_append, History, Grown, grow, grown, at_first}
+use Rattle.gos_nodes.proofs.parallel.HistoryLemmas.{passed_append, History, Grown, grow, grown, at_first}
 use Rattle.gos_nodes.proofs.parallel.OutputLemmas.{output_turn}
 use Rattle.gos_nodes.proofs.parallel.OrderLemmas.{Opened, welcome_all, peel, Next, order_step, opened_first}
 use Rattle.gos_nodes.proofs.parallel.QuietLemmas.{Neat, neat_step, neat_first, whole_idle}
@@ -40,12 +42,6 @@ pub comes_of_turn : (r : Plan) (past : List Pass) (x : Element) → InputTurns r
 comes_of_turn r past (Fire i t) turn = tt
 comes_of_turn r past (Out e v) turn = tt
 comes_of_turn r past (In e v) turn = turn.0
-
-pub outputs_before : (r : Plan) (past : List Pass) (x : Element) (xs : List Element) → OutputTurns r past x → OutputsKeepTurns r (after r x past) xs
-    → OutputsKeepTurns r past (x ∷ xs)
-outputs_before r past (Fire i t) xs one others = others
-outputs_before r past (Out e v) xs one others = (one, others)
-outputs_before r past (In e v) xs one others = others
 
 module _
     (d : ℕ) (f g : Cut) (r p q : Plan) (is : IsParallel d f g r p q) (literals : All LiteralFits r.parts) (left_ports : HasPorts r f p) (right_ports : HasPorts r g q)
@@ -147,8 +143,8 @@ module _
         one.left_rest.0 one.right_rest.0 one.left_welcome one.right_welcome
         (λ turned.
         output_turn d f g r p q is literals left_ports right_ports x s w z past lefts rights [] [] holds.driven holds.shared
-        (subst (λ (l : List Element). OutputsKeepTurns p lefts l) (sym (nil_end ys)) left.outputs)
-        (subst (λ (l : List Element). OutputsKeepTurns q rights l) (sym (nil_end zs)) right.outputs) turned)
+        (subst (λ (l : List Element). OutputsKeepTurns p lefts l) (sym (append-nil ys)) left.outputs)
+        (subst (λ (l : List Element). OutputsKeepTurns q rights l) (sym (append-nil zs)) right.outputs) turned)
       where
         ys : List Element
         ys = left_seen d f g r p q is literals x s w z
@@ -166,19 +162,19 @@ module _
         left : Grown p (Lefts first) (Lefts s) (Lefts w) hs ys lo
         left =
             grow p left_regular (Lefts first) (Lefts s) (Lefts w) hs ys lo left_idle holds.left
-            (subst (λ (l : List Element). Runs p l (Lefts s) (Lefts w)) (nil_end ys) (seen_left_runs d f g r p q is literals x s w z [] (Lefts w) refl)) inputs.0
+            (subst (λ (l : List Element). Runs p l (Lefts s) (Lefts w)) (append-nil ys) (seen_left_runs d f g r p q is literals x s w z [] (Lefts w) refl)) inputs.0
 
         right : Grown q (Rights first) (Rights s) (Rights w) ks zs ro
         right =
             grow q right_regular (Rights first) (Rights s) (Rights w) ks zs ro right_idle holds.right
-            (subst (λ (l : List Element). Runs q l (Rights s) (Rights w)) (nil_end zs) (seen_right_runs d f g r p q is literals x s w z [] (Rights w) refl)) inputs.1
+            (subst (λ (l : List Element). Runs q l (Rights s) (Rights w)) (append-nil zs) (seen_right_runs d f g r p q is literals x s w z [] (Rights w) refl)) inputs.1
 
         one : Next d f g r p q is literals x s w past o [] [] left.now (Lefts w) right.now (Rights w)
         one =
             order_step d f g r p q is literals past lefts rights o lo ro left.now right.now (Lefts w) (Rights w) [] [] x s w z seen does holds.driven comes_in holds.opened
             holds.left.welcome holds.right.welcome
-            (subst (λ (l : List Element). OrderlyFrom p l lo (Lefts s) left.now (Lefts w)) (sym (nil_end ys)) left.piece)
-            (subst (λ (l : List Element). OrderlyFrom q l ro (Rights s) right.now (Rights w)) (sym (nil_end zs)) right.piece)
+            (subst (λ (l : List Element). OrderlyFrom p l lo (Lefts s) left.now (Lefts w)) (sym (append-nil ys)) left.piece)
+            (subst (λ (l : List Element). OrderlyFrom q l ro (Rights s) right.now (Rights w)) (sym (append-nil zs)) right.piece)
 
   -- an input at an end that stands in no joint
   module _
@@ -366,7 +362,7 @@ module _
       let one =
       next x s w past hs ks o lo ro holds does (first_turn r past x xs turns) (step d f g r p q is literals x s w holds.fit does) in
       let ((u, z, rest), outputs) = along xs w t (after r x past) one.hs one.ks one.now one.lo one.ro one.holds runs (later_turns r past x xs turns) in
-      ((u, z, (one.now, w, does, one.comes, one.welcome, rest)), outputs_before r past x xs one.output outputs)
+      ((u, z, (one.now, w, does, one.comes, one.welcome, rest)), out_joined r past x xs one.output outputs)
 
   holds_first : Holds first [] [] [] none_open none_open none_open
   holds_first =

@@ -18,13 +18,15 @@ use Rattle.gos_realises.specs.realises.Realises.{NamesDiffer}
 use Rattle.gos_realises.proofs.realises.RingLemmas.{after}
 use Rattle.gos_realises.proofs.realises.ToldLemmas.{contains_at}
 use Rattle.gos_nodes.specs.windows.OpenNodes.{IsHeard}
-use Rattle.gos_nodes.proofs.windows.PortLemmas.{stands_place, place_stands}
+use Rattle.gos_nodes.proofs.windows.PortLemmas.{stands_place}
 use Rattle.gos_nodes.proofs.windows.MeetLemmas.{Meets, met_joined, HasPorts, AreFollowed, met_contact, met_contacts, met_import, own_import, followed_pass, alike}
 use Rattle.gos_realises.proofs.realises.InputLemmas.{InputTurns}
+use Rattle.gos_realises.proofs.realises.PassLemmas.{open_otherwise}
+use Rattle.gos_sharing.proofs.buffers.BranchLemmas.{place_stands}
 use Rattle.gos_nodes.proofs.windows.TurnLemmas.{Turned, closed_turned, import_kept, imports_turned, open_before, comes_so, import_result, region_turned}
 use Rattle.gos_nodes.specs.parallel.Parallel.{IsSide, IsParallel}
 use Rattle.gos_nodes.proofs.parallel.StepLemmas.{gate, Local, fires, puts_out, takes_in, Step, of_left, of_right, asked, told, starts, left_ends, right_ends, left_ends_all, right_ends_all, lost, IsSeen}
-use Rattle.gos_nodes.proofs.parallel.LinkedLemmas.{left_runs, right_runs, Driven, past_all, past_other, when_working, left_seen, right_seen, ways_left, ways_right, way_asked}
+use Rattle.gos_nodes.proofs.parallel.LinkedLemmas.{left_runs, right_runs, Driven, past_all, when_working, left_seen, right_seen, ways_left, ways_right, way_asked}
 
 pub side_ports : (d h : ℕ) (f : Cut) (r p : Plan) → IsSide d h f r p → IsHeard f r p → NamesDiffer r.imports → NamesDiffer p.imports → HasPorts r f p
 side_ports d h f r p side heard whole_names names =
@@ -98,7 +100,7 @@ module _
         right =
             record {
               same = λ j n b also at_b.
-                  shared.right.same j n b also at_b ∙ sym (past_other (ImportEnd k h) (ImportEnd b n) way past (apart j n b also at_b));
+                  shared.right.same j n b also at_b ∙ sym (open_otherwise (ImportEnd k h) (ImportEnd b n) way past (apart j n b also at_b));
               met = shared.right.met;
             };
         only = only_after k h way past (on_left i meets at) shared.only;
@@ -116,7 +118,7 @@ module _
         left =
             record {
               same = λ j n b also at_b.
-                  shared.left.same j n b also at_b ∙ sym (past_other (ImportEnd k h) (ImportEnd b n) way past (apart j n b also at_b));
+                  shared.left.same j n b also at_b ∙ sym (open_otherwise (ImportEnd k h) (ImportEnd b n) way past (apart j n b also at_b));
               met = shared.left.met;
             };
         right = followed_pass r g q right_ports rights past shared.right i h k meets at way;

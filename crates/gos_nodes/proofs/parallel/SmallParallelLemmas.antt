@@ -4,6 +4,7 @@ use Rattle.std.proofs.Common.{arith, refl, sym, ap, subst, inl, inr}
 use Rattle.std.proofs.lemmas.List.Elements.{All-nil, All-cons}
 use Rattle.std.proofs.lemmas.Option.{none-some, same_Some}
 use Rattle.gos_types.specs.Types.{Com}
+use Rattle.gos_types.proofs.ListLemmas.{none_in_empty}
 use Rattle.gos_model.specs.Terms as terms
 use Rattle.gos_model.specs.Terms.{Import}
 use Rattle.gos_model.specs.SmallPrograms.{c}
@@ -14,20 +15,18 @@ use Rattle.gos_plan.specs.Tokens.{IsPortEnd}
 use Rattle.gos_plan.specs.TokenBits.{LiteralFits}
 use Rattle.gos_plan.specs.SmallPlans.{skip_plan}
 use Rattle.gos_plan.specs.SmallCalls.{call_plan}
+use Rattle.gos_plan.proofs.JointLemmas.{which_end, result_is_no_import}
+use Rattle.gos_plan.proofs.SmallPlanLemmas.{skip_is_right}
 use Rattle.gos_joining.specs.webs.Webs.{joint}
 use Rattle.gos_joining.specs.webs.Cutting.{lies_at, IsInside, IsOutside, StandsIn, IsCut}
-use Rattle.gos_joining.proofs.webs.CutLemmas.{which_end}
 use Rattle.gos_joining.proofs.webs.LoneCutLemmas.{AreOutside, lone_is_cut}
-use Rattle.gos_joining.proofs.webs.SmallWebLemmas.{skip_is_right, one_port}
+use Rattle.gos_joining.proofs.webs.SmallWebLemmas.{one_port}
 use Rattle.gos_realises.proofs.realises.SkipLemmas.{skip_is_realised}
 use Rattle.gos_realises.proofs.realises.NameLemmas.{name_is_realised}
+use Rattle.gos_sharing.proofs.cores.VariableLemmas.{apart_shakes}
 use Rattle.gos_nodes.specs.parallel.Parallel.{IsSide, IsJointOf, IsPartOf}
 use Rattle.gos_nodes.specs.parallel.SmallParallel.{call_and_skip, call_outer, call_inner, call_out, skip_number, skip_inner, skip_out, CallAndSkipIsParallel, CallAndSkipRealises, SkipIsNotLeft, SkipIsNotBoth, OtherPartIsNot}
-use Rattle.gos_nodes.proofs.parallel.StepLemmas.{part_ends}
 use Rattle.gos_nodes.proofs.parallel.RealisesLemmas.{parallel_realises}
-
-none_in : {A : Type 0} (x : A) → Contains [] x → ⊥
-none_in x (n, within, e) = omega (arith, within)
 
 whole_is_right : IsRight call_and_skip
 whole_is_right = (((0, 0, refl, refl), refl, refl), (((0, 0, refl, refl), refl, refl), (((0, 0, refl, refl), refl, refl), tt)))
@@ -140,9 +139,6 @@ call_side =
       among = λ x t is. is;
     }
 
-no_import : (i k : ℕ) → ResultEnd 0 ≡ ImportEnd i k → ⊥
-no_import i k e = cc e
-
 skip_side : IsSide 0 1 skip_out call_and_skip skip_plan
 skip_side =
     record {
@@ -150,7 +146,7 @@ skip_side =
       outcome = refl;
       outside = refl;
       result = refl;
-      imports = λ i k stands. absurd (no_import i k (one_port (ImportEnd i k) tt stands));
+      imports = λ i k stands. absurd (result_is_no_import i k (one_port (ImportEnd i k) tt stands));
       among = λ x t is. absurd (none-some t is);
     }
 
@@ -179,23 +175,23 @@ call_and_skip_is_parallel =
       joints = whole_joints;
       parts = whole_parts;
       apart = λ i one other. none-some one.0 one.1;
-      names = λ i j one other. absurd (none_in j other);
+      names = λ i j one other. absurd (none_in_empty j other);
     }
 
 literals : All LiteralFits call_and_skip.parts
 literals = All-cons LiteralFits Par (Skip ∷ []) tt (All-cons LiteralFits Skip [] tt (All-nil LiteralFits))
 
 typed : Typed call_and_skip.imports [] (terms.Par (Import c) terms.Skip) Com
-typed = (refl, refl, refl, λ t one other. none_in t other)
+typed = (refl, refl, refl, λ t one other. none_in_empty t other)
 
 pub call_and_skip_realises : CallAndSkipRealises
 call_and_skip_realises =
     parallel_realises 0 call_out skip_out call_and_skip call_plan skip_plan (Import c) terms.Skip call_and_skip_is_parallel literals (tt, tt)
-    (λ j has. absurd (none_in j has), tt) typed name_is_realised skip_is_realised
+    (λ j has. absurd (none_in_empty j has), tt) typed name_is_realised skip_is_realised
 
 -- what it is not made of
 pub skip_is_not_left : SkipIsNotLeft
-skip_is_not_left is = part_ends 0 1 0 (λ e. omega (arith, e)) is.left.result
+skip_is_not_left is = apart_shakes 0 1 0 (λ e. omega (arith, e)) is.left.result
 
 pub skip_is_not_both : SkipIsNotBoth
 skip_is_not_both is = is.apart 1 (0, refl) (0, refl)

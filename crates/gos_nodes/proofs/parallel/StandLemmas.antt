@@ -3,11 +3,11 @@
 --
 -- A side that has ended stands as a term that unfolds to `skip`, since no move of the whole unfolds it.
 use Rattle.std.specs.Prelude.{◌≡◌, ◌≢◌, ℕ, List, [], ◌∷◌, Option, Some, None}
-use Rattle.std.proofs.Common.{refl, sym, ap, subst}
+use Rattle.std.proofs.Common.{refl, sym, subst}
 use Rattle.gos_model.specs.Terms.{Term, Skip, Par}
 use Rattle.gos_model.specs.Stores.{Store}
-use Rattle.gos_model.specs.Labels.{Label, given}
-use Rattle.gos_model.specs.Moves.{Program, Config, Idle, Running, Act, Computing, Showing, Unfoldings, Moves, labels}
+use Rattle.gos_model.specs.Moves.{Program, Config, Idle, Running, Act, Unfoldings, Moves}
+use Rattle.gos_model.proofs.MoveLemmas.{no_moves}
 use Rattle.gos_plan.specs.Firing.{Phase, Rest, Both, LeftOnly, RightOnly}
 use Rattle.gos_programs.specs.contexts.Contexts.{Context, ParLeft, ParRight, plug}
 use Rattle.gos_programs.specs.contexts.Plugged.{AreInner}
@@ -15,7 +15,8 @@ use Rattle.gos_programs.specs.contexts.Renaming.{renamed, IsInjective, IsFreeOf,
 use Rattle.gos_programs.specs.contexts.Widening.{AreAmong}
 use Rattle.gos_programs.specs.contexts.Together.{Holds}
 use Rattle.gos_programs.proofs.contexts.TogetherLemmas.{holds_both, moves_together}
-use Rattle.gos_nodes.proofs.parallel.MoveLemmas.{inner_from, stay_running}
+use Rattle.gos_programs.proofs.contexts.InnerLemmas.{idle_inner}
+use Rattle.gos_nodes.proofs.nodes.SilentLemmas.{inner_stays}
 
 -- one side runs, and the other has ended
 pub record One (ctx : Term → Context) (own c : Config) : Type 0 where
@@ -66,26 +67,13 @@ pub data Stand (body : Term) (ph : Phase) (ask ans : Option ℕ) (left right c :
   right_alone : ph ≡ RightOnly → ask ≡ None → ans ≡ None → left ≡ Idle → One ParRight right c → Stand body ph ask ans left right c
   is_done : (x : Store) → ph ≡ Rest → ask ≡ None → ans ≡ Some 0 → left ≡ Idle → right ≡ Idle → c ≡ Running Skip x → Stand body ph ask ans left right c
 
--- from Idle no inner move leads
-idle_inner : (g : Program) (acts : List Act) (c : Config) → AreInner acts → Moves g acts Idle c → (acts ≡ []) × (c ≡ Idle)
-idle_inner g [] c inner moves = (refl, sym moves)
-idle_inner g (Computing ∷ acts) c inner (b, (is, to), moves) = absurd (cc is)
-idle_inner g (Showing o ∷ acts) c inner (b, (is, to), moves) =
-    let one : o ≡ given 0 0 = cc is in absurd (inner.0 (ap (λ (l : Label). l.port) one))
-
-pub silent_inner : (acts : List Act) → labels acts ≡ [] → AreInner acts
-silent_inner acts none = inner_from acts [] none tt
-
-no_moves : (g : Program) (acts : List Act) (c : Config) → acts ≡ [] → Moves g acts c c
-no_moves g acts c none = subst (λ (as' : List Act). Moves g as' c c) (sym none) refl
-
 -- a side moves, within the whole
 pub one_moves : (ctx : Term → Context) (g whole : Program) (acts : List Act) (own next c : Config) → AreAmong g.imports whole.imports → AreInner acts
     → One ctx own c
     → Moves g acts own next → (e : Config) × Moves whole acts c e × One ctx next e
 one_moves ctx g whole acts own next c among inner one moves =
     let from_own = subst (λ (x : Config). Moves g acts x next) one.own_is moves in
-    let (u, v, is) = stay_running g acts one.term one.store next inner from_own in
+    let (u, v, is) = inner_stays g acts one.term one.store next inner from_own in
     let to = subst (λ (x : Config). Moves g acts (Running one.term one.store) x) is from_own in
     let (y, holds, made) =
     moves_together g whole (ctx one.other ∷ []) one.naming one.rest acts one.store v one.whole one.term u among one.holds inner to in (
@@ -110,7 +98,7 @@ pub left_moves : (g whole : Program) (acts : List Act) (left right next c : Conf
     → Moves g acts left next → (e : Config) × Moves whole acts c e × Two next right e
 left_moves g whole acts left right next c among inner two moves =
     let from_own = subst (λ (x : Config). Moves g acts x next) two.left_is moves in
-    let (u, v, is) = stay_running g acts two.first two.first_store next inner from_own in
+    let (u, v, is) = inner_stays g acts two.first two.first_store next inner from_own in
     let to = subst (λ (x : Config). Moves g acts (Running two.first two.first_store) x) is from_own in
     let (y, holds, made) =
     moves_together g whole (ParLeft (renamed two.other_naming two.second) ∷ []) two.naming (beside two.other_naming two.second_store two.rest) acts two.first_store v
@@ -143,7 +131,7 @@ pub right_moves : (g whole : Program) (acts : List Act) (left right next c : Con
     → Moves g acts right next → (e : Config) × Moves whole acts c e × Two left next e
 right_moves g whole acts left right next c among inner two moves =
     let from_own = subst (λ (x : Config). Moves g acts x next) two.right_is moves in
-    let (u, v, is) = stay_running g acts two.second two.second_store next inner from_own in
+    let (u, v, is) = inner_stays g acts two.second two.second_store next inner from_own in
     let to = subst (λ (x : Config). Moves g acts (Running two.second two.second_store) x) is from_own in
     let (y, holds, made) =
     moves_together g whole (ParRight (renamed two.naming two.first) ∷ []) two.other_naming (beside two.naming two.first_store two.rest) acts two.second_store v

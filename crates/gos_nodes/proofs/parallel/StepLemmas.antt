@@ -7,20 +7,23 @@ use Rattle.std.proofs.Common.{arith, refl, sym, ap, subst, inl, inr, ◌∙◌}
 use Rattle.gos_types.specs.Types.{Type', IsDone}
 use Rattle.gos_types.specs.Events.{Direction, Request, Answer}
 use Rattle.gos_model.specs.Typing.{Imported}
+use Rattle.gos_model.proofs.NumberLemmas.{nat_eq_itself}
 use Rattle.gos_plan.specs.Kinds.{Part, Contact, asks, contacts_of}
 use Rattle.gos_plan.specs.Firing.{Rest, Both, LeftOnly, RightOnly, State, Slot, Req, Ans, Token, Row, at, quiet_row}
 use Rattle.gos_plan.specs.Plans.{End, PartEnd, ImportEnd, ResultEnd, Joint, Plan, IsRight, contact_at, same_end, stands_in, turned_if}
 use Rattle.gos_plan.specs.Tokens.{Tokens, Element, Fire, Out, In, places_of, same_way, held_at, with_held, token_at, with_token, with_state, with_puts, end_of, way_of, firing_of, fired, way_taken, Passes, Does, Runs}
 use Rattle.gos_plan.specs.TokenBits.{LiteralFits, AllFit}
-use Rattle.gos_plan.proofs.JointLemmas.{contained, found, has_place, joined, one_joint, same_is, stands_there}
+use Rattle.gos_plan.proofs.JointLemmas.{contained, found, has_place, joined, one_joint, same_is, stands_there, asking_stands, serving_stands, which_end}
 use Rattle.gos_plan.proofs.HeldLemmas.{nothing_there}
-use Rattle.gos_plan.proofs.TurnLemmas.{token_state, fired_state, nat_eq_self}
+use Rattle.gos_plan.proofs.TurnLemmas.{token_state, fired_state}
+use Rattle.gos_plan.proofs.ElementLemmas.{firing_part}
 use Rattle.gos_joining.specs.webs.Webs.{joint}
 use Rattle.gos_joining.specs.webs.Cutting.{Cut, lies_at, StandsIn, cut_tokens, out_if, in_if}
 use Rattle.gos_joining.proofs.webs.MovedLemmas.{listed}
-use Rattle.gos_joining.proofs.webs.CutLemmas.{Owns, token_lost, part_there, fire_cut, stands_own, which_end, first_stands, last_stands, element_is_cut}
+use Rattle.gos_joining.proofs.webs.CutLemmas.{Owns, token_lost, fire_cut, stands_own, element_is_cut}
 use Rattle.gos_realises.proofs.realises.ToldLemmas.{there_is, contains_at}
 use Rattle.gos_realises.proofs.realises.InputLemmas.{result_asks}
+use Rattle.gos_sharing.proofs.cores.VariableLemmas.{apart_shakes}
 use Rattle.gos_nodes.specs.parallel.Parallel.{IsSide, IsJointOf, IsPartOf, IsParallel}
 use Rattle.gos_nodes.proofs.parallel.DriverLemmas.{begin_row, end_row, ParRow, begins, left_first, right_first, left_last, right_last, par_row}
 use Rattle.gos_nodes.proofs.parallel.RegionLemmas as region
@@ -114,17 +117,17 @@ free_side d h f r p side whose none = by_place (places_of r (PartEnd d h)) refl
     standing : (x y : End) → Contains p.joints (joint x y) → (ResultEnd 0 ≡ x) ⊎ (ResultEnd 0 ≡ y) → ⊥
     standing x y has (inl is) =
         has_place p.joints (joint x y) (ResultEnd 0) (contained p.joints (joint x y) has)
-        (subst (λ (e : End). stands_in e (joint x y) ≡ true) (sym is) (first_stands (joint x y))) none
+        (subst (λ (e : End). stands_in e (joint x y) ≡ true) (sym is) (asking_stands (joint x y))) none
     standing x y has (inr is) =
         has_place p.joints (joint x y) (ResultEnd 0) (contained p.joints (joint x y) has)
-        (subst (λ (e : End). stands_in e (joint x y) ≡ true) (sym is) (last_stands (joint x y))) none
+        (subst (λ (e : End). stands_in e (joint x y) ≡ true) (sym is) (serving_stands (joint x y))) none
 
     own_end : (j : Joint) → (PartEnd d h ≡ j.asking) ⊎ (PartEnd d h ≡ j.serving) → IsJointOf f p j.asking j.serving → ⊥
     own_end j (inl is) (x, y, has, at, beyond) =
-        let own = stands_own p (joint x y) x side.cut.right (contained p.joints (joint x y) has) (first_stands (joint x y)) in
+        let own = stands_own p (joint x y) x side.cut.right (contained p.joints (joint x y) has) (asking_stands (joint x y)) in
         standing x y has (inl (sym (region.result_alone d h f r p side x own (at ∙ sym is))))
     own_end j (inr is) (x, y, has, at, beyond) =
-        let own = stands_own p (joint x y) y side.cut.right (contained p.joints (joint x y) has) (last_stands (joint x y)) in
+        let own = stands_own p (joint x y) y side.cut.right (contained p.joints (joint x y) has) (serving_stands (joint x y)) in
         standing x y has (inr (sym (region.result_alone d h f r p side y own (beyond ∙ sym is))))
 
     by_place : (o : Option End) → places_of r (PartEnd d h) ≡ o → o ≡ None
@@ -154,15 +157,12 @@ driver_end d h f r p side (ResultEnd n) stands k is =
 not_its : (d h k : ℕ) (f : Cut) (r p : Plan) → IsSide d h f r p → (k ≡ h → ⊥) → (a b : End) → IsJointOf f p a b → (PartEnd d k ≡ a → ⊥) × (PartEnd d k ≡ b → ⊥)
 not_its d h k f r p side other a b (x, y, has, at, beyond) = (
   λ is.
-      let own = stands_own p (joint x y) x side.cut.right (contained p.joints (joint x y) has) (first_stands (joint x y)) in
+      let own = stands_own p (joint x y) x side.cut.right (contained p.joints (joint x y) has) (asking_stands (joint x y)) in
       other (driver_end d h f r p side x own k (at ∙ sym is)),
   λ is.
-      let own = stands_own p (joint x y) y side.cut.right (contained p.joints (joint x y) has) (last_stands (joint x y)) in
+      let own = stands_own p (joint x y) y side.cut.right (contained p.joints (joint x y) has) (serving_stands (joint x y)) in
       other (driver_end d h f r p side y own k (beyond ∙ sym is)),
 )
-
-pub part_ends : (d k n : ℕ) → (k ≡ n → ⊥) → PartEnd d k ≡ PartEnd d n → ⊥
-part_ends d k n other e = let same : k ≡ n = cc e in other same
 
 abbrev pub Differ : ℕ → ℕ → Type 0
 Differ k n = k ≡ n → ⊥
@@ -182,10 +182,10 @@ module _ (r : Plan) (d run : ℕ) (right : IsRight r) (has : Contains r.joints (
   run_joint = joint (ResultEnd 0) (PartEnd d run)
 
   pub result_gate : places_of r (ResultEnd 0) ≡ Some (ResultEnd 0)
-  result_gate = stands_there r run_joint (ResultEnd 0) right (contained r.joints run_joint has) (first_stands run_joint)
+  result_gate = stands_there r run_joint (ResultEnd 0) right (contained r.joints run_joint has) (asking_stands run_joint)
 
   pub part_gate : places_of r (PartEnd d run) ≡ Some (ResultEnd 0)
-  part_gate = stands_there r run_joint (PartEnd d run) right (contained r.joints run_joint has) (last_stands run_joint)
+  part_gate = stands_there r run_joint (PartEnd d run) right (contained r.joints run_joint has) (serving_stands run_joint)
 
   place_apart : (w t : Bool) (held old : Option ℕ) → t ≡ false → (if w && t then held else old) ≡ old
   place_apart true t held old e = ap (λ (b : Bool). if b then held else old) e
@@ -199,10 +199,10 @@ module _ (r : Plan) (d run : ℕ) (right : IsRight r) (has : Contains r.joints (
       never a named at =
           let there = found r.joints e a named in
           let asks_there : stands_in (ResultEnd 0) there.joint ≡ true =
-          subst (λ (x : End). stands_in x there.joint ≡ true) (there.named ∙ sym at) (first_stands there.joint) in
+          subst (λ (x : End). stands_in x there.joint ≡ true) (there.named ∙ sym at) (asking_stands there.joint) in
           let one : there.joint ≡ run_joint =
           one_joint r [] r.joints there.joint run_joint (ResultEnd 0) right there.is_in (contained r.joints run_joint has) asks_there
-          (first_stands run_joint) in
+          (asking_stands run_joint) in
           elim (which_end e run_joint (subst (λ (j : Joint). stands_in e j ≡ true) one there.stands)) [ inl at_result ↦ not_result at_result | inr at_part ↦ not_part at_part ]
 
       differs : (a : End) → places_of r e ≡ Some a → (t : Bool) → same_end (ResultEnd 0) a ≡ t → t ≡ false
@@ -218,14 +218,14 @@ module _ (d : ℕ) (f g : Cut) (r p q : Plan) (is : IsParallel d f g r p q) wher
   left_joints a b has =
       elim (is.joints a b has) [
         | inl own ↦ elim own [ inl one ↦ inl one | inr other ↦ inr (not_its d 1 0 g r q is.right (λ e. omega (arith, e)) a b other) ]
-        | inr run ↦ inr ((λ e. let bad : PartEnd d 0 ≡ ResultEnd 0 = e ∙ run.0 in cc bad), λ e. part_ends d 0 2 zero_not_two (e ∙ run.1))
+        | inr run ↦ inr ((λ e. let bad : PartEnd d 0 ≡ ResultEnd 0 = e ∙ run.0 in cc bad), λ e. apart_shakes d 0 2 zero_not_two (e ∙ run.1))
       ]
 
   right_joints : (a b : End) → Contains r.joints (joint a b) → IsJointOf g q a b ⊎ ((PartEnd d 1 ≡ a → ⊥) × (PartEnd d 1 ≡ b → ⊥))
   right_joints a b has =
       elim (is.joints a b has) [
         | inl own ↦ elim own [ inl one ↦ inr (not_its d 0 1 f r p is.left (λ e. omega (arith, e)) a b one) | inr other ↦ inl other ]
-        | inr run ↦ inr ((λ e. let bad : PartEnd d 1 ≡ ResultEnd 0 = e ∙ run.0 in cc bad), λ e. part_ends d 1 2 one_not_two (e ∙ run.1))
+        | inr run ↦ inr ((λ e. let bad : PartEnd d 1 ≡ ResultEnd 0 = e ∙ run.0 in cc bad), λ e. apart_shakes d 1 2 one_not_two (e ∙ run.1))
       ]
 
   pub free_left : places_of p (ResultEnd 0) ≡ None → places_of r (PartEnd d 0) ≡ None
@@ -291,7 +291,7 @@ module _ (d : ℕ) (f g : Cut) (r p q : Plan) (is : IsParallel d f g r p q) wher
   gate_beside v s = ap (λ o. gate (with_held Answer o (Some v) s) Request) gate_at_part
 
   new_state : (c : State) (s : Tokens) → (with_state d c s).state d ≡ c
-  new_state c s = ap (λ (b : Bool). if b then c else s.state d) (nat_eq_self d)
+  new_state c s = ap (λ (b : Bool). if b then c else s.state d) (nat_eq_itself d)
 
   kept_state : (k : ℕ) (way : Direction) (held : Option ℕ) (s : Tokens) → (with_token r (PartEnd d k) way held s).state d ≡ s.state d
   kept_state k way held s = token_state r (PartEnd d k) way held s d
@@ -478,7 +478,7 @@ module _ (d : ℕ) (f g : Cut) (r p q : Plan) (is : IsParallel d f g r p q) wher
 
   fire_step : (i : ℕ) (slot : Slot) (s t : Tokens) → Does r (Fire i slot) s t → Step d f g r p q (Fire i slot) s t
   fire_step i slot s t does =
-      let part = part_there (slice_get r.parts i) (s.state i) slot does.1 does.3 in by_part (is.parts i part.0 part.1)
+      let part = firing_part (slice_get r.parts i) (s.state i) slot does.1 does.3 in by_part (is.parts i part.0 part.1)
     where
       by_part : (IsPartOf f i ⊎ IsPartOf g i) ⊎ (i ≡ d) → Step d f g r p q (Fire i slot) s t
       by_part (inl (inl (j, number))) =
@@ -535,9 +535,9 @@ module _ (d : ℕ) (f g : Cut) (r p q : Plan) (is : IsParallel d f g r p q) wher
       of_joint : (h : ℕ) (c : Cut) (o : Plan) → IsSide d h c r o → c.inner (ImportEnd j k) ≡ None → (a b : End) → IsJointOf c o a b
           → (ImportEnd j k ≡ a) ⊎ (ImportEnd j k ≡ b) → ⊥
       of_joint h c o side out a b (x, y, has, at, beyond) (inl one) =
-          of_side h c o side out x (stands_own o (joint x y) x side.cut.right (contained o.joints (joint x y) has) (first_stands (joint x y))) (at ∙ sym one)
+          of_side h c o side out x (stands_own o (joint x y) x side.cut.right (contained o.joints (joint x y) has) (asking_stands (joint x y))) (at ∙ sym one)
       of_joint h c o side out a b (x, y, has, at, beyond) (inr one) =
-          of_side h c o side out y (stands_own o (joint x y) y side.cut.right (contained o.joints (joint x y) has) (last_stands (joint x y))) (beyond ∙ sym one)
+          of_side h c o side out y (stands_own o (joint x y) y side.cut.right (contained o.joints (joint x y) has) (serving_stands (joint x y))) (beyond ∙ sym one)
 
       by_place : (o : Option End) → places_of r (ImportEnd j k) ≡ o → o ≡ None
       by_place None e = refl

@@ -5,18 +5,19 @@ use Rattle.gos_types.specs.Types.{Type'}
 use Rattle.gos_plan.specs.Plans.{End, PartEnd, ImportEnd, ResultEnd, Joint, Plan, IsRight, stands_in}
 use Rattle.gos_plan.specs.Tokens.{Tokens, Element, Fire, Out, In, Does, Runs, IsIdle}
 use Rattle.gos_plan.specs.Orderly.{Open, none_open, ComesInOrder, AllWelcome, OrderlyFrom}
+use Rattle.gos_plan.proofs.JointLemmas.{asking_stands, serving_stands, which_end}
 use Rattle.gos_realises.specs.realises.Regular.{Pass, is_open, count, InputsKeepTurns, OutputsKeepTurns, IsRegular}
 use Rattle.gos_realises.proofs.realises.InputLemmas.{passed, InputTurns, first_turn, later_turns}
 use Rattle.gos_realises.proofs.realises.RingLemmas.{after}
+use Rattle.gos_realises.proofs.realises.CountLemmas.{below_count}
 use Rattle.gos_joining.specs.webs.Webs.{joint}
 use Rattle.gos_joining.specs.webs.Cutting.{lies_at, StandsIn}
-use Rattle.gos_joining.proofs.webs.CutLemmas.{which_end, first_stands, last_stands}
 use Rattle.gos_supplies.specs.turns.Rests.{Rests}
 use Rattle.gos_supplies.proofs.turns.RestLemmas.{passes_are}
 use Rattle.gos_nodes.proofs.windows.ClosingLemmas.{Ports, ports_after}
 use Rattle.gos_nodes.proofs.windows.PortLemmas.{stands_contact}
 use Rattle.gos_nodes.specs.products.Both.{Side, IsSide, IsOfSide, IsBoth, BothIsRegular}
-use Rattle.gos_nodes.proofs.products.PlaceLemmas.{IsPartOf, IsLaid, result_low}
+use Rattle.gos_nodes.proofs.products.PlaceLemmas.{IsPartOf, IsLaid}
 use Rattle.gos_nodes.proofs.products.PartLemmas.{first_of, second_of, one_of_both}
 use Rattle.gos_nodes.proofs.products.GoingLemmas.{OutTurn, Going, begins, Next, AsksBeside, step, all_rests, beside_closed}
 
@@ -35,14 +36,14 @@ side_result r n g is (ImportEnd i h) m stands lies =
 side_result r n g is (ResultEnd h) m stands lies =
     let both : ResultEnd (n + h) ≡ ResultEnd m = sym (is.result h stands) ∙ lies in
     let (c, there) = stands_contact g.plan is.region.right (ResultEnd h) stands in
-    (h, result_low g.plan.outcome h c there, cc both, stands)
+    (h, below_count g.plan.outcome h c there, cc both, stands)
 
 pub of_side : (r : Plan) (n : ℕ) (g : Side) → IsSide r n g → (m : ℕ) (j : Joint) → stands_in (ResultEnd m) j ≡ true → IsOfSide g j.asking j.serving
     → (h : ℕ) × (h < count g.plan.outcome) × (n + h ≡ m) × StandsIn g.plan (ResultEnd h)
 of_side r n g is m j stands (p, q, in_joints, first, last) =
     elim (which_end (ResultEnd m) j stands) [
-      | inl asks ↦ side_result r n g is p m (joint p q, in_joints, first_stands (joint p q)) (first ∙ sym asks)
-      | inr serves ↦ side_result r n g is q m (joint p q, in_joints, last_stands (joint p q)) (last ∙ sym serves)
+      | inl asks ↦ side_result r n g is p m (joint p q, in_joints, asking_stands (joint p q)) (first ∙ sym asks)
+      | inr serves ↦ side_result r n g is q m (joint p q, in_joints, serving_stands (joint p q)) (last ∙ sym serves)
     ]
 
 -- From one side to another, where that one doesn't go on itself.

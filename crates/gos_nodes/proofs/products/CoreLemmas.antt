@@ -5,22 +5,24 @@ use Rattle.std.specs.Prelude.{zero, suc, ◌+◌, ◌<◌, length, None, Contain
 use Rattle.std.proofs.Common.{◌≡◌, ℕ, Bool, true, false, List, [], ◌∷◌, ◌⊎◌, Option, Some, inl, inr, refl, sym, ◌∙◌, ap, subst, arith, if◌then◌else◌}
 use Rattle.std.proofs.lemmas.Option.{slice_get_within, same_Some, none-some}
 use Rattle.gos_types.specs.Types.{Type'}
+use Rattle.gos_types.proofs.ListLemmas.{element_at}
 use Rattle.gos_model.specs.Typing.{Imported}
 use Rattle.gos_plan.specs.Kinds.{Part, contacts_of}
 use Rattle.gos_plan.specs.Plans.{End, PartEnd, ImportEnd, ResultEnd, Joint, Plan, IsRight, contact_at, contacts_of_part, contacts_of_import, turned_if}
 use Rattle.gos_plan.specs.Tokens.{Tokens, Element, IsPortEnd, Does, Runs, IsIdle}
 use Rattle.gos_plan.specs.Orderly.{Open, none_open}
 use Rattle.gos_plan.specs.Joining.{IsJoining}
-use Rattle.gos_plan.proofs.JointLemmas.{one_joint, contained}
+use Rattle.gos_plan.proofs.JointLemmas.{one_joint, contained, asking_stands, serving_stands, which_end}
 use Rattle.gos_realises.specs.realises.Regular.{Pass, count, InputsKeepTurns}
 use Rattle.gos_realises.specs.realises.Wirings.{side}
 use Rattle.gos_realises.specs.realises.Realises.{NamesDiffer}
 use Rattle.gos_realises.proofs.realises.InputLemmas.{passed, InputTurns, first_turn, later_turns}
 use Rattle.gos_realises.proofs.realises.RingLemmas.{after}
+use Rattle.gos_realises.proofs.realises.CountLemmas.{below_count}
 use Rattle.gos_joining.specs.webs.Webs.{joint}
 use Rattle.gos_joining.specs.webs.Cutting.{Cut, lies_at, IsInside, IsOutside, StandsIn, asks_in}
 use Rattle.gos_joining.proofs.webs.MovedLemmas.{listed}
-use Rattle.gos_joining.proofs.webs.CutLemmas.{Owns, which_end, stands_by, stands_own, first_stands, last_stands, Asked, asks_one}
+use Rattle.gos_joining.proofs.webs.CutLemmas.{Owns, stands_by, stands_own, Asked, asks_one}
 use Rattle.gos_nodes.specs.windows.Regions.{IsOther, IsRegion}
 use Rattle.gos_nodes.proofs.windows.ClosingLemmas.{Ports, ports_after}
 use Rattle.gos_nodes.proofs.windows.PortLemmas.{stands_contact, one_place}
@@ -28,10 +30,9 @@ use Rattle.gos_supplies.proofs.turns.TypeLemmas.{told_same}
 use Rattle.gos_sharing.specs.cores.Core.{Core, core_end, IsCore, IsStill}
 use Rattle.gos_nodes.specs.products.Both.{Side, IsSide}
 use Rattle.gos_nodes.specs.products.Cores.{IsStillCore, SidesAreCores}
-use Rattle.gos_nodes.proofs.products.PlaceLemmas.{IsPartOf, IsLaid, result_low, import_number, import_there, at, at_lies}
+use Rattle.gos_nodes.proofs.products.PlaceLemmas.{IsPartOf, IsLaid, import_number, import_there, at, at_lies}
 use Rattle.gos_nodes.proofs.products.PartLemmas.{all_of}
 use Rattle.gos_nodes.proofs.products.StirLemmas.{InSide}
-use Rattle.gos_nodes.proofs.products.TurnLemmas.{contact_there}
 use Rattle.gos_nodes.proofs.products.GoingLemmas.{Going, begins, step, Next, AsksBeside}
 use Rattle.gos_nodes.proofs.products.SideLemmas.{behind, same_parts, same_imports, joint_behind, from_behind}
 use Rattle.gos_nodes.proofs.products.BothLemmas.{first_laid, second_laid}
@@ -95,13 +96,13 @@ module _
   same_contact (ImportEnd i h) low =
       ap (λ (xs : List Imported). slice_get (contacts_of_import (slice_get xs i)) h) (same_imports n t r right s join)
   same_contact (ResultEnd h) low =
-      let (c, there) = contact_there (contacts_of t) h low in
+      let (c, there) = element_at (contacts_of t) h low in
       ap (λ (u : Type'). turned_if (slice_get (contacts_of u) h)) join.outcome ∙ ap turned_if (there ∙ sym (join.result h c there))
 
   result_small : (h : ℕ) → StandsIn g.plan (ResultEnd h) → h < count t
   result_small h stands =
       let (c, there) = stands_contact g.plan is.side.region.right (ResultEnd h) stands in
-      subst (λ (u : Type'). h < count u) outcome (result_low g.plan.outcome h c there)
+      subst (λ (u : Type'). h < count u) outcome (below_count g.plan.outcome h c there)
 
   low_lies : (e : End) → Owns g.plan e → IsLow (lies_at (side_cut n g.cut) e)
   low_lies (PartEnd i h) own = tt
@@ -112,7 +113,7 @@ module _
   owns_first : (a b : End) → Contains g.plan.joints (joint a b) → Owns g.plan a × Owns g.plan b
   owns_first a b here =
       let is_in = contained g.plan.joints (joint a b) here in
-      (stands_own g.plan (joint a b) a is.side.region.right is_in (first_stands (joint a b)), stands_own g.plan (joint a b) b is.side.region.right is_in (last_stands (joint a b)))
+      (stands_own g.plan (joint a b) a is.side.region.right is_in (asking_stands (joint a b)), stands_own g.plan (joint a b) b is.side.region.right is_in (serving_stands (joint a b)))
 
   ports : (e : End) → IsPortEnd e → StandsIn g.plan e → IsOutside (side_cut n g.cut) (side_outer g.cut e) × (side_inner n g.cut (side_outer g.cut e) ≡ Some e)
   ports (PartEnd i h) port stands = absurd port
@@ -339,7 +340,7 @@ module _ (r : Plan) (g : Side) (is : IsLaid r 0 g) (whole : r.outcome ≡ g.plan
   owns : (a b : End) → Contains g.plan.joints (joint a b) → Owns g.plan a × Owns g.plan b
   owns a b here =
       let is_in = contained g.plan.joints (joint a b) here in
-      (stands_own g.plan (joint a b) a is.side.region.right is_in (first_stands (joint a b)), stands_own g.plan (joint a b) b is.side.region.right is_in (last_stands (joint a b)))
+      (stands_own g.plan (joint a b) a is.side.region.right is_in (asking_stands (joint a b)), stands_own g.plan (joint a b) b is.side.region.right is_in (serving_stands (joint a b)))
 
   is_core : IsCore core r g.plan
   is_core =
@@ -385,7 +386,7 @@ module _ (r : Plan) (g : Side) (is : IsLaid r 0 g) (whole : r.outcome ≡ g.plan
           same =
               one_joint r [] r.joints whole_joint (joint a b) a is.side.region.whole_right
               (contained r.joints whole_joint (is.side.region.joints one.joint.asking one.joint.serving own)) (contained r.joints (joint a b) here)
-              (stands_by a whole_joint (inl (sym at_a))) (first_stands (joint a b))
+              (stands_by a whole_joint (inl (sym at_a))) (asking_stands (joint a b))
 
           at_b : lies_at g.cut one.joint.serving ≡ b
           at_b = ap (λ (x : Joint). x.serving) same

@@ -2,15 +2,16 @@
 use Rattle.std.specs.Prelude.{◌+◌, ◌<◌, None}
 use Rattle.std.proofs.Common.{◌≡◌, ℕ, Bool, true, false, List, [], ◌∷◌, ◌++◌, ◌⊎◌, Some, inl, inr, refl, sym, ◌∙◌, ap, subst, if◌then◌else◌}
 use Rattle.gos_types.specs.Events.{Direction, Request}
+use Rattle.gos_types.proofs.BoolLemmas.{true_is_not_false}
 use Rattle.gos_plan.specs.Firing.{Rest, State, Slot}
 use Rattle.gos_plan.specs.Plans.{End, ResultEnd, Plan, contact_at, same_end}
 use Rattle.gos_plan.specs.Tokens.{Tokens, Element, Fire, Out, In, IsPortEnd, way_put, Does, Runs, IsIdle}
 use Rattle.gos_plan.specs.Orderly.{Open, none_open, ComesInOrder, AllWelcome, OrderlyFrom, IsOrderly}
 use Rattle.gos_plan.proofs.JointLemmas.{same_itself}
+use Rattle.gos_plan.proofs.ElementLemmas.{orderly_then}
 use Rattle.gos_realises.specs.realises.Regular.{Pass, pass, way_in, way_out, is_open, count, ComesInTurn, KeepsTurns, InputsKeepTurns}
 use Rattle.gos_realises.proofs.realises.InputLemmas.{passed, InputTurns, last_order, passed_then, inputs_then, outputs_last, runs_then}
 use Rattle.gos_realises.proofs.realises.RingLemmas.{after}
-use Rattle.gos_realises.proofs.quiet.HoldLemmas.{orderly_append}
 use Rattle.gos_joining.proofs.renumbered.TurnLemmas.{of_result}
 use Rattle.gos_joining.specs.webs.Cutting.{lies_at, StandsIn}
 use Rattle.gos_supplies.proofs.turns.RestLemmas.{passes_are}
@@ -32,9 +33,6 @@ OutTurn p past (In e v) = Unit {0}
 
 abbrev OneTurn : Plan → List Pass → Element → Type 0
 OneTurn p past y = InputsKeepTurns p past (y ∷ [])
-
-not_both : (b : Bool) → b ≡ true → b ≡ false → ⊥
-not_both b up down = let both : true ≡ false = sym up ∙ down in cc both
 
 module _ (r : Plan) (n : ℕ) (g : Side) (is : IsLaid r n g) where
   -- The side's list so far, from an idle state; all else rests; and what is open.
@@ -63,7 +61,7 @@ module _ (r : Plan) (n : ℕ) (g : Side) (is : IsLaid r n g) where
         follows = follows_none r n g is past shut;
         own = none_open;
         orderly = (refl, refl);
-        opens = record { kept = λ x never. absurd never; same = λ e owned. closed (lies_at g.cut e); only = λ x up. absurd (not_both (o x) up (closed x)) };
+        opens = record { kept = λ x never. absurd never; same = λ e owned. closed (lies_at g.cut e); only = λ x up. absurd (true_is_not_false (o x) up (closed x)) };
       }
 
   -- after an element
@@ -100,7 +98,7 @@ module _ (r : Plan) (n : ℕ) (g : Side) (is : IsLaid r n g) where
                 follows = subst (λ (l : List Pass). Follows r n g is l (after r (placed r n g is y) past)) (sym (passed_then g.plan [] going.hs y)) follows;
                 own = last.0;
                 orderly =
-                    orderly_append g.plan going.hs (y ∷ []) none_open going.own last.0 going.before (seen g s) (seen g t) going.orderly
+                    orderly_then g.plan going.hs (y ∷ []) none_open going.own last.0 going.before (seen g s) (seen g t) going.orderly
                     (last.0, seen g t, does, last.1, last.2, (refl, refl));
                 opens = matched.2;
               };
@@ -252,7 +250,7 @@ module _ (r : Plan) (n : ℕ) (g : Side) (is : IsLaid r n g) where
             by_test true up =
                 let (e, met, lies) = going.follows.only b up in
                 let own_up : is_open own_past e ≡ true = going.follows.same e (met_port r n g is e met) ∙ (ap (is_open past) lies ∙ up) in
-                absurd (not_both (is_open own_past e) own_up (shut e))
+                absurd (true_is_not_false (is_open own_past e) own_up (shut e))
 
         port_closed : (e : End) → IsPortEnd e → going.own e ≡ false
         port_closed e port = by_test (going.own e) refl
@@ -262,7 +260,7 @@ module _ (r : Plan) (n : ℕ) (g : Side) (is : IsLaid r n g) where
             by_test true up =
                 let ((c, at_end, role), held) =
                 ports_along g.plan is.side.region.right going.hs none_open going.own going.before (seen g s) [] going.orderly (λ d at up. absurd (cc up)) e port up in
-                absurd (not_both (is_open own_past e) held (shut e))
+                absurd (true_is_not_false (is_open own_past e) held (shut e))
 
         own_closed : (e : End) → going.own e ≡ false
         own_closed =
@@ -271,8 +269,8 @@ module _ (r : Plan) (n : ℕ) (g : Side) (is : IsLaid r n g) where
         by_end : (x : End) → o x ≡ true → IsThere g.cut r g.plan Never x → ⊥
         by_end x up (inl never) = never
         by_end x up (inr (inl (e, owned, lies))) =
-            not_both (going.own e) (sym (going.opens.same e owned) ∙ (ap o lies ∙ up)) (own_closed e)
-        by_end x up (inr (inr loose)) = let (there, held) = ports x loose.0 up in not_both (is_open past x) held (past_shut x)
+            true_is_not_false (going.own e) (sym (going.opens.same e owned) ∙ (ap o lies ∙ up)) (own_closed e)
+        by_end x up (inr (inr loose)) = let (there, held) = ports x loose.0 up in true_is_not_false (is_open past x) held (past_shut x)
 
         by_open : (x : End) (t : Bool) → o x ≡ t → t ≡ false
         by_open x false t = refl

@@ -1,32 +1,24 @@
 -- The handshakes of a type are a part of it, and those of each side are one of a product's.
 use Rattle.std.specs.Prelude.{◌+◌, ◌-◌, ◌<◌, ◌&&◌, zero, suc, length, slice_get, nat_lt}
-use Rattle.std.proofs.Common.{◌≡◌, ℕ, Bool, true, false, List, [], ◌∷◌, ◌++◌, refl, sym, ◌∙◌, ap, arith}
+use Rattle.std.proofs.Common.{◌≡◌, ℕ, Bool, true, false, List, [], ◌∷◌, ◌++◌, refl, sym, ◌∙◌, ap, arith, zero-add}
 use Rattle.std.proofs.lemmas.Bool.Decides.{nat_tests}
+use Rattle.std.proofs.lemmas.Bool.{and_right, and_left}
 use Rattle.gos_types.specs.Types.{Type', Pair}
 use Rattle.gos_plan.specs.Kinds.{Contact, contacts_of}
 use Rattle.gos_plan.proofs.AskingLemmas.{behind}
 use Rattle.gos_plan.proofs.SideLemmas.{pairs_join}
 use Rattle.gos_realises.specs.realises.Regular.{count, some_open, beyond, KeepsTurnsOf}
-use Rattle.gos_realises.proofs.realises.GroundTurnLemmas.{some_there, there_some}
+use Rattle.gos_realises.proofs.realises.GroundTurnLemmas.{there_some}
 use Rattle.gos_joining.proofs.renumbered.TurnLemmas.{turns_agree}
 use Rattle.gos_realises.proofs.realises.CountLemmas.{count_pair}
+use Rattle.gos_supplies.proofs.turns.SideLemmas.{none_open}
 use Rattle.gos_nodes.proofs.windows.TypeTurnLemmas.{closed_kept}
 use Rattle.gos_nodes.proofs.products.PlaceLemmas.{IsPartOf}
-
-zeros : (n : ℕ) → 0 + n ≡ n
-zeros n = omega arith
 
 before : (xs ys : List Contact) (h : ℕ) → h < length xs → slice_get (xs ++ ys) h ≡ slice_get xs h
 before [] ys h low = absurd (omega (arith, low))
 before (x ∷ xs) ys zero low = refl
 before (x ∷ xs) ys (suc h) low = before xs ys h (omega (arith, low))
-
-none_open : (n : ℕ) (f : ℕ → Bool) → ((h : ℕ) → h < n → f h ≡ false) → some_open n f ≡ false
-none_open n f shut = by_test (some_open n f) refl
-  where
-    by_test : (b : Bool) → some_open n f ≡ b → b ≡ false
-    by_test false t = refl
-    by_test true t = let (k, low, up) = some_there n f t in sym up ∙ shut k low
 
 shut_of : (n : ℕ) (f : ℕ → Bool) → some_open n f ≡ false → (h : ℕ) → h < n → f h ≡ false
 shut_of n f none h low = by_test (f h) refl
@@ -43,21 +35,14 @@ second_shut : (x y : Bool) → (x && y) ≡ false → x ≡ true → y ≡ false
 second_shut true y both up = both
 second_shut false y both up = absurd (cc up)
 
-shut_first : (x y : Bool) → x ≡ false → (x && y) ≡ false
-shut_first x y shut = ap (λ (b : Bool). b && y) shut
-
-shut_second : (x y : Bool) → y ≡ false → (x && y) ≡ false
-shut_second true y shut = shut
-shut_second false y shut = refl
-
 pub all_of : (t : Type') → IsPartOf t 0 t
 all_of t =
     record {
       fits = λ h low. omega (arith, low);
-      contacts = λ h low. ap (slice_get (contacts_of t)) (zeros h);
-      kept = λ f keeps. turns_agree t f (beyond 0 f) (λ h low. ap f (sym (zeros h))) keeps;
-      back = λ f keeps closed. turns_agree t (beyond 0 f) f (λ h low. ap f (zeros h)) keeps;
-      alone = λ f m keeps small apart up h low. absurd (apart m small (zeros m));
+      contacts = λ h low. ap (slice_get (contacts_of t)) (zero-add h);
+      kept = λ f keeps. turns_agree t f (beyond 0 f) (λ h low. ap f (sym (zero-add h))) keeps;
+      back = λ f keeps closed. turns_agree t (beyond 0 f) f (λ h low. ap f (zero-add h)) keeps;
+      alone = λ f m keeps small apart up h low. absurd (apart m small (zero-add m));
     }
 
 pub first_of : (a b : Type') → IsPartOf a 0 (Pair a b)
@@ -65,9 +50,9 @@ first_of a b =
     record {
       fits = λ h low. (let sum = count_pair a b in omega (arith, low, sum));
       contacts = λ h low.
-          ap (slice_get (contacts_of (Pair a b))) (zeros h)
+          ap (slice_get (contacts_of (Pair a b))) (zero-add h)
           ∙ (ap (λ (cs : List Contact). slice_get cs h) (pairs_join a b).joined ∙ before (contacts_of a) (contacts_of b) h low);
-      kept = λ f keeps. turns_agree a f (beyond 0 f) (λ h low. ap f (sym (zeros h))) keeps.0;
+      kept = λ f keeps. turns_agree a f (beyond 0 f) (λ h low. ap f (sym (zero-add h))) keeps.0;
       back = back;
       alone = alone;
     }
@@ -75,9 +60,9 @@ first_of a b =
     back : (f : ℕ → Bool) → KeepsTurnsOf a (beyond 0 f) → ((m : ℕ) → m < count (Pair a b) → ((h : ℕ) → h < count a → 0 + h ≡ m → ⊥) → f m ≡ false)
         → KeepsTurnsOf (Pair a b) f
     back f keeps closed = (
-      turns_agree a (beyond 0 f) f (λ h low. ap f (zeros h)) keeps,
+      turns_agree a (beyond 0 f) f (λ h low. ap f (zero-add h)) keeps,
       closed_kept b (beyond (count a) f) shut,
-      shut_second (some_open (count a) f) (some_open (count b) (beyond (count a) f)) (none_open (count b) (beyond (count a) f) shut),
+      and_right (some_open (count a) f) (some_open (count b) (beyond (count a) f)) (none_open (count b) (beyond (count a) f) shut),
     )
       where
         shut : (h : ℕ) → h < count b → f (count a + h) ≡ false
@@ -88,14 +73,14 @@ first_of a b =
     alone : (f : ℕ → Bool) (m : ℕ) → KeepsTurnsOf (Pair a b) f → m < count (Pair a b) → ((h : ℕ) → h < count a → 0 + h ≡ m → ⊥) → f m ≡ true
         → (h : ℕ) → h < count a → f (0 + h) ≡ false
     alone f m keeps small apart up h low =
-        ap f (zeros h)
+        ap f (zero-add h)
         ∙ shut_of (count a) f
         (first_shut (some_open (count a) f) (some_open (count b) (beyond (count a) f)) keeps.2
         (there_some (count b) (beyond (count a) f) (m - count a) less (ap f past ∙ up))) h low
       where
         high : (t : Bool) → nat_lt m (count a) ≡ t → t ≡ false
         high false t = refl
-        high true t = absurd (apart m (grind (arith, nat_tests, t)) (zeros m))
+        high true t = absurd (apart m (grind (arith, nat_tests, t)) (zero-add m))
 
         test : nat_lt m (count a) ≡ false
         test = high (nat_lt m (count a)) refl
@@ -122,7 +107,7 @@ second_of a b =
     back f keeps closed = (
       closed_kept a f shut,
       keeps,
-      shut_first (some_open (count a) f) (some_open (count b) (beyond (count a) f)) (none_open (count a) f shut),
+      and_left (some_open (count a) f) (some_open (count b) (beyond (count a) f)) (none_open (count a) f shut),
     )
       where
         shut : (h : ℕ) → h < count a → f h ≡ false
@@ -152,7 +137,7 @@ pub one_of_both : (a b : Type') (m : ℕ) → m < count (Pair a b) → ((h : ℕ
 one_of_both a b m small first second = by_test (nat_lt m (count a)) refl
   where
     by_test : (t : Bool) → nat_lt m (count a) ≡ t → ⊥
-    by_test true t = first m (grind (arith, nat_tests, t)) (zeros m)
+    by_test true t = first m (grind (arith, nat_tests, t)) (zero-add m)
     by_test false t =
         let past : count a + (m - count a) ≡ m = grind (arith, nat_tests, t) in
         let sum = count_pair a b in second (m - count a) (omega (arith, small, sum, past)) past

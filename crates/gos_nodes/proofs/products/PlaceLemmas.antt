@@ -1,9 +1,10 @@
 -- Where the ports of a side lie in the whole: its imports are some of the whole's, and its result is a part of the whole's.
 use Rattle.std.specs.Prelude.{◌+◌, ◌<◌, None, slice_get, Contains}
 use Rattle.std.proofs.Common.{◌≡◌, ℕ, Bool, true, false, ◌⊎◌, Option, Some, inl, inr, refl, sym, ◌∙◌, ap, subst, arith}
-use Rattle.std.proofs.lemmas.Option.{none-some, same_Some, slice_get-get_or, slice_get_within}
+use Rattle.std.proofs.lemmas.Option.{none-some, same_Some, slice_get-get_or}
 use Rattle.gos_types.specs.declared.shakes.Role.TheVariants.{Ask}
 use Rattle.gos_types.specs.Types.{Type'}
+use Rattle.gos_types.proofs.BoolLemmas.{same_tests}
 use Rattle.gos_model.specs.Typing.{Imported}
 use Rattle.gos_plan.specs.Kinds.{Contact, contacts_of}
 use Rattle.gos_plan.specs.Plans.{End, PartEnd, ImportEnd, ResultEnd, Plan, contact_at, contacts_of_import, turned_if, same_end}
@@ -12,11 +13,12 @@ use Rattle.gos_plan.proofs.JointLemmas.{same_is, same_itself}
 use Rattle.gos_realises.specs.realises.Regular.{count, beyond, KeepsTurnsOf}
 use Rattle.gos_realises.specs.realises.Realises.{NamesDiffer}
 use Rattle.gos_realises.proofs.realises.ToldLemmas.{there_is, contains_at}
+use Rattle.gos_realises.proofs.realises.CountLemmas.{below_count}
 use Rattle.gos_joining.specs.webs.Cutting.{lies_at, StandsIn, IsCut}
 use Rattle.gos_joining.proofs.webs.CutLemmas.{Owns, place_there}
-use Rattle.gos_joining.proofs.webs.MovedLemmas.{same_bool}
+use Rattle.gos_sharing.proofs.buffers.BranchLemmas.{place_stands}
 use Rattle.gos_nodes.proofs.windows.InlayLemmas.{inlay, inlay_cut, inlay_place}
-use Rattle.gos_nodes.proofs.windows.PortLemmas.{stands_contact, place_stands, one_place}
+use Rattle.gos_nodes.proofs.windows.PortLemmas.{stands_contact, one_place}
 use Rattle.gos_nodes.specs.products.Both.{Side, IsSide}
 
 -- The handshakes of t are those of the type u from number n on, and keep its turns where all else of it is closed; where something
@@ -38,13 +40,6 @@ pub record IsLaid (r : Plan) (n : ℕ) (g : Side) : Type 0 where
   pub names : NamesDiffer r.imports
   pub part : IsPartOf g.plan.outcome n r.outcome
   pub joined : (h : ℕ) → h < count g.plan.outcome → StandsIn r (ResultEnd (n + h)) → StandsIn g.plan (ResultEnd h)
-
-pub result_low : (t : Type') (h : ℕ) (k : Contact) → turned_if (slice_get (contacts_of t) h) ≡ Some k → h < count t
-result_low t h k there = by_contact (slice_get (contacts_of t) h) refl there
-  where
-    by_contact : (o : Option Contact) → slice_get (contacts_of t) h ≡ o → turned_if o ≡ Some k → h < count t
-    by_contact None none is = absurd (cc is)
-    by_contact (Some x) at is = slice_get_within (contacts_of t) h x at
 
 module _ (r : Plan) (n : ℕ) (g : Side) (is : IsLaid r n g) where
   pub cut : IsCut g.cut (inlay g.cut r g.plan) g.plan
@@ -94,7 +89,7 @@ module _ (r : Plan) (n : ℕ) (g : Side) (is : IsLaid r n g) where
     pub there : contact_at g.plan e ≡ Some contact
 
   pub port_result : (h : ℕ) → Port (ResultEnd h) → h < count g.plan.outcome
-  port_result h port = result_low g.plan.outcome h port.contact port.there
+  port_result h port = below_count g.plan.outcome h port.contact port.there
 
   pub port_import : (i h : ℕ) → Port (ImportEnd i h) → (x : Imported) × (slice_get g.plan.imports i ≡ Some x)
   port_import i h port = there_is g.plan.imports i h port.contact port.there
@@ -126,7 +121,7 @@ module _ (r : Plan) (n : ℕ) (g : Side) (is : IsLaid r n g) where
       let shakes : h ≡ m = omega (arith, sums) in ap ResultEnd shakes
 
   pub same_at : (d e : End) → Port d → Port e → same_end (at d) (at e) ≡ same_end d e
-  same_at d e port also = same_bool (same_end (at d) (at e)) (same_end d e) to from
+  same_at d e port also = same_tests (same_end (at d) (at e)) (same_end d e) to from
     where
       to : same_end (at d) (at e) ≡ true → same_end d e ≡ true
       to t = subst (λ (x : End). same_end d x ≡ true) (one_port d e port also (same_is (at d) (at e) t)) (same_itself d)

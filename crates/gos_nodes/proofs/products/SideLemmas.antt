@@ -6,49 +6,25 @@ use Rattle.std.proofs.Common.{◌≡◌, ℕ, Bool, true, false, List, [], Optio
 use Rattle.std.proofs.lemmas.Bool.Decides.{nat_tests}
 use Rattle.std.proofs.lemmas.List.{append-nil}
 use Rattle.std.proofs.lemmas.Option.{slice_get_within, none-some}
-use Rattle.gos_types.specs.declared.shakes.Role.{Role}
-use Rattle.gos_types.specs.declared.shakes.Role.TheVariants.{Serve, Ask}
 use Rattle.gos_types.specs.Types.{Type'}
 use Rattle.gos_model.specs.Typing.{Imported}
 use Rattle.gos_plan.specs.Kinds.{Part, Contact, asks, serves, contacts_of}
 use Rattle.gos_plan.specs.Plans.{End, PartEnd, ImportEnd, ResultEnd, Joint, Plan, contact_at, contacts_of_part, contacts_of_import, turned_if, stands_in, Fits, IsRight}
 use Rattle.gos_plan.specs.Joining.{Place, place, Wiring, JoinedWithin, Linked, LeftImport, Path, Connects, all_left, left_in, left_place, origin, IsJoining}
-use Rattle.gos_plan.proofs.JointLemmas.{one_joint, contained, fits}
+use Rattle.gos_plan.proofs.JointLemmas.{one_joint, contained, fits, ends_are_apart}
+use Rattle.gos_plan.proofs.ContactLemmas.{asks_is_not_serves, part_is_there}
 use Rattle.gos_realises.specs.realises.Wirings.{side}
 use Rattle.gos_realises.proofs.realises.ToldLemmas.{there_is}
+use Rattle.gos_realises.proofs.realises.AloneLemmas.{Ends, first_stands, back_again}
 use Rattle.gos_joining.specs.webs.Webs.{joint}
-use Rattle.gos_joining.proofs.webs.CutLemmas.{part_at, stands_by}
+use Rattle.gos_joining.proofs.webs.CutLemmas.{stands_by}
 use Rattle.gos_supplies.proofs.applications.SeamLemmas.{left_none, listed, listed_at}
 use Rattle.gos_supplies.proofs.applications.SideLemmas.{side_imports}
 
 -- the two ways of a joint
-abbrev Ends : End → End → Joint → Type 0
-Ends a b j = ((a ≡ j.asking) × (b ≡ j.serving)) ⊎ ((a ≡ j.serving) × (b ≡ j.asking))
-
-stands_first : (a b : End) (j : Joint) → Ends a b j → stands_in a j ≡ true
-stands_first a b j (inl (e, f)) = stands_by a j (inl e)
-stands_first a b j (inr (e, f)) = stands_by a j (inr e)
-
 stands_last : (a b : End) (j : Joint) → Ends a b j → stands_in b j ≡ true
 stands_last a b j (inl (e, f)) = stands_by b j (inr f)
 stands_last a b j (inr (e, f)) = stands_by b j (inl f)
-
--- an end that asks doesn't serve
-abbrev role_or : Option Contact → Role
-role_or None = Ask
-role_or (Some c) = c.role
-
-apart : (q v x y : ℕ) → Some (asks q v) ≡ Some (serves x y) → ⊥
-apart q v x y e = let clash : Ask ≡ Serve = ap role_or e in cc clash
-
-not_one : (p : Plan) (j : Joint) → Fits p j → j.asking ≡ j.serving → ⊥
-not_one p j (q, v, asked, served) e = apart q v q v (sym asked ∙ (ap (contact_at p) e ∙ served))
-
-back_again : (p : Plan) (j : Joint) → Fits p j → (a c b : End) → Ends a c j → Ends c b j → a ≡ b
-back_again p j fit a c b (inl (e, f)) (inl (g, h)) = absurd (not_one p j fit (sym g ∙ f))
-back_again p j fit a c b (inl (e, f)) (inr (g, h)) = e ∙ sym h
-back_again p j fit a c b (inr (e, f)) (inl (g, h)) = e ∙ sym h
-back_again p j fit a c b (inr (e, f)) (inr (g, h)) = absurd (not_one p j fit (sym f ∙ g))
 
 module _ (n : ℕ) (t : Type') (p : Plan) (right : IsRight p) (r : Plan) (join : IsJoining (side n t p) r) where
   abbrev w : Wiring
@@ -63,7 +39,7 @@ module _ (n : ℕ) (t : Type') (p : Plan) (right : IsRight p) (r : Plan) (join :
   to_and_fro : (a c b : End) → Joins a c → Joins c b → a ≡ b
   to_and_fro a c b (j, has, one) (k, also, other) =
       let same : k ≡ j =
-      one_joint p [] p.joints k j c right (contained p.joints k also) (contained p.joints j has) (stands_first c b k other) (stands_last a c j one) in
+      one_joint p [] p.joints k j c right (contained p.joints k also) (contained p.joints j has) (first_stands c b k other) (stands_last a c j one) in
       back_again p j (joint_fits j has) a c b one (subst (Ends c b) same other)
 
   joins_within : (k : ℕ) (q : Plan) (a b : End) (j : Joint) → slice_get w.plans k ≡ Some q → Contains q.joints j → Ends a b j → Joins a b
@@ -101,7 +77,7 @@ module _ (n : ℕ) (t : Type') (p : Plan) (right : IsRight p) (r : Plan) (join :
       by_test : (b : Bool) → nat_lt i (length p.parts) ≡ b → origin w (PartEnd i h) ≡ place 0 (PartEnd i h)
       by_test true t = rw t refl
       by_test false t =
-          let (k, is) = part_at (slice_get r.parts i) h c there in
+          let (k, is) = part_is_there (slice_get r.parts i) h c there in
           let within = slice_get_within p.parts i k (ap (λ (ks : List Part). slice_get ks i) (sym same_parts) ∙ is) in
           let clash : ⊥ = grind (arith, nat_tests, t, within) in absurd clash
 
@@ -146,13 +122,13 @@ module _ (n : ℕ) (t : Type') (p : Plan) (right : IsRight p) (r : Plan) (join :
       of_near : (behind a ≡ behind b) ⊎ Joins (behind a) (behind b) → Contains p.joints (joint (behind a) (behind b))
       of_near (inl e) =
           absurd
-          (apart connects.0 connects.1 connects.0 connects.1
+          (asks_is_not_serves connects.0 connects.1 connects.0 connects.1
           (sym (contact_behind a (asks connects.0 connects.1) connects.3) ∙ (ap (contact_at p) e ∙ contact_behind b (serves connects.0 connects.1) connects.4)))
       of_near (inr (j, in_joints, inl (e, f))) = subst (λ (x : Joint). Contains p.joints x) (λ i. joint (sym e i) (sym f i)) in_joints
       of_near (inr (j, in_joints, inr (e, f))) =
           let (x, y, j_asked, j_served) = joint_fits j in_joints in
           absurd
-          (apart connects.0 connects.1 x y
+          (asks_is_not_serves connects.0 connects.1 x y
           (sym (contact_behind a (asks connects.0 connects.1) connects.3) ∙ (ap (contact_at p) e ∙ j_served)))
 
   pub from_behind : (a b : End) → Contains p.joints (joint (behind a) (behind b)) → contact_at r a ≡ contact_at p (behind a) → contact_at r b ≡ contact_at p (behind b)

@@ -4,17 +4,20 @@ use Rattle.std.proofs.Common.{◌≡◌, ℕ, Bool, true, false, [], ◌⊎◌, 
 use Rattle.std.proofs.lemmas.Bool.Decides.{nat_tests}
 use Rattle.std.proofs.lemmas.Option.{none-some, same_Some}
 use Rattle.gos_types.specs.Types.{Com}
+use Rattle.gos_types.proofs.ListLemmas.{none_in_empty}
 use Rattle.gos_model.specs.Typing.{Imported}
+use Rattle.gos_model.proofs.NumberLemmas.{nat_eq_itself}
 use Rattle.gos_plan.specs.Kinds.{Part, Skip, Share, asks}
 use Rattle.gos_plan.specs.Plans.{End, PartEnd, ImportEnd, ResultEnd, Joint, Plan, IsRight, contact_at}
 use Rattle.gos_plan.specs.Tokens.{IsPortEnd}
 use Rattle.gos_plan.specs.TokenBits.{LiteralFits}
 use Rattle.gos_plan.specs.SmallPlans.{skip_plan}
+use Rattle.gos_plan.proofs.JointLemmas.{which_end}
+use Rattle.gos_plan.proofs.SmallPlanLemmas.{skip_is_right}
 use Rattle.gos_realises.specs.realises.Regular.{count, IsRegular}
 use Rattle.gos_joining.specs.webs.Webs.{joint}
 use Rattle.gos_joining.specs.webs.Cutting.{IsInside, StandsIn, lies_at}
-use Rattle.gos_joining.proofs.webs.CutLemmas.{which_end}
-use Rattle.gos_joining.proofs.webs.SmallWebLemmas.{skip_is_right, one_port}
+use Rattle.gos_joining.proofs.webs.SmallWebLemmas.{one_port}
 use Rattle.gos_sharing.specs.sharing.Sharing.{caller_end}
 use Rattle.gos_supplies.proofs.turns.TypeLemmas.{told_same}
 use Rattle.gos_nodes.specs.windows.Nodes.{IsStage}
@@ -38,12 +41,6 @@ skip_is_regular = skip_stage.regular
 no_import : (x : Imported) → Contains skip_plan.imports x → ⊥
 no_import x (k, within, is) = omega (arith, within)
 
-no_serving : (n : Serving) → Contains [] n → ⊥
-no_serving n (k, within, is) = omega (arith, within)
-
-same_test : (n : ℕ) → nat_eq n n ≡ true
-same_test n = grind arith
-
 -- the end of which a side's result stands outside
 module _ (n : ℕ) (p : Plan) (stands : StandsIn p (ResultEnd 0)) where
   inner_is : (b e : End) → result_inner n b ≡ Some e → IsPortEnd e × StandsIn p e × (ResultEnd n ≡ b)
@@ -59,7 +56,7 @@ module _ (n : ℕ) (p : Plan) (stands : StandsIn p (ResultEnd 0)) where
       by_test false t is = absurd (none-some e is)
 
 inner_there : (n : ℕ) → result_inner n (ResultEnd n) ≡ Some (ResultEnd 0)
-inner_there n = ap (λ (b : Bool). if b then Some (ResultEnd 0) else None) (same_test n)
+inner_there n = ap (λ (b : Bool). if b then Some (ResultEnd 0) else None) (nat_eq_itself n)
 
 two_cases : (n : ℕ) → n < 2 → (P : ℕ → Type 0) → P 0 → P 1 → P n
 two_cases zero less P first second = first
@@ -85,7 +82,7 @@ module _ (n : ℕ) (less : n < 2) where
       two_cases n less (λ (i : ℕ). Contains skips_plan.joints (joint (ResultEnd i) (PartEnd i 0))) (0, omega arith, refl) (1, omega arith, refl)
 
   its_part : (i : ℕ) (k : Part) → slice_get skip_plan.parts i ≡ Some k → (slice_get skips_plan.parts n ≡ Some k) × ((if nat_eq n n then Some 0 else None) ≡ Some i)
-  its_part zero k is = (part_there ∙ is, ap (λ (b : Bool). if b then Some 0 else None) (same_test n))
+  its_part zero k is = (part_there ∙ is, ap (λ (b : Bool). if b then Some 0 else None) (nat_eq_itself n))
   its_part (suc i) k is = absurd (none-some k is)
 
   its_number : (i j : ℕ) → (if nat_eq i n then Some 0 else None) ≡ Some j → (n ≡ i) × ((k : Part) × (slice_get skip_plan.parts j ≡ Some k))
@@ -131,8 +128,8 @@ module _ (n : ℕ) (less : n < 2) where
         contacts = λ e port stands. contact_there ∙ ap (contact_at skip_plan) (one_port e port stands);
         joints = its_joint;
         all = λ a b here inside. inl (all_known (joint a b) here inside);
-        serving = λ x there. absurd (no_serving x there);
-        unused = λ x i j there number low stands. no_serving x there;
+        serving = λ x there. absurd (none_in_empty x there);
+        unused = λ x i j there number low stands. none_in_empty x there;
       }
 
   skip_is_side : IsSide skips_plan n (skip_side n)
@@ -140,7 +137,7 @@ module _ (n : ℕ) (less : n < 2) where
       record {
         region = skip_region;
         regular = skip_is_regular;
-        loyal = λ x i there number. absurd (no_serving x there);
+        loyal = λ x i there number. absurd (none_in_empty x there);
         result = λ h stands.
             (let same : ResultEnd 0 ≡ ResultEnd h = one_port (ResultEnd h) tt stands in
             let zero_is : 0 ≡ h = cc same in

@@ -1,6 +1,7 @@
 -- A side runs in the whole: where its tokens lie, and what it does there.
 use Rattle.std.specs.Prelude.{◌^◌, ◌<◌, None, slice_get, nat_lt, length}
 use Rattle.std.proofs.Common.{◌≡◌, ℕ, Bool, true, false, List, [], Option, Some, inl, inr, refl, sym, ◌∙◌, ap, subst, if◌then◌else◌}
+use Rattle.std.proofs.lemmas.Bool.{ne_eqb}
 use Rattle.gos_types.specs.Events.{Direction}
 use Rattle.gos_plan.specs.Kinds.{Contact}
 use Rattle.gos_plan.specs.Firing.{Rest, State, Slot, Row, at}
@@ -14,7 +15,6 @@ use Rattle.gos_joining.proofs.webs.CutLemmas.{Owns, port_own}
 use Rattle.gos_nodes.proofs.windows.InlayLemmas.{inlay, Agree, AllAgree}
 use Rattle.gos_nodes.proofs.windows.RegionLemmas as regions
 use Rattle.gos_nodes.proofs.windows.RegionLemmas.{InRegion, OnRegion, IsFaithful}
-use Rattle.gos_nodes.proofs.windows.WholeLemmas.{other_state}
 use Rattle.gos_nodes.specs.products.Both.{Side}
 use Rattle.gos_nodes.proofs.products.PlaceLemmas as place
 use Rattle.gos_nodes.proofs.products.PlaceLemmas.{IsLaid, cut, at_lies, port_of, same_contact, Met}
@@ -105,7 +105,7 @@ module _ (r : Plan) (n : ℕ) (g : Side) (is : IsLaid r n g) where
       others : (m : ℕ) → g.cut.number m ≡ None → t.state m ≡ s.state m
       others m out =
           ap (λ (x : Tokens). x.state m) leads
-          ∙ (fired_state r i row v s m ∙ ap (λ (b : Bool). if b then row.next v else s.state m) (other_state m i apart))
+          ∙ (fired_state r i row v s m ∙ ap (λ (b : Bool). if b then row.next v else s.state m) (ne_eqb m i apart))
         where
           apart : m ≡ i → ⊥
           apart same_part = let clash : None ≡ Some j = sym out ∙ (ap g.cut.number same_part ∙ number) in cc clash

@@ -1,11 +1,13 @@
 -- What passed a side's ports, and the whole's: the open handshakes of the whole are those of the side, and so are its turns.
-use Rattle.std.specs.Prelude.{◌+◌, ◌-◌, ◌<◌, zero, suc, length, slice_get, nat_lt, IsTrue}
+use Rattle.std.specs.Prelude.{◌+◌, ◌-◌, ◌<◌, slice_get, nat_lt, IsTrue}
 use Rattle.std.proofs.lemmas.Option.{slice_get_within}
 use Rattle.std.proofs.Common.{◌≡◌, ℕ, Bool, true, false, List, [], ◌∷◌, ◌⊎◌, Option, Some, inl, inr, refl, sym, ◌∙◌, ap, subst, arith, if◌then◌else◌}
 use Rattle.std.proofs.lemmas.Bool.Decides.{nat_tests}
 use Rattle.gos_types.specs.declared.shakes.Role.{Role}
 use Rattle.gos_types.specs.declared.shakes.Role.TheVariants.{Serve, Ask}
 use Rattle.gos_types.specs.Events.{Direction, Request, Answer}
+use Rattle.gos_types.proofs.BoolLemmas.{true_is_not_false}
+use Rattle.gos_types.proofs.ListLemmas.{element_at}
 use Rattle.gos_model.specs.Typing.{Imported}
 use Rattle.gos_plan.specs.Kinds.{Contact, contacts_of}
 use Rattle.gos_plan.specs.Plans.{End, PartEnd, ImportEnd, ResultEnd, Plan, contact_at, contacts_of_import, turned_if, same_end}
@@ -14,14 +16,12 @@ use Rattle.gos_plan.proofs.JointLemmas.{same_is}
 use Rattle.gos_realises.specs.realises.Regular.{Pass, pass, way_in, is_request, is_open, count, some_open, beyond, KeepsTurnsOf, whole_type, whole_end, ComesInTurn, KeepsTurns}
 use Rattle.gos_realises.proofs.realises.GroundTurnLemmas.{some_there, there_some}
 use Rattle.gos_realises.proofs.realises.InputLemmas.{in_there}
+use Rattle.gos_realises.proofs.realises.CountLemmas.{below_count}
 use Rattle.gos_joining.proofs.renumbered.TurnLemmas.{of_import, of_result, ImportKeeps, EachKeeps, keeps_each, each_keeps, turns_agree}
 use Rattle.gos_nodes.proofs.windows.TurnLemmas.{Turned, open_before}
 use Rattle.gos_nodes.proofs.windows.TypeTurnLemmas.{closed_kept}
 use Rattle.gos_nodes.specs.products.Both.{Side}
-use Rattle.gos_nodes.proofs.products.PlaceLemmas.{IsLaid, result_low, import_number, import_there, at, Port, port_result, port_import, same_contact, same_at, Met, met_port, met_used, result_met, import_met}
-
-up_and_shut : (b : Bool) → b ≡ true → b ≡ false → ⊥
-up_and_shut b up shut = let clash : true ≡ false = sym up ∙ shut in cc clash
+use Rattle.gos_nodes.proofs.products.PlaceLemmas.{IsLaid, import_number, import_there, at, Port, port_result, port_import, same_contact, same_at, Met, met_port, met_used, result_met, import_met}
 
 -- whether one of so many numbers, from n on, is m
 pub in_range : (n l m : ℕ) → ((h : ℕ) × (h < l) × (n + h ≡ m)) ⊎ ((h : ℕ) → h < l → n + h ≡ m → ⊥)
@@ -61,12 +61,6 @@ of_each p past imports result =
 pub none_turned : (p : Plan) → Turned p []
 none_turned p = closed_kept (whole_type p.imports p.outcome) (λ h. is_open [] (whole_end 0 p.imports h)) (λ h low. refl)
 
--- the handshake of a type with this number
-pub contact_there : (cs : List Contact) (h : ℕ) → h < length cs → (c : Contact) × (slice_get cs h ≡ Some c)
-contact_there [] h low = absurd (omega (arith, low))
-contact_there (c ∷ cs) zero low = (c, refl)
-contact_there (c ∷ cs) (suc h) low = contact_there cs h (omega (arith, low))
-
 module _ (r : Plan) (n : ℕ) (g : Side) (is : IsLaid r n g) where
   pub record Follows (own past : List Pass) : Type 0 where
     pub same : (e : End) → Port r n g is e → is_open own e ≡ is_open past (at r n g is e)
@@ -87,12 +81,12 @@ module _ (r : Plan) (n : ℕ) (g : Side) (is : IsLaid r n g) where
 
   pub result_port : (h : ℕ) → h < count g.plan.outcome → Port r n g is (ResultEnd h)
   result_port h low =
-      let (c, there) = contact_there (contacts_of g.plan.outcome) h low in
+      let (c, there) = element_at (contacts_of g.plan.outcome) h low in
       record { port = tt; contact = _; there = ap turned_if there }
 
   pub import_port : (i h : ℕ) (x : Imported) → slice_get g.plan.imports i ≡ Some x → h < count x.ty → Port r n g is (ImportEnd i h)
   import_port i h x here low =
-      let (c, there) = contact_there (contacts_of x.ty) h low in
+      let (c, there) = element_at (contacts_of x.ty) h low in
       record { port = tt; contact = c; there = ap (λ (o : Option Imported). slice_get (contacts_of_import o) h) here ∙ there }
 
   -- what passes
@@ -239,13 +233,13 @@ module _ (r : Plan) (n : ℕ) (g : Side) (is : IsLaid r n g) where
       where
         never : (e : End) → Port r n g is e → is_open own e ≡ true → ⊥
         never (PartEnd i h) port up = port.port
-        never (ResultEnd h) port up = up_and_shut (is_open own (ResultEnd h)) up (shut h (port_result r n g is h port))
+        never (ResultEnd h) port up = true_is_not_false (is_open own (ResultEnd h)) up (shut h (port_result r n g is h port))
         never (ImportEnd i h) port up =
             let (x, here) = port_import r n g is i h port in
             let low : h < count x.ty = slice_get_within (contacts_of x.ty) h port.contact (sym (ap (λ (o : Option Imported). slice_get (contacts_of_import o) h) here) ∙ port.there) in
             let busy = ((each_of g.plan own turned).0 i x here).1 (there_some (count x.ty) (of_import (is_open own) i) h low up) in
             let (m, small, open_m) = some_there (count g.plan.outcome) (of_result (is_open own)) busy in
-            up_and_shut (is_open own (ResultEnd m)) open_m (shut m small)
+            true_is_not_false (is_open own (ResultEnd m)) open_m (shut m small)
 
         by_test : (e : End) (b : Bool) → is_open own e ≡ b → b ≡ false
         by_test e false t = refl
@@ -286,7 +280,7 @@ module _ (r : Plan) (n : ℕ) (g : Side) (is : IsLaid r n g) where
           where
             of_range : ((h : ℕ) × (h < count g.plan.outcome) × (n + h ≡ m)) ⊎ ((h : ℕ) → h < count g.plan.outcome → n + h ≡ m → ⊥)
                 → ((e : End) × Met r n g is e × (at r n g is e ≡ ResultEnd m)) ⊎ IsBeside (ResultEnd m)
-            of_range (inr apart) = inr (m, refl, result_low r.outcome m c there, ap way_in there ∙ ap way_put asks, apart)
+            of_range (inr apart) = inr (m, refl, below_count r.outcome m c there, ap way_in there ∙ ap way_put asks, apart)
             of_range (inl (h, low, sum)) =
                 let port = result_port h low in
                 let lies : ResultEnd (n + h) ≡ ResultEnd m = ap ResultEnd sum in
@@ -304,6 +298,6 @@ module _ (r : Plan) (n : ℕ) (g : Side) (is : IsLaid r n g) where
   follows_none past shut =
       record {
         same = λ e port. sym (shut (at r n g is e));
-        only = λ b up. absurd (up_and_shut (is_open past b) up (shut b));
+        only = λ b up. absurd (true_is_not_false (is_open past b) up (shut b));
         met = λ e up. absurd (cc up);
       }

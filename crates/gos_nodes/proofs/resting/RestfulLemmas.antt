@@ -4,6 +4,7 @@ use Rattle.std.proofs.Common.{◌≡◌, [], ◌∷◌, ◌++◌, inl, inr, refl
 use Rattle.gos_types.specs.declared.shakes.Role.TheVariants.{Ask}
 use Rattle.gos_types.specs.Types.{IsDone}
 use Rattle.gos_types.specs.Events.{Direction, Request, Answer}
+use Rattle.gos_types.proofs.BoolLemmas.{true_is_not_false}
 use Rattle.gos_plan.specs.Kinds.{Contact}
 use Rattle.gos_plan.specs.Plans.{End, ResultEnd, Plan, contact_at}
 use Rattle.gos_plan.specs.Tokens.{Tokens, Element, Fire, Out, In, Passes, end_of, way_of, way_taken, way_put, Does, Runs, IsIdle}
@@ -17,14 +18,11 @@ use Rattle.gos_supplies.proofs.turns.RestLemmas.{passes_are, IsPortThere, shut_p
 use Rattle.gos_supplies.proofs.turns.GoesLemmas.{IsTurned}
 use Rattle.gos_supplies.proofs.turns.TurnedLemmas.{res}
 use Rattle.gos_supplies.proofs.turns.WholeLemmas.{first_turned}
-use Rattle.gos_supplies.proofs.turns.CopyLemmas.{passed_same, passed_else}
 use Rattle.gos_plan.proofs.DecidedLemmas.{Told}
 use Rattle.gos_realises.proofs.joined.ReachLemmas.{told_end}
+use Rattle.gos_realises.proofs.realises.PassLemmas.{open_itself, open_otherwise}
 use Rattle.gos_nodes.specs.windows.Nodes.{IsRestful}
 use Rattle.gos_nodes.specs.resting.Restful.{RestfulRests}
-
-up_down : (b : Bool) → b ≡ true → b ≡ false → ⊥
-up_down b up down = let clash : true ≡ false = sym up ∙ down in cc clash
 
 -- turns are kept after each list
 turned_after : (p : Plan) (xs : List Element) (past : List Pass) → IsTurned p past → InputsKeepTurns p past xs → OutputsKeepTurns p past xs
@@ -39,7 +37,7 @@ module _ (p : Plan) (done : IsDone p.outcome) (regular : IsRegular p) where
   result past = is_open past (ResultEnd 0)
 
   shut_all : (past : List Pass) → result past ≡ false → some_open (count p.outcome) (res past) ≡ true → ⊥
-  shut_all past shut busy = up_down (result past) (done_open p.outcome done (res past) busy) shut
+  shut_all past shut busy = true_is_not_false (result past) (done_open p.outcome done (res past) busy) shut
 
   asked : (c : Contact) → contact_at p (ResultEnd 0) ≡ Some c → c.role ≡ Ask
   asked c there = sym (result_asks p.outcome done 0 c there).1
@@ -64,7 +62,7 @@ module _ (p : Plan) (done : IsDone p.outcome) (regular : IsRegular p) where
         shut : result (passed p [] (xs ++ Out (ResultEnd 0) v ∷ [])) ≡ false
         shut =
             ap result (passed_then p [] xs (Out (ResultEnd 0) v))
-            ∙ (passed_same (ResultEnd 0) (way_out (contact_at p (ResultEnd 0))) (passed p [] xs) ∙ ap is_request ways)
+            ∙ (open_itself (ResultEnd 0) (way_out (contact_at p (ResultEnd 0))) (passed p [] xs) ∙ ap is_request ways)
 
     -- a list so far: where the result is not open all is idle
     record Still (ys : List Element) (u : Tokens) : Type 0 where
@@ -78,17 +76,17 @@ module _ (p : Plan) (done : IsDone p.outcome) (regular : IsRegular p) where
           let (c, there) = in_there p e v u w does in
           let at : contact_at p (ResultEnd 0) ≡ Some c = ap (contact_at p) (sym same) ∙ there in
           let ways : way_in (contact_at p e) ≡ Request = ap way_in there ∙ ap way_put (asked c at) in
-          ap (is_open (after p (In e v) past)) (sym same) ∙ (passed_same e (way_in (contact_at p e)) past ∙ ap is_request ways)
+          ap (is_open (after p (In e v) past)) (sym same) ∙ (open_itself e (way_in (contact_at p e)) past ∙ ap is_request ways)
 
       was_open : (ys : List Element) (u w : Tokens) (x : Element) → Still ys u → Does p x u w → InputTurns p (passed p [] ys) x
           → result (passed p [] ys) ≡ true → result (after p x (passed p [] ys)) ≡ false → IsIdle p w
-      was_open ys u w (Fire i k) so does turn up down = absurd (up_down (result (passed p [] ys)) up down)
+      was_open ys u w (Fire i k) so does turn up down = absurd (true_is_not_false (result (passed p [] ys)) up down)
       was_open ys u w (In e v) so does turn up down = by_end (told_end e (ResultEnd 0))
         where
           by_end : Told (e ≡ ResultEnd 0) → IsIdle p w
-          by_end (inl same) = absurd (up_down (result (after p (In e v) (passed p [] ys))) (now_open e v u w (passed p [] ys) does same) down)
+          by_end (inl same) = absurd (true_is_not_false (result (after p (In e v) (passed p [] ys))) (now_open e v u w (passed p [] ys) does same) down)
           by_end (inr apart) =
-              absurd (up_down (result (passed p [] ys)) up (sym (passed_else e (ResultEnd 0) (way_in (contact_at p e)) (passed p [] ys) apart) ∙ down))
+              absurd (true_is_not_false (result (passed p [] ys)) up (sym (open_otherwise e (ResultEnd 0) (way_in (contact_at p e)) (passed p [] ys) apart) ∙ down))
       was_open ys u w (Out e v) so does turn up down = by_end (told_end e (ResultEnd 0))
         where
           by_end : Told (e ≡ ResultEnd 0) → IsIdle p w
@@ -96,7 +94,7 @@ module _ (p : Plan) (done : IsDone p.outcome) (regular : IsRegular p) where
               let own : Does p (Out (ResultEnd 0) v) u w = subst (λ (d : End). Does p (Out d v) u w) same does in
               restful s w ys v idle (runs_then p ys (Out (ResultEnd 0) v) s u w so.runs own) (inputs_then p [] ys (Out (ResultEnd 0) v ∷ []) so.ins tt)
           by_end (inr apart) =
-              absurd (up_down (result (passed p [] ys)) up (sym (passed_else e (ResultEnd 0) (way_out (contact_at p e)) (passed p [] ys) apart) ∙ down))
+              absurd (true_is_not_false (result (passed p [] ys)) up (sym (open_otherwise e (ResultEnd 0) (way_out (contact_at p e)) (passed p [] ys) apart) ∙ down))
 
       was_shut : (ys : List Element) (u w : Tokens) (x : Element) → Still ys u → Does p x u w → InputTurns p (passed p [] ys) x
           → result (passed p [] ys) ≡ false → result (after p x (passed p [] ys)) ≡ false → IsIdle p w
@@ -117,7 +115,7 @@ module _ (p : Plan) (done : IsDone p.outcome) (regular : IsRegular p) where
           by_way Request is keeps =
               shut_ports p (pass e Request ∷ passed p [] ys) keeps.1
               (shut_all (pass e Request ∷ passed p [] ys) (subst (λ (d : Direction). result (pass e d ∷ passed p [] ys) ≡ false) is down)) e port
-              (passed_same e Request (passed p [] ys))
+              (open_itself e Request (passed p [] ys))
           by_way Answer is keeps =
               shut_ports p (passed p [] ys) (turned_so ys u so.runs so.ins) (shut_all (passed p [] ys) shut) e port keeps.0
 

@@ -1,5 +1,5 @@
 -- A plan whose result is asked at one handshake: which ports it has, and turns at these.
-use Rattle.std.specs.Prelude.{None, ◌+◌, ◌-◌, ◌<◌, slice_get, nat_eq, nat_lt}
+use Rattle.std.specs.Prelude.{◌+◌, ◌-◌, ◌<◌, slice_get, nat_eq, nat_lt}
 use Rattle.std.proofs.Common.{◌≡◌, ℕ, zero, suc, Bool, true, false, List, [], ◌∷◌, ◌⊎◌, Option, Some, inl, inr, refl, sym, ◌∙◌, ap, arith, if◌then◌else◌}
 use Rattle.std.proofs.lemmas.Option.{none-some, same_Some, slice_get_within}
 use Rattle.std.proofs.lemmas.Bool.Decides.{nat_tests}
@@ -8,9 +8,11 @@ use Rattle.gos_types.specs.Types.{Type', Com, Exp, Var, Pair, Fun, IsGround, IsD
 use Rattle.gos_nodes.specs.sessions.Sessions.{bits}
 use Rattle.gos_types.specs.Events.{Request, Answer}
 use Rattle.gos_model.specs.Typing.{Imported}
+use Rattle.gos_model.proofs.NumberLemmas.{nat_eq_itself}
 use Rattle.gos_plan.specs.Kinds.{Contact, asks, contacts_of}
 use Rattle.gos_plan.specs.Plans.{End, PartEnd, ImportEnd, ResultEnd, Plan, contact_at, contacts_of_import, turned_if}
 use Rattle.gos_plan.specs.Tokens.{IsPortEnd, In}
+use Rattle.gos_plan.proofs.ContactLemmas.{turned_some}
 use Rattle.gos_realises.specs.realises.Regular.{count, Pass, pass, way_in, way_out, is_open, beyond, KeepsTurnsOf, whole_type, whole_end}
 use Rattle.gos_realises.specs.realises.Realises.{AllGround}
 use Rattle.gos_realises.proofs.realises.GroundTurnLemmas.{width, count_fun, there_some, some_there, done_kept}
@@ -20,7 +22,6 @@ use Rattle.gos_nodes.proofs.windows.TurnLemmas.{Turned, ports_turned, whole_inde
 use Rattle.gos_joining.proofs.renumbered.TurnLemmas.{of_result}
 use Rattle.gos_nodes.specs.windows.OneSession.{IsAsked, Stays}
 use Rattle.gos_joining.specs.webs.Cutting.{Cut, StandsIn}
-use Rattle.gos_plan.proofs.TurnLemmas.{nat_eq_self}
 use Rattle.gos_nodes.specs.windows.OpenNodes.{IsHeard}
 
 -- a result of a ground type asks
@@ -126,10 +127,6 @@ answered_shut h past only k = by_test (nat_eq h k) refl
     by_test true t = refl
     by_test false t = by_open (is_open past (ResultEnd k)) refl t
 
-not_turned : (o : Option Contact) (c : Contact) → turned_if o ≡ Some c → (k : Contact) × (o ≡ Some k)
-not_turned None c is = absurd (none-some c is)
-not_turned (Some k) c is = (k, refl)
-
 -- the handshake of a command or an expression
 pub done_contact : (t : Type') → IsDone t → turned_if (slice_get (contacts_of t) 0) ≡ Some (asks 0 (bits t))
 done_contact Com done = refl
@@ -185,12 +182,12 @@ module _ (p : Plan) (h asking answering : ℕ) (is : IsAskedAt p h asking answer
     where
       below : h < count p.outcome
       below =
-          let (k, there) = not_turned (slice_get (contacts_of p.outcome) h) (asks asking answering) is.contact in
+          let (k, there) = turned_some (slice_get (contacts_of p.outcome) h) (asks asking answering) is.contact in
           slice_get_within (contacts_of p.outcome) h k there
 
   pub asked_first : Turned p (pass (ResultEnd h) Request ∷ [])
   asked_first =
-      asked_turned (pass (ResultEnd h) Request ∷ []) (λ k up. one k (nat_eq h k) refl up) (ap (λ (b : Bool). if b then true else false) (nat_eq_self h))
+      asked_turned (pass (ResultEnd h) Request ∷ []) (λ k up. one k (nat_eq h k) refl up) (ap (λ (b : Bool). if b then true else false) (nat_eq_itself h))
       (λ i g x there up. absurd (cc up))
     where
       one : (k : ℕ) (b : Bool) → nat_eq h k ≡ b → (if b then true else false) ≡ true → k ≡ h

@@ -9,6 +9,8 @@ use Rattle.gos_types.specs.declared.shakes.Role.{Role}
 use Rattle.gos_types.specs.declared.shakes.Role.TheVariants.{Serve, Ask}
 use Rattle.gos_types.specs.Types.{Type'}
 use Rattle.gos_types.specs.Events.{Direction, Request, Answer}
+use Rattle.gos_types.proofs.BoolLemmas.{true_is_not_false, else_true}
+use Rattle.gos_model.proofs.NumberLemmas.{nat_eq_itself}
 use Rattle.gos_plan.specs.Kinds.{Part, Share, Contact, contacts_of}
 use Rattle.gos_plan.specs.Firing.{Phase, State, Slot, Req, Ans, Token, Row, at, same_slot, firing}
 use Rattle.gos_plan.specs.Plans.{End, PartEnd, ImportEnd, ResultEnd, Plan, IsRight, contact_at, same_end}
@@ -20,10 +22,11 @@ use Rattle.gos_plan.specs.Firings.{after_taking}
 use Rattle.gos_plan.specs.Projection.{asked_by}
 use Rattle.gos_plan.proofs.JointLemmas.{fits, Found, found, same_is, same_itself}
 use Rattle.gos_plan.proofs.HeldLemmas.{AllFit, step}
-use Rattle.gos_plan.proofs.TurnLemmas.{token_state, fired_state, nat_eq_self}
+use Rattle.gos_plan.proofs.TurnLemmas.{token_state, fired_state}
 use Rattle.gos_plan.proofs.AskingLemmas.{RoleIs, RequestAsks, PutsAsking, row_roles}
 use Rattle.gos_plan.proofs.RowLemmas.{role_taking}
 use Rattle.gos_plan.proofs.ProjectionLemmas.{named, taken_port, put_port}
+use Rattle.gos_plan.proofs.ElementLemmas.{orderly_then}
 use Rattle.gos_realises.specs.realises.Regular.{Pass, pass, is_open, way_in, way_out}
 use Rattle.gos_realises.proofs.realises.InputLemmas.{passed, in_there, out_there}
 use Rattle.gos_realises.proofs.realises.RingLemmas.{after}
@@ -34,7 +37,6 @@ use Rattle.gos_realises.proofs.quiet.LadderLemmas.{LawAt, put_role, at_end, part
 use Rattle.gos_realises.proofs.quiet.LadderStepLemmas.{Law, taken_busy, was_open}
 use Rattle.gos_realises.proofs.quiet.SharedLemmas.{Passes, asked_first, asked_second, answered_source, asked_source, answered_caller, shared_row}
 use Rattle.gos_realises.proofs.quiet.AloneStepLemmas.{Fact, fact, keeps_busy, open_after, open_other}
-use Rattle.gos_realises.proofs.quiet.HoldLemmas.{orderly_append}
 use Rattle.gos_realises.proofs.quiet.GrowLemmas.{always_ties}
 use Rattle.gos_nodes.specs.windows.Closing.{OpenIdleIsClosed, IdleIsClosed}
 use Rattle.gos_nodes.proofs.windows.PortLemmas.{port_role}
@@ -72,13 +74,6 @@ same_number i j same = grind (arith, same)
 same_req : (h : ℕ) → same_slot (Req h) (Req h) ≡ true
 same_req h = grind arith
 
-not_none : (b : Bool) → b ≡ true → b ≡ false → ⊥
-not_none b up down = let both : true ≡ false = sym up ∙ down in cc both
-
-shut_more : (b held : Bool) → (if b then false else held) ≡ true → held ≡ true
-shut_more true held h = absurd (cc h)
-shut_more false held h = h
-
 module _ (p : Plan) (right : IsRight p) where
   -- what asks has the name of its handshake
   pub asks_itself : (e : End) (c : Contact) → contact_at p e ≡ Some c → c.role ≡ Ask → handshake_at p e ≡ e
@@ -114,7 +109,7 @@ module _ (p : Plan) (right : IsRight p) where
 
   taken_more : (d : End) (way : Direction) (o : Open) (e : End) → after_taken p d way o e ≡ true → o e ≡ true
   taken_more d Request o e up = up
-  taken_more d Answer o e up = shut_more (same_end e (handshake_at p d)) (o e) up
+  taken_more d Answer o e up = else_true (same_end e (handshake_at p d)) (o e) up
 
   pub port_before : (j : ℕ) (slot : Slot) (o m : Open) (s w : Tokens) → Fact p j slot o s m w → (e : End) → IsPortEnd e → m e ≡ true → o e ≡ true
   port_before j slot o m s w x e port up =
@@ -132,7 +127,7 @@ module _ (p : Plan) (right : IsRight p) where
     state_own : w.state j ≡ x.row.next x.value
     state_own =
         ap (λ (y : Tokens). y.state j) x.leads
-        ∙ (fired_state p j x.row x.value s j ∙ ap (λ (b : Bool). if b then x.row.next x.value else s.state j) (nat_eq_self j))
+        ∙ (fired_state p j x.row x.value s j ∙ ap (λ (b : Bool). if b then x.row.next x.value else s.state j) (nat_eq_itself j))
 
     -- a part that waits
     plain_now : (a : ℕ) → IsUnshared x.kind → (o (PartEnd j a) ≡ true → Waits x.kind (s.state j) a) → m (PartEnd j a) ≡ true → Waits x.kind (w.state j) a
@@ -190,7 +185,7 @@ module _ (p : Plan) (right : IsRight p) where
             let before_now = ap (λ (k : ℕ). o (PartEnd k a)) (sym part) ∙ before in
             let tied = subst (λ (k : Part). LawAt p o j k (s.state j) x.value x.row) kind (law j x.kind slot x.row x.value x.is x.lies x.fires) in
             let never = ((tied a b).1 passed before_now (not_taken t kind a up_now)).0 in
-            not_none (is_put (Ans b) (x.row.puts x.value)) (ap (λ (k : ℕ). is_put (Ans k) (x.row.puts x.value)) shake ∙ put) never
+            true_is_not_false (is_put (Ans b) (x.row.puts x.value)) (ap (λ (k : ℕ). is_put (Ans k) (x.row.puts x.value)) shake ∙ put) never
 
         never : NeverAnswers p j n (x.row.puts x.value)
         never h put place =
@@ -236,7 +231,7 @@ module _ (p : Plan) (right : IsRight p) where
           never g put_there place =
               let same = one_server p (PartEnd j h) (PartEnd j g) taken.joint.asking right taken.place place (at_end p j h (Share t) (x.is ∙ ap (λ (k : Part). Some k) kind) serves)
               (at_end p j g x.kind x.is (put_role x.kind (x.row.puts x.value) g x.puts_role put_there)) in
-              not_none (is_put (Ans g) (x.row.puts x.value)) put_there (ap (λ (k : ℕ). is_put (Ans k) (x.row.puts x.value)) (sym (shake_is j j h g same)) ∙ tied.1)
+              true_is_not_false (is_put (Ans g) (x.row.puts x.value)) put_there (ap (λ (k : ℕ). is_put (Ans k) (x.row.puts x.value)) (sym (shake_is j j h g same)) ∙ tied.1)
 
           busy_now : Busy m w taken.joint.asking
           busy_now = keeps_busy p j slot o m s w taken.joint.asking x busy_taken_so never
@@ -249,10 +244,10 @@ module _ (p : Plan) (right : IsRight p) where
             where
               by_put : (b : Bool) → is_put (Req a) (x.row.puts x.value) ≡ b → (if b then true else after_taking slot (asked_by j o) a) ≡ true → Rooted p m w (PartEnd j a)
               by_put true put now = let took = share_takes t kind a put in opened t kind a took.0 took.1 put
-              by_put false put now = absurd (not_none (o (PartEnd j a)) (was_open slot (asked_by j o) a now).0 shut)
+              by_put false put now = absurd (true_is_not_false (o (PartEnd j a)) (was_open slot (asked_by j o) a now).0 shut)
 
           of_plain : o (PartEnd j a) ≡ false → IsUnshared x.kind → Rooted p m w (PartEnd j a)
-          of_plain shut plain = at_plain j a x.kind x.is plain (plain_now a plain (λ was. absurd (not_none (o (PartEnd j a)) was shut)) up)
+          of_plain shut plain = at_plain j a x.kind x.is plain (plain_now a plain (λ was. absurd (true_is_not_false (o (PartEnd j a)) was shut)) up)
 
           by_before : (b : Bool) → o (PartEnd j a) ≡ b → Rooted p m w (PartEnd j a)
           by_before true before = keeps (PartEnd j a) (rooted (PartEnd j a) before) before up
@@ -335,12 +330,12 @@ module _ (p : Plan) (right : IsRight p) where
   all_rooted first idle [] ys o u s t before list fit rooted =
       subst (λ (z : Open). AllRooted p z t) (sym list.0) (subst (λ (z : Tokens). AllRooted p o z) (sym list.1) rooted)
   all_rooted first idle (x ∷ xs) ys o u s t before (m, w, does, comes, welcome, list) fit rooted =
-      all_rooted first idle xs (ys ++ x ∷ []) m u w t (orderly_append p ys (x ∷ []) none_open o m first s w before (m, w, does, comes, welcome, (refl, refl))) list
+      all_rooted first idle xs (ys ++ x ∷ []) m u w t (orderly_then p ys (x ∷ []) none_open o m first s w before (m, w, does, comes, welcome, (refl, refl))) list
       (step p x o m s w does comes fit) (one_rooted x o m s w fit (always_ties p right first s ys o idle before) does comes rooted)
 
   -- where all is idle
   none_waits : (o : Open) (t : Tokens) → IsIdle p t → ((e : End) → IsPortEnd e → o e ≡ false) → (y : End) → Rooted p o t y → o y ≡ true → ⊥
-  none_waits o t idle shut y (at_port e port) up = not_none (o y) up (shut y port)
+  none_waits o t idle shut y (at_port e port) up = true_is_not_false (o y) up (shut y port)
   none_waits o t idle shut y (at_plain i a k is plain waits) up =
       rest_waits k (t.state i).number a (subst (λ (q : Phase). Waits k (at q (t.state i).number) a) (idle.1 i) waits)
   none_waits o t idle shut y (at_share i a b s n is there serves passed busy below) up = none_waits o t idle shut n below busy.is_open
@@ -361,7 +356,7 @@ module _ (p : Plan) (right : IsRight p) where
       by_test true q t l up =
           let is = same_is d e t in
           ((c, ap (contact_at p) is ∙ there, asks), ap (λ (x : End). if same_end e x then true else is_open past x) is ∙ ap (λ (b : Bool). if b then true else is_open past e) (same_itself e))
-      by_test false true t l up = absurd (not_none (same_end d e) (ap (λ (x : End). same_end d x) (same_is e d l) ∙ same_itself d) t)
+      by_test false true t l up = absurd (true_is_not_false (same_end d e) (ap (λ (x : End). same_end d x) (same_is e d l) ∙ same_itself d) t)
       by_test false false t l up = let (own, held) = ports d at up in (own, ap (λ (b : Bool). if b then true else is_open past d) l ∙ held)
   put_port_open e c port there o past ports Serve serves d at up = by_test (same_end e d) refl
     where
@@ -382,7 +377,7 @@ module _ (p : Plan) (right : IsRight p) where
       by_test : (b q : Bool) → same_end d e ≡ b → same_end e d ≡ q → (if b then false else o d) ≡ true
           → ((c : Contact) × (contact_at p d ≡ Some c) × (c.role ≡ Ask)) × (is_open (pass e Answer ∷ past) d ≡ true)
       by_test true q t l up = absurd (cc up)
-      by_test false true t l up = absurd (not_none (same_end d e) (ap (λ (x : End). same_end d x) (same_is e d l) ∙ same_itself d) t)
+      by_test false true t l up = absurd (true_is_not_false (same_end d e) (ap (λ (x : End). same_end d x) (same_is e d l) ∙ same_itself d) t)
       by_test false false t l up = let (own, held) = ports d at up in (own, ap (λ (b : Bool). if b then false else is_open past d) l ∙ held)
   taken_port_open e c port there o past ports Serve serves d at up = by_test (same_end e d) refl
     where

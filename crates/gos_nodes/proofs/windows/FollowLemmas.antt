@@ -5,18 +5,19 @@ use Rattle.gos_types.specs.declared.shakes.Role.TheVariants.{Ask}
 use Rattle.gos_types.specs.Types.{IsDone}
 use Rattle.gos_types.specs.Events.{Direction, Request, Answer}
 use Rattle.gos_model.specs.Typing.{Imported}
+use Rattle.gos_model.proofs.NumberLemmas.{nat_eq_itself}
 use Rattle.gos_plan.specs.Kinds.{Contact}
 use Rattle.gos_plan.specs.Plans.{End, ImportEnd, ResultEnd, Plan, contact_at, same_end}
 use Rattle.gos_plan.proofs.JointLemmas.{same_is}
-use Rattle.gos_plan.proofs.TurnLemmas.{nat_eq_self}
 use Rattle.gos_realises.specs.realises.Regular.{Pass, pass, is_request, is_open, KeepsTurnsOf, ComesInTurn}
 use Rattle.gos_joining.specs.webs.Cutting.{lies_at, StandsIn}
 use Rattle.gos_joining.proofs.webs.CutLemmas.{place_there}
+use Rattle.gos_sharing.proofs.buffers.BranchLemmas.{place_stands}
 use Rattle.gos_nodes.specs.windows.Nodes.{Stage}
 use Rattle.gos_nodes.specs.windows.Windows.{Runner}
 use Rattle.gos_nodes.proofs.windows.InlayLemmas.{inlay, inlay_place}
 use Rattle.gos_nodes.proofs.windows.MeetLemmas.{Meets, met_joined, HasPorts, AreFollowed, met_at, met_import, heard_meets, followed_pass, alike}
-use Rattle.gos_nodes.proofs.windows.PortLemmas.{stands_place, place_stands}
+use Rattle.gos_nodes.proofs.windows.PortLemmas.{stands_place}
 use Rattle.gos_nodes.proofs.windows.TurnLemmas.{Turned, import_kept, imports_turned, OnlyResult}
 use Rattle.gos_nodes.proofs.windows.RunnerLemmas.{IsAskedStage, HasStages}
 use Rattle.gos_nodes.proofs.windows.AskedLemmas.{OnlyAt, asked_turned}
@@ -66,7 +67,7 @@ module _
   follows_first past (result, closed) =
       record {
         result = result;
-        of_stage = ap (λ (b : Bool). if b then true else false) (nat_eq_self (runner.asked g));
+        of_stage = ap (λ (b : Bool). if b then true else false) (nat_eq_itself (runner.asked g));
         alone = λ k up. by_test k (nat_eq (runner.asked g) k) refl up;
         imports = record { same = λ i h k meets at. sym (closed k h); met = λ i h up. absurd (cc up) };
         only = λ k h up. let clash : false ≡ true = sym (closed k h) ∙ up in absurd (cc clash);

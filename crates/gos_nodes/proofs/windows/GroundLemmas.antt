@@ -7,6 +7,7 @@ use Rattle.gos_types.specs.Types.{Type', Com, Exp, Var, Pair, Fun, IsGround, IsD
 use Rattle.gos_model.specs.Typing.{Imported}
 use Rattle.gos_plan.specs.Kinds.{Contact, contacts_of}
 use Rattle.gos_types.specs.Events.{Answer}
+use Rattle.gos_types.proofs.BoolLemmas.{else_true}
 use Rattle.gos_plan.specs.Plans.{ImportEnd, ResultEnd, Plan, contact_at, contacts_of_import, same_end}
 use Rattle.gos_realises.specs.realises.Regular.{count, Pass, pass, is_open, beyond, KeepsTurnsOf, whole_type, whole_end}
 use Rattle.gos_realises.specs.realises.Realises.{AllGround}
@@ -14,17 +15,13 @@ use Rattle.gos_realises.proofs.realises.GroundTurnLemmas.{width, width_small, th
 use Rattle.gos_nodes.proofs.windows.TurnLemmas.{Turned}
 
 -- where an import answers
-closed_more : (b held : Bool) → (if b then false else held) ≡ true → held ≡ true
-closed_more true held h = absurd (cc h)
-closed_more false held h = h
-
 pub answer_turned : (p : Plan) → AllGround p.imports → IsDone p.outcome → (i g : ℕ) (past : List Pass) → Turned p past → Turned p (pass (ImportEnd i g) Answer ∷ past)
 answer_turned p ground done i g past turned =
     turns_kept p.imports p.outcome ground done (λ h. is_open past (whole_end 0 p.imports h)) (λ h. is_open (pass (ImportEnd i g) Answer ∷ past) (whole_end 0 p.imports h)) less more
     turned
   where
     less : (h : ℕ) → h < width p.imports → is_open (pass (ImportEnd i g) Answer ∷ past) (whole_end 0 p.imports h) ≡ true → is_open past (whole_end 0 p.imports h) ≡ true
-    less h low up = closed_more (same_end (ImportEnd i g) (whole_end 0 p.imports h)) (is_open past (whole_end 0 p.imports h)) up
+    less h low up = else_true (same_end (ImportEnd i g) (whole_end 0 p.imports h)) (is_open past (whole_end 0 p.imports h)) up
 
     more : is_open past (whole_end 0 p.imports (width p.imports)) ≡ true → is_open (pass (ImportEnd i g) Answer ∷ past) (whole_end 0 p.imports (width p.imports)) ≡ true
     more up = ap (is_open (pass (ImportEnd i g) Answer ∷ past)) (result_end 0 p.imports) ∙ (sym (ap (is_open past) (result_end 0 p.imports)) ∙ up)

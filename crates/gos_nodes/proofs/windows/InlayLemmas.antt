@@ -4,14 +4,15 @@
 use Rattle.std.specs.Prelude.{None, not, ◌||◌, ◌&&◌, map}
 use Rattle.std.proofs.Common.{◌≡◌, ℕ, true, List, [], ◌∷◌, ◌⊎◌, Option, Some, inl, inr, refl, sym, ◌∙◌, ap, subst}
 use Rattle.gos_types.specs.Events.{Direction}
+use Rattle.gos_types.proofs.BoolLemmas.{same_tests}
 use Rattle.gos_plan.specs.Firing.{Token, Row}
 use Rattle.gos_plan.specs.Plans.{End, PartEnd, ImportEnd, ResultEnd, Joint, Plan, contact_at, same_end, stands_in, is_free, Fits, AreRight}
 use Rattle.gos_plan.specs.Tokens.{Tokens, places_of, held_at, with_held, with_token, with_state, token_at, with_puts, end_of, way_of, fired}
-use Rattle.gos_plan.proofs.JointLemmas.{IsIn, same_itself, same_is, fits, Found, found, one_joint, stands_there, contained}
+use Rattle.gos_plan.proofs.JointLemmas.{IsIn, same_itself, same_is, fits, Found, found, one_joint, stands_there, contained, asking_stands, serving_stands, which_end}
 use Rattle.gos_joining.specs.webs.Webs.{joint}
 use Rattle.gos_joining.specs.webs.Cutting.{Cut, lies_at, IsInside, StandsIn, IsCut, asks_in}
-use Rattle.gos_joining.proofs.webs.MovedLemmas.{listed, same_bool}
-use Rattle.gos_joining.proofs.webs.CutLemmas.{name_by, name_of, Owns, outside_name, which_end, stands_by, first_stands, last_stands, stands_own, Asked, asks_one}
+use Rattle.gos_joining.proofs.webs.MovedLemmas.{listed}
+use Rattle.gos_joining.proofs.webs.CutLemmas.{name_by, name_of, Owns, outside_name, stands_by, stands_own, Asked, asks_one}
 use Rattle.gos_nodes.specs.windows.Regions.{Serving, IsOther, IsRegion}
 
 abbrev pub laid : Cut → Joint → Joint
@@ -50,7 +51,7 @@ module _
       let both : Some d ≡ Some e = sym (region_name d own) ∙ (ap (name_of f) same ∙ region_name e also) in cc both
 
   same_laid : (d e : End) → Owns c d → Owns c e → same_end (lies_at f d) (lies_at f e) ≡ same_end d e
-  same_laid d e own also = same_bool (same_end (lies_at f d) (lies_at f e)) (same_end d e) to from
+  same_laid d e own also = same_tests (same_end (lies_at f d) (lies_at f e)) (same_end d e) to from
     where
       to : same_end (lies_at f d) (lies_at f e) ≡ true → same_end d e ≡ true
       to h = subst (λ (x : End). same_end d x ≡ true) (region_one d e own also (same_is (lies_at f d) (lies_at f e) h)) (same_itself d)
@@ -72,8 +73,8 @@ module _
   free_laid a own [] within = refl
   free_laid a own (x ∷ xs) within =
       let here = within x (inl refl) in
-      let first = same_laid a x.asking own (stands_own c x x.asking is.right here (first_stands x)) in
-      let last = same_laid a x.serving own (stands_own c x x.serving is.right here (last_stands x)) in
+      let first = same_laid a x.asking own (stands_own c x x.asking is.right here (asking_stands x)) in
+      let last = same_laid a x.serving own (stands_own c x x.serving is.right here (serving_stands x)) in
       let rest = free_laid a own xs (λ y later. within y (inr later)) in λ i. not (first i || last i) && rest i
 
   right_laid : (before js : List Joint) → ((x : Joint) → IsIn x before → IsIn x c.joints) → ((x : Joint) → IsIn x js → IsIn x c.joints)
@@ -82,8 +83,8 @@ module _
   right_laid before (j ∷ js) within also ((fit, first, last), rest) = (
     (
       fits_laid j (also j (inl refl)),
-      free_laid j.asking (stands_own c j j.asking is.right (also j (inl refl)) (first_stands j)) before within ∙ first,
-      free_laid j.serving (stands_own c j j.serving is.right (also j (inl refl)) (last_stands j)) before within ∙ last,
+      free_laid j.asking (stands_own c j j.asking is.right (also j (inl refl)) (asking_stands j)) before within ∙ first,
+      free_laid j.serving (stands_own c j j.serving is.right (also j (inl refl)) (serving_stands j)) before within ∙ last,
     ),
     right_laid (j ∷ before) js onto (λ x later. also x (inr later)) rest,
   )
@@ -221,5 +222,5 @@ module _
           record { own = d; owned = stands_own c one.joint d is.right one.is_in in_joint; stands = (one.joint, listed c.joints one.joint one.is_in, in_joint); lies = sym lies; agrees = agreeing }
 
       of_end : (e ≡ lies_at f one.joint.asking) ⊎ (e ≡ lies_at f one.joint.serving) → LiesOn e
-      of_end (inl lies) = at_end one.joint.asking (first_stands one.joint) lies
-      of_end (inr lies) = at_end one.joint.serving (last_stands one.joint) lies
+      of_end (inl lies) = at_end one.joint.asking (asking_stands one.joint) lies
+      of_end (inr lies) = at_end one.joint.serving (serving_stands one.joint) lies

@@ -6,6 +6,7 @@ use Rattle.std.proofs.lemmas.Option.{none-some, same_Some}
 use Rattle.std.proofs.lemmas.Bool.Decides.{nat_tests}
 use Rattle.gos_types.specs.Types.{Type', Com, Exp, Var, Pair, Fun, IsGround, IsDone}
 use Rattle.gos_types.specs.Events.{Direction, Request, Answer}
+use Rattle.gos_types.proofs.BoolLemmas.{true_is_not_false}
 use Rattle.gos_model.specs.Typing.{Imported, Imports, import_type}
 use Rattle.gos_model.specs.Labels.{Taken, Label, is_output, is_output_at}
 use Rattle.gos_model.specs.Protocol as protocol
@@ -57,9 +58,6 @@ answer_fits (Var w) ground (suc zero) c is v small = subst (λ (x : Contact). v 
 answer_fits (Var w) ground (suc (suc h)) c is v small = absurd (none-some c is)
 answer_fits (Pair a b) ground h c is v small = absurd ground
 answer_fits (Fun a b) ground h c is v small = absurd ground
-
-true_not_false : (b : Bool) → b ≡ true → b ≡ false → ⊥
-true_not_false b up down = let both : true ≡ false = sym up ∙ down in cc both
 
 module _ (p : Plan) (ground : AllGround p.imports) (differ : NamesDiffer p.imports) (done : IsDone p.outcome) where
   -- an output shows an output
@@ -130,7 +128,7 @@ module _ (p : Plan) (ground : AllGround p.imports) (differ : NamesDiffer p.impor
       let (c, there) = out_there p e v u w does in
       let way = ap way_out there in
       let shown : is_output (label_at p e (way_out (contact_at p e)) v) ≡ true = ap (λ (d : Direction). is_output (label_at p e d v)) way ∙ shows_output e v c does.0 there in (
-        (λ no. absurd (true_not_false (is_output (label_at p e (way_out (contact_at p e)) v)) shown no)),
+        (λ no. absurd (true_is_not_false (is_output (label_at p e (way_out (contact_at p e)) v)) shown no)),
         keeps xs w t (label_at p e (way_out (contact_at p e)) v ∷ ls) (pass e (way_out (contact_at p e)) ∷ past)
             (alike_after p differ e (way_out (contact_at p e)) v ls past c there does.0 agree) runs turns,
       )

@@ -2,6 +2,7 @@
 use Rattle.std.specs.Prelude.{None, slice_get, Contains, length}
 use Rattle.std.proofs.Common.{◌≡◌, ℕ, Bool, List, Option, Some, refl, sym, ◌∙◌, ap, subst, if◌then◌else◌}
 use Rattle.std.proofs.lemmas.Option.{same_Some, slice_get_within}
+use Rattle.std.proofs.lemmas.Bool.{lt-ltb}
 use Rattle.gos_types.specs.Events.{Direction, Answer}
 use Rattle.gos_plan.specs.Kinds.{Part, Contact}
 use Rattle.gos_model.specs.Moves.{Act}
@@ -10,14 +11,15 @@ use Rattle.gos_plan.specs.Plans.{End, PartEnd, ImportEnd, Plan, contact_at}
 use Rattle.gos_plan.specs.Tokens.{Tokens, Element, Fire, Out, In, IsPortEnd, places_of, token_at, with_token, end_of, way_of, way_taken, way_put, fired, firing_of, Passes, Does}
 use Rattle.gos_plan.proofs.DecidedLemmas.{one_state}
 use Rattle.gos_plan.proofs.HeldLemmas.{nothing_there}
+use Rattle.gos_plan.proofs.ElementLemmas.{firing_part}
 use Rattle.gos_realises.proofs.realises.InputLemmas.{in_there, out_there}
 use Rattle.gos_realises.specs.realises.Matched.{GoesOn}
 use Rattle.gos_joining.specs.webs.Cutting.{lies_at, StandsIn}
-use Rattle.gos_joining.proofs.webs.CutLemmas.{Owns, part_there, token_cut}
+use Rattle.gos_joining.proofs.webs.CutLemmas.{Owns, token_cut}
+use Rattle.gos_sharing.proofs.buffers.BranchLemmas.{place_stands}
 use Rattle.gos_nodes.specs.windows.Nodes.{Stage}
 use Rattle.gos_nodes.specs.windows.Windows.{Runner, seen}
 use Rattle.gos_nodes.proofs.windows.InlayLemmas.{inlay, place_agrees, agree_token}
-use Rattle.gos_nodes.proofs.windows.PortLemmas.{place_stands, below_so}
 use Rattle.gos_nodes.proofs.windows.RunnerLemmas.{IsAskedStage, HasStages}
 use Rattle.gos_nodes.proofs.windows.StageLemmas.{stage, cut, InStage, Ran, fires_in, out_in, in_in}
 
@@ -50,8 +52,8 @@ module _ (r : Plan) (d : ℕ) (runner : Runner) (gs : List Stage) (base : HasSta
   pub fires_whole : (s : Tokens) (j : ℕ) (slot : Slot) (row : Row) → firing_of (slice_get g.plan.parts j) ((seen g s).state j) slot ≡ Some row
       → firing_of (slice_get r.parts (g.cut.part j)) (s.state (g.cut.part j)) slot ≡ Some row
   fires_whole s j slot row by =
-      let part = part_there (slice_get g.plan.parts j) ((seen g s).state j) slot row by in
-      let within = below_so j (length g.plan.parts) (slice_get_within g.plan.parts j part.0 part.1) in
+      let part = firing_part (slice_get g.plan.parts j) ((seen g s).state j) slot row by in
+      let within = lt-ltb j (length g.plan.parts) (slice_get_within g.plan.parts j part.0 part.1) in
       let in_state : firing_of (slice_get g.plan.parts j) (s.state (g.cut.part j)) slot ≡ Some row =
       sym (ap (λ (b : Bool). firing_of (slice_get g.plan.parts j) (if b then s.state (g.cut.part j) else at Rest 0) slot) within) ∙ by in
       let same = (there.region.parts j part.0 part.1).0 in
@@ -70,7 +72,7 @@ module _ (r : Plan) (d : ℕ) (runner : Runner) (gs : List Stage) (base : HasSta
       record { to = to; does = does; same = one_state g.plan (Fire j slot) (seen g s) (seen g to) u own.0 (v, row, held, by, leads); within = own.1 }
     where
       part : (k : Part) × (slice_get g.plan.parts j ≡ Some k)
-      part = part_there (slice_get g.plan.parts j) ((seen g s).state j) slot row by
+      part = firing_part (slice_get g.plan.parts j) ((seen g s).state j) slot row by
 
       to : Tokens
       to = fired r (g.cut.part j) row v s
@@ -147,5 +149,5 @@ module _ (r : Plan) (d : ℕ) (runner : Runner) (gs : List Stage) (base : HasSta
       → GoesOn g.plan (seen g s) (Fire j slot) acts
   goes_down s u j (Req h) acts does goes = tt
   goes_down s u j (Ans h) acts does goes = λ v row held by asks.
-      let part = part_there (slice_get g.plan.parts j) ((seen g s).state j) (Ans h) row by in
+      let part = firing_part (slice_get g.plan.parts j) ((seen g s).state j) (Ans h) row by in
       goes v row (held_whole s (PartEnd j h) part Answer v held) (fires_whole s j (Ans h) row by) asks

@@ -4,6 +4,7 @@ use Rattle.std.specs.Prelude.{None, slice_get}
 use Rattle.std.proofs.Common.{◌≡◌, ℕ, Bool, true, false, List, ◌∷◌, ◌⊎◌, Option, Some, inl, inr, refl, sym, ◌∙◌, ap, subst, if◌then◌else◌}
 use Rattle.gos_types.specs.declared.shakes.Role.TheVariants.{Ask}
 use Rattle.gos_types.specs.Events.{Direction}
+use Rattle.gos_types.proofs.BoolLemmas.{same_tests}
 use Rattle.gos_model.specs.Typing.{Imported}
 use Rattle.gos_plan.specs.Kinds.{Contact}
 use Rattle.gos_plan.specs.Plans.{End, ImportEnd, Plan, IsRight, contact_at, contacts_of_import, same_end}
@@ -13,9 +14,9 @@ use Rattle.gos_realises.specs.realises.Regular.{Pass, pass, is_request, is_open}
 use Rattle.gos_realises.specs.realises.Realises.{NamesDiffer}
 use Rattle.gos_realises.proofs.realises.ToldLemmas.{there_is}
 use Rattle.gos_joining.specs.webs.Cutting.{Cut, StandsIn}
-use Rattle.gos_joining.proofs.webs.MovedLemmas.{same_bool}
+use Rattle.gos_sharing.proofs.buffers.BranchLemmas.{place_stands}
 use Rattle.gos_nodes.specs.windows.OpenNodes.{IsHeard}
-use Rattle.gos_nodes.proofs.windows.PortLemmas.{stands_contact, stands_place, place_stands, one_place}
+use Rattle.gos_nodes.proofs.windows.PortLemmas.{stands_contact, stands_place, one_place}
 
 -- An end of an import that asks and has no joint, in the whole and in the region, which has another end of this import.
 pub record IsUnjoined (r : Plan) (f : Cut) (c : Plan) (i n : ℕ) : Type 0 where
@@ -103,7 +104,7 @@ module _ (r : Plan) (f : Cut) (c : Plan) (has : HasPorts r f c) where
 
   same_outer : (i n k j m b : ℕ) → Meets r f c i n → Meets r f c j m → f.outer (ImportEnd i n) ≡ ImportEnd k n → f.outer (ImportEnd j m) ≡ ImportEnd b m
       → same_end (ImportEnd k n) (ImportEnd b m) ≡ same_end (ImportEnd i n) (ImportEnd j m)
-  same_outer i n k j m b first second at also = same_bool (same_end (ImportEnd k n) (ImportEnd b m)) (same_end (ImportEnd i n) (ImportEnd j m)) to from
+  same_outer i n k j m b first second at also = same_tests (same_end (ImportEnd k n) (ImportEnd b m)) (same_end (ImportEnd i n) (ImportEnd j m)) to from
     where
       to : same_end (ImportEnd k n) (ImportEnd b m) ≡ true → same_end (ImportEnd i n) (ImportEnd j m) ≡ true
       to t =
@@ -191,7 +192,7 @@ module _ (r : Plan) (f : Cut) (c : Plan) (has : HasPorts r f c) where
   pub alike : (own past : List Pass) → AreFollowed r f c own past → (i h k : ℕ) → Meets r f c i h → f.outer (ImportEnd i h) ≡ ImportEnd k h
       → ((n : ℕ) → is_open past (ImportEnd k n) ≡ true → (j : ℕ) × Meets r f c j n × (f.outer (ImportEnd j n) ≡ ImportEnd k n))
       → (n : ℕ) → is_open own (ImportEnd i n) ≡ is_open past (ImportEnd k n)
-  alike own past followed i h k meets at only n = same_bool (is_open own (ImportEnd i n)) (is_open past (ImportEnd k n)) to from
+  alike own past followed i h k meets at only n = same_tests (is_open own (ImportEnd i n)) (is_open past (ImportEnd k n)) to from
     where
       to : is_open own (ImportEnd i n) ≡ true → is_open past (ImportEnd k n) ≡ true
       to up =

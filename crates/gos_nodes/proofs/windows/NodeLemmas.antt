@@ -1,7 +1,9 @@
 -- The list of a whole that runs stages, element by element: where the whole is, and where each element leads.
 use Rattle.std.specs.Prelude.{None, slice_get, Contains}
-use Rattle.std.proofs.Common.{◌≡◌, ℕ, Bool, true, false, List, [], ◌∷◌, Option, Some, inl, inr, sym, ◌∙◌, ap, subst, if◌then◌else◌}
+use Rattle.std.proofs.Common.{◌≡◌, ℕ, Bool, List, [], ◌∷◌, Option, Some, inl, inr, sym, ◌∙◌, ap, subst, if◌then◌else◌}
 use Rattle.gos_types.specs.Events.{Direction, Request, Answer}
+use Rattle.gos_types.proofs.BoolLemmas.{true_is_not_false}
+use Rattle.gos_model.proofs.NumberLemmas.{nat_eq_itself}
 use Rattle.gos_plan.specs.Kinds.{Part, Contact}
 use Rattle.gos_plan.specs.Firing.{Phase, Rest, State, Slot, Req, Ans, Row, at, firing}
 use Rattle.gos_plan.specs.Plans.{End, PartEnd, ImportEnd, ResultEnd, Plan, contact_at}
@@ -18,7 +20,7 @@ use Rattle.gos_nodes.specs.windows.Windows.{Runner, seen, HoldsOnly, Resting, As
 use Rattle.gos_nodes.proofs.windows.PortLemmas.{port_end}
 use Rattle.gos_nodes.proofs.windows.StageLemmas.{Emptied}
 use Rattle.gos_nodes.proofs.windows.TurnLemmas.{result_in, result_out, OnlyResult, NoneOpen}
-use Rattle.gos_nodes.proofs.windows.WholeLemmas.{done, result_place, own_place, at_own_joint, in_turn_at, put_only, taken_empty, only_there, held_beside, nat_eq_same, Going, Led, own_leads}
+use Rattle.gos_nodes.proofs.windows.WholeLemmas.{done, result_place, own_place, at_own_joint, in_turn_at, put_only, taken_empty, only_there, held_beside, Going, Led, own_leads}
 use Rattle.gos_nodes.proofs.windows.RunnerLemmas.{LeadsOn, RunsStages}
 
 -- where the whole is
@@ -27,9 +29,6 @@ pub data Place (gs : List Stage) : Type 0 where
   AtAsked : Place gs
   AtStage : (g : Stage) (has : Contains gs g) (hs : List Element) (before : Tokens) → Place gs
   AtAnswer : (v : ℕ) → Place gs
-
-true_is_not_false : (b : Bool) → b ≡ true → b ≡ false → ⊥
-true_is_not_false b up down = let both : true ≡ false = sym up ∙ down in cc both
 
 pub request_slot : (slot : Slot) (h : ℕ) → way_of slot ≡ Request → shake_of slot ≡ h → slot ≡ Req h
 request_slot (Req g) h way same = ap Req same
@@ -136,7 +135,7 @@ module _ (r : Plan) (d : ℕ) (runner : Runner) (gs : List Stage) (node : RunsSt
         (takes_of (slice_get r.parts d) (s.state d) slot row by),
     subst (λ (o : Option Part). firing_of o (s.state d) slot ≡ Some row) node.base.own by,
     ap (λ (x : Tokens). x.state d) leads
-        ∙ (fired_state r d row v s d ∙ ap (λ (b : Bool). if b then row.next v else s.state d) (nat_eq_same d)),
+        ∙ (fired_state r d row v s d ∙ ap (λ (b : Bool). if b then row.next v else s.state d) (nat_eq_itself d)),
   )
 
   pub own_firing : (slot : Slot) (row : Row) (s : Tokens) → firing_of (slice_get r.parts d) (s.state d) slot ≡ Some row → firing runner.part (s.state d) slot ≡ Some row

@@ -13,8 +13,9 @@ use Rattle.gos_plan.specs.Tokens.{Tokens, Fire, Out, In, IsPortEnd, places_of, t
 use Rattle.gos_plan.specs.Orderly.{named_by, handshake_at, Open, with_open, after_taken, after_put, after_puts, ComesWell, AllComeWell, ComesInOrder, AllWelcome}
 use Rattle.gos_plan.proofs.JointLemmas.{same_is}
 use Rattle.gos_plan.proofs.HeldLemmas.{takes_of}
+use Rattle.gos_plan.proofs.ElementLemmas.{firing_part}
 use Rattle.gos_joining.specs.webs.Cutting.{Cut, cut_tokens, lies_at, StandsIn}
-use Rattle.gos_joining.proofs.webs.CutLemmas.{Owns, part_there, port_own, same_lies, asker_own, asker_asks, no_place, place_there, token_cut, token_put, state_put}
+use Rattle.gos_joining.proofs.webs.CutLemmas.{Owns, port_own, same_lies, asker_own, asker_asks, no_place, place_there, token_cut, token_put, state_put}
 use Rattle.gos_nodes.specs.windows.Regions.{Serving, IsRegion}
 use Rattle.gos_nodes.proofs.windows.InlayLemmas.{inlay, Agree, agree_token, agree_put, AllAgree}
 use Rattle.gos_nodes.proofs.windows.PortLemmas.{stands_place}
@@ -145,7 +146,7 @@ module _
     fire_order j slot faithful own_does (v, row, held, by, leads) comes = (m, in_order, subst (λ (z : Open). Opened z m) (sym now.1) all.1)
       where
         part : (k : Part) × (slice_get p.parts j ≡ Some k)
-        part = part_there (slice_get p.parts j) ((cut_tokens f p s).state j) slot own_does.1 own_does.3
+        part = firing_part (slice_get p.parts j) ((cut_tokens f p s).state j) slot own_does.1 own_does.3
 
         number : f.number (f.part j) ≡ Some j
         number = (region.parts j part.0 part.1).1

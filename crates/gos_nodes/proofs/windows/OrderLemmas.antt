@@ -4,7 +4,9 @@
 -- that are open in the stage. After its answer none of these is.
 use Rattle.std.specs.Prelude.{None, slice_get, Contains}
 use Rattle.std.proofs.Common.{◌≡◌, ℕ, Bool, true, false, List, [], ◌∷◌, ◌++◌, Option, Some, inl, inr, refl, sym, ◌∙◌, ap, subst, if◌then◌else◌}
+use Rattle.std.proofs.lemmas.Bool.{ne_eqb}
 use Rattle.gos_types.specs.Events.{Direction, Request, Answer}
+use Rattle.gos_types.proofs.BoolLemmas.{true_is_not_false, else_true}
 use Rattle.gos_plan.specs.Kinds.{Part, Contact, asks}
 use Rattle.gos_plan.specs.Firing.{Phase, Slot, Req, Ans, Token, Row, at, put, firing}
 use Rattle.gos_plan.specs.Plans.{End, PartEnd, ImportEnd, ResultEnd, Plan, contact_at, same_end}
@@ -15,11 +17,11 @@ use Rattle.gos_plan.specs.Orderly.{named_by, handshake_at, Open, none_open, with
 use Rattle.gos_plan.proofs.JointLemmas.{IsIn, same_is, same_itself, fits, serving_role, contained}
 use Rattle.gos_plan.proofs.TokenBitsLemmas.{idle_fits}
 use Rattle.gos_plan.proofs.HeldLemmas.{takes_of}
+use Rattle.gos_plan.proofs.ElementLemmas.{orderly_then}
 use Rattle.gos_realises.specs.realises.Regular.{Pass, pass, way_in, is_open, ComesInTurn, InputsKeepTurns, IsRegular}
 use Rattle.gos_realises.proofs.realises.InputLemmas.{passed, passed_then, inputs_then, InputTurns, first_turn, later_turns, last_order, runs_then, in_there, out_there, result_asks}
 use Rattle.gos_realises.proofs.realises.IdleLemmas.{idle_token}
 use Rattle.gos_realises.proofs.realises.RingLemmas.{after}
-use Rattle.gos_realises.proofs.quiet.HoldLemmas.{orderly_append}
 use Rattle.gos_joining.specs.webs.Webs.{joint}
 use Rattle.gos_joining.specs.webs.Cutting.{lies_at, StandsIn}
 use Rattle.gos_joining.proofs.webs.CutLemmas.{Owns}
@@ -32,7 +34,7 @@ use Rattle.gos_nodes.proofs.windows.PortLemmas.{port_end, stands_contact}
 use Rattle.gos_nodes.proofs.windows.StageLemmas.{Emptied, stage, own_stands}
 use Rattle.gos_nodes.proofs.windows.TurnLemmas.{OnlyResult, NoneOpen}
 use Rattle.gos_nodes.proofs.windows.WholeLemmas as whole
-use Rattle.gos_nodes.proofs.windows.WholeLemmas.{only_there, other_state, done, result_place, own_place, run_stands, Going, Led}
+use Rattle.gos_nodes.proofs.windows.WholeLemmas.{only_there, done, result_place, own_place, run_stands, Going, Led}
 use Rattle.gos_nodes.proofs.windows.NodeLemmas.{request_slot, Place, AtRest, AtAsked, AtStage, AtAnswer, Holds, rest_step, asked_step, answer_step, own_slot}
 use Rattle.gos_nodes.proofs.windows.OneSessionLemmas.{open_is_one, ended_is_one}
 use Rattle.gos_nodes.proofs.windows.WindowLemmas.{StageStep, OwnStep, stage_step, fit_after}
@@ -41,9 +43,6 @@ use Rattle.gos_nodes.proofs.windows.MatchLemmas.{Opens, Beside, stage_order, sta
 use Rattle.gos_nodes.proofs.windows.OpensLemmas.{IsThere}
 use Rattle.gos_nodes.proofs.windows.ClosingLemmas.{Ports, open_idle_is_closed, asks_itself, ports_after, ports_along}
 use Rattle.gos_nodes.proofs.windows.FollowLemmas.{imports_shut}
-
-not_both : (b : Bool) → b ≡ true → b ≡ false → ⊥
-not_both b up down = let both : true ≡ false = sym up ∙ down in cc both
 
 -- the result's handshake alone is open
 abbrev OnlyOpen : Open → Type 0
@@ -55,10 +54,6 @@ shut_at o only x apart = by_test (o x) refl
     by_test : (b : Bool) → o x ≡ b → b ≡ false
     by_test false t = refl
     by_test true up = absurd (apart (only.1 x up))
-
-shut_more : (b held : Bool) → (if b then false else held) ≡ true → held ≡ true
-shut_more true held h = absurd (cc h)
-shut_more false held h = h
 
 module _ (r : Plan) (d : ℕ) (runner : Runner) (gs : List Stage) (node : RunsStages r d runner gs) (restful : AreRestful runner gs) where
   abbrev run : ℕ
@@ -135,7 +130,7 @@ module _ (r : Plan) (d : ℕ) (runner : Runner) (gs : List Stage) (node : RunsSt
         by_own e owned true t apart =
             let is = lies_there e owned (same_is e (ResultEnd (runner.asked g)) t) in
             let same : same_end (lies_at g.cut e) (PartEnd d g.asked_at) ≡ true =
-            ap (λ (x : End). same_end x (PartEnd d g.asked_at)) is ∙ same_itself (PartEnd d g.asked_at) in absurd (not_both (same_end (lies_at g.cut e) (PartEnd d g.asked_at)) same apart)
+            ap (λ (x : End). same_end x (PartEnd d g.asked_at)) is ∙ same_itself (PartEnd d g.asked_at) in absurd (true_is_not_false (same_end (lies_at g.cut e) (PartEnd d g.asked_at)) same apart)
 
         by_end : (e : End) → Owns g.plan e → (b : Bool) → same_end (lies_at g.cut e) (PartEnd d g.asked_at) ≡ b
             → (if b then true else o (lies_at g.cut e)) ≡ (if same_end e (ResultEnd (runner.asked g)) then true else false)
@@ -274,7 +269,7 @@ module _ (r : Plan) (d : ℕ) (runner : Runner) (gs : List Stage) (node : RunsSt
           record {
             places = empty.places;
             states = λ i apart.
-                ap (λ (b : Bool). (if b then row.next v else (with_token r (end_of d row.takes) (way_of row.takes) None s).state i).phase) (other_state i d apart)
+                ap (λ (b : Bool). (if b then row.next v else (with_token r (end_of d row.takes) (way_of row.takes) None s).state i).phase) (ne_eqb i d apart)
                 ∙ empty.states i apart;
           }
 
@@ -307,7 +302,7 @@ module _ (r : Plan) (d : ℕ) (runner : Runner) (gs : List Stage) (node : RunsSt
 
       by_test : (y : End) (b : Bool) → same_end y (ResultEnd 0) ≡ b → (if b then true else o y) ≡ true → y ≡ ResultEnd 0
       by_test y true t up = same_is y (ResultEnd 0) t
-      by_test y false t up = absurd (not_both (o y) up (shut y))
+      by_test y false t up = absurd (true_is_not_false (o y) up (shut y))
 
   -- asked
   asked_next : (x : Element) (s t : Tokens) (past : List Pass) (o : Open) → HoldsOnly r (PartEnd d run) Request 0 s × OnlyResult past → OnlyOpen o → Does r x s t → InputTurns r past x
@@ -341,7 +336,7 @@ module _ (r : Plan) (d : ℕ) (runner : Runner) (gs : List Stage) (node : RunsSt
 
       by_test : (y : End) (b : Bool) → same_end y (ResultEnd 0) ≡ b → (if b then false else o y) ≡ false
       by_test y true t = refl
-      by_test y false t = shut_at o only y (λ is. not_both (same_end y (ResultEnd 0)) (ap (λ (z : End). same_end z (ResultEnd 0)) is) t)
+      by_test y false t = shut_at o only y (λ is. true_is_not_false (same_end y (ResultEnd 0)) (ap (λ (z : End). same_end z (ResultEnd 0)) is) t)
 
   -- within a stage
   module _
@@ -374,7 +369,7 @@ module _ (r : Plan) (d : ℕ) (runner : Runner) (gs : List Stage) (node : RunsSt
               record {
                 own = last.0;
                 orderly =
-                    orderly_append g.plan hs (step.y ∷ []) none_open order.own last.0 before (seen g s) (seen g t) order.orderly
+                    orderly_then g.plan hs (step.y ∷ []) none_open order.own last.0 before (seen g s) (seen g t) order.orderly
                     (last.0, seen g t, step.does, last.1, last.2, (refl, refl));
                 opens = matched.2;
               };
@@ -419,7 +414,7 @@ module _ (r : Plan) (d : ℕ) (runner : Runner) (gs : List Stage) (node : RunsSt
 
         whole_list : OrderlyFrom g.plan (hs ++ Out (ResultEnd (runner.asked g)) step.v ∷ []) none_open before last.0 step.end
         whole_list =
-            orderly_append g.plan hs (Out (ResultEnd (runner.asked g)) step.v ∷ []) none_open order.own last.0 before (seen g s) step.end order.orderly
+            orderly_then g.plan hs (Out (ResultEnd (runner.asked g)) step.v ∷ []) none_open order.own last.0 before (seen g s) step.end order.orderly
             (last.0, step.end, step.does, last.1, last.2, (refl, refl))
 
         only_result : OnlyResult past
@@ -471,11 +466,11 @@ module _ (r : Plan) (d : ℕ) (runner : Runner) (gs : List Stage) (node : RunsSt
         -- a port of the whole that is open now is its result
         port_now : (y : End) → IsPortEnd y → after_taken r (PartEnd d g.asked_at) Answer o y ≡ true → y ≡ ResultEnd 0
         port_now y port up =
-            let ((c, at_end, role), held) = ports y port (shut_more (same_end y (handshake_at r (PartEnd d g.asked_at))) (o y) up) in
+            let ((c, at_end, role), held) = ports y port (else_true (same_end y (handshake_at r (PartEnd d g.asked_at))) (o y) up) in
             elim (port_end r (done r d runner gs node) y c port at_end) [
               | inl result ↦ result.0
               | inr import ↦
-                  absurd (not_both (is_open past (ImportEnd import.0 import.1)) (ap (is_open past) (sym import.2) ∙ held) (only_result.1 import.0 import.1))
+                  absurd (true_is_not_false (is_open past (ImportEnd import.0 import.1)) (ap (is_open past) (sym import.2) ∙ held) (only_result.1 import.0 import.1))
             ]
 
         only : OnlyOpen (after_taken r (PartEnd d g.asked_at) Answer o)
@@ -486,9 +481,9 @@ module _ (r : Plan) (d : ℕ) (runner : Runner) (gs : List Stage) (node : RunsSt
             by_end y up (inl (inl is)) = is
             by_end y up (inl (inr is)) =
                 let at_own = ap (after_taken r (PartEnd d g.asked_at) Answer o) ((there g has).run_by stands ∙ sym is) ∙ up in
-                absurd (not_both (last.0 (ResultEnd (runner.asked g))) (sym (opens.same (ResultEnd (runner.asked g)) stands) ∙ at_own) (closed (ResultEnd (runner.asked g))))
+                absurd (true_is_not_false (last.0 (ResultEnd (runner.asked g))) (sym (opens.same (ResultEnd (runner.asked g)) stands) ∙ at_own) (closed (ResultEnd (runner.asked g))))
             by_end y up (inr (inl (e, owned, is))) =
-                absurd (not_both (last.0 e) (sym (opens.same e owned) ∙ (ap (after_taken r (PartEnd d g.asked_at) Answer o) is ∙ up)) (closed e))
+                absurd (true_is_not_false (last.0 e) (sym (opens.same e owned) ∙ (ap (after_taken r (PartEnd d g.asked_at) Answer o) is ∙ up)) (closed e))
             by_end y up (inr (inr loose)) = port_now y loose.0 up
 
   order_next : (pl : Place gs) (x : Element) (s t : Tokens) (past : List Pass) (o : Open) → AllFit r s → Holds r d runner gs node pl s past → OrderHolds pl o s

@@ -1,6 +1,6 @@
 -- Ports of plans with a command or an expression for their result.
-use Rattle.std.specs.Prelude.{◌<◌, None, slice_get, nat_lt, Contains}
-use Rattle.std.proofs.Common.{◌≡◌, ℕ, zero, suc, true, List, [], ◌∷◌, ◌⊎◌, Option, Some, inl, inr, refl, sym, ◌∙◌, ap, subst, arith}
+use Rattle.std.specs.Prelude.{None, slice_get, Contains}
+use Rattle.std.proofs.Common.{◌≡◌, ℕ, zero, suc, List, [], ◌∷◌, ◌⊎◌, Option, Some, inl, inr, refl, sym, ◌∙◌, ap, subst, arith}
 use Rattle.std.proofs.lemmas.Option.{none-some, slice_get-get_or, same_Some}
 use Rattle.gos_types.specs.declared.shakes.Role.TheVariants.{Serve, Ask}
 use Rattle.gos_types.specs.Types.{Type', Com, Exp, Var, Pair, Fun, IsGround, IsDone}
@@ -8,13 +8,12 @@ use Rattle.gos_model.specs.Typing.{Imported}
 use Rattle.gos_plan.specs.Kinds.{Contact, contacts_of}
 use Rattle.gos_plan.specs.Plans.{End, PartEnd, ImportEnd, ResultEnd, Plan, IsRight, contact_at, contacts_of_import, turned_if}
 use Rattle.gos_plan.specs.Tokens.{Tokens, Element, IsPortEnd, places_of, Does, Runs}
-use Rattle.gos_plan.proofs.JointLemmas.{found, joined, stands_there, contained}
+use Rattle.gos_plan.proofs.JointLemmas.{joined, stands_there, contained}
 use Rattle.gos_realises.specs.realises.Realises.{AllGround, NamesDiffer}
 use Rattle.gos_realises.proofs.realises.InputLemmas.{result_asks, import_serves, one_ground}
 use Rattle.gos_realises.proofs.realises.ToldLemmas.{there_is, contains_at}
 use Rattle.gos_nodes.specs.sessions.Sessions.{bits}
 use Rattle.gos_joining.specs.webs.Cutting.{StandsIn}
-use Rattle.gos_joining.proofs.webs.MovedLemmas.{listed}
 
 -- which ports there are
 pub port_end : (p : Plan) → IsDone p.outcome → (e : End) (c : Contact) → IsPortEnd e → contact_at p e ≡ Some c
@@ -42,9 +41,6 @@ stands_contact p right e (j, listing, stands) =
 
 pub stands_place : (p : Plan) → IsRight p → (e : End) → StandsIn p e → (a : End) × (places_of p e ≡ Some a)
 stands_place p right e (j, listing, stands) = (j.asking, stands_there p j e right (contained p.joints j listing) stands)
-
-pub place_stands : (p : Plan) (e a : End) → places_of p e ≡ Some a → StandsIn p e
-place_stands p e a named = let at = found p.joints e a named in (at.joint, listed p.joints at.joint at.is_in, at.stands)
 
 -- the handshake of a command or an expression, and its bits
 pub result_bits : (t : Type') → IsDone t → (c : Contact) → turned_if (slice_get (contacts_of t) 0) ≡ Some c → c.answer_bits ≡ bits t
@@ -85,10 +81,6 @@ one_place (y ∷ ys) differ zero (suc j) x at_i at_j =
 one_place (y ∷ ys) differ (suc i) zero x at_i at_j =
     absurd (differ.0 x (contains_at ys i x at_i) (ap (λ (z : Imported). z.name) (same_Some y x at_j)))
 one_place (y ∷ ys) differ (suc i) (suc j) x at_i at_j = ap suc (one_place ys differ.1 i j x at_i at_j)
-
--- numbers in order
-pub below_so : (i n : ℕ) → i < n → nat_lt i n ≡ true
-below_so i n less = grind (arith, less)
 
 -- a list of one element
 pub run_one : (p : Plan) (x : Element) (s t : Tokens) → Runs p (x ∷ []) s t → Does p x s t

@@ -6,9 +6,9 @@ use Rattle.gos_plan.specs.Kinds.{Part, Contact}
 use Rattle.gos_plan.specs.Firing.{Phase, Slot, Req, Ans, Row, at, firing}
 use Rattle.gos_plan.specs.Plans.{End, PartEnd, ImportEnd, ResultEnd, Plan, contact_at}
 use Rattle.gos_plan.specs.Tokens.{Tokens, Fire, Out, IsPortEnd, token_at, with_token, end_of, way_of, way_taken, fired, firing_of, Passes, Does, IsQuiet}
+use Rattle.gos_plan.proofs.ElementLemmas.{firing_part}
 use Rattle.gos_realises.proofs.realises.InputLemmas.{out_there}
 use Rattle.gos_joining.specs.webs.Cutting.{StandsIn}
-use Rattle.gos_joining.proofs.webs.CutLemmas.{part_there}
 use Rattle.gos_nodes.specs.windows.Nodes.{Stage}
 use Rattle.gos_nodes.specs.windows.Windows.{Runner, seen, HoldsOnly, StirsOnly}
 use Rattle.gos_nodes.proofs.windows.PortLemmas.{port_end, result_there}
@@ -22,7 +22,7 @@ module _
     (stirs : StirsOnly d runner g s) (quiet : IsQuiet r s) where
   fires_not : (j : ℕ) (t : Slot) (w : Tokens) → Does g.plan (Fire j t) (seen g s) w → ⊥
   fires_not j t w (v, row, held, by, leads) =
-      let part = part_there (slice_get g.plan.parts j) ((seen g s).state j) t row by in
+      let part = firing_part (slice_get g.plan.parts j) ((seen g s).state j) t row by in
       quiet.0 (g.cut.part j) t (fired r (g.cut.part j) row v s)
       (v, row, held_whole r d runner gs node.base g has s (end_of j t) part (way_of t) v held, fires_whole r d runner gs node.base g has s j t row by, refl)
 

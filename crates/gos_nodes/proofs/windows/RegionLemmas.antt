@@ -5,6 +5,7 @@ use Rattle.std.specs.Prelude.{◌+◌, ◌-◌, ◌*◌, ◌<◌, ◌&&◌, None
 use Rattle.std.proofs.Common.{◌≡◌, ℕ, Bool, true, false, List, [], ◌∷◌, ◌⊎◌, Option, Some, inl, inr, refl, sym, ◌∙◌, ap, subst, arith, if◌then◌else◌}
 use Rattle.std.proofs.lemmas.Option.{slice_get_within}
 use Rattle.gos_types.specs.Events.{Direction}
+use Rattle.gos_types.proofs.BoolLemmas.{and_second}
 use Rattle.gos_plan.specs.Kinds.{Part, Share, Contact}
 use Rattle.gos_plan.specs.Firing.{Rest, State, Slot, Token, Row, at}
 use Rattle.gos_plan.specs.Plans.{End, PartEnd, Joint, Plan, contact_at, same_end}
@@ -30,10 +31,6 @@ only_one x y ts is there = of_first (subst (TokenIn x) is there)
     of_first : (x ≡ y) ⊎ ⊥ → x ≡ y
     of_first (inl same) = same
     of_first (inr none) = absurd none
-
-both_of : (a b : Bool) → a && b ≡ true → b ≡ true
-both_of true b h = h
-both_of false b h = absurd (cc h)
 
 -- a Share of a region that serves its other caller at an end
 record Other (r : Plan) (f : Cut) (ss : List Serving) (i h j : ℕ) : Type 0 where
@@ -79,7 +76,7 @@ module _ (f : Cut) (ss : List Serving) (r p : Plan) (region : IsRegion f ss r p)
           by_test w y v true t is =
               let at = found (map (laid f) p.joints) e x named in
               let from = from_laid f p.joints at.joint at.is_in in
-              let here : y ≡ x = same_is y x (both_of (same_way w way) (same_end y x) t) in
+              let here : y ≡ x = same_is y x (and_second (same_way w way) (same_end y x) t) in
               (from.0.asking, asks_there p.joints from.0 from.1, sym (ap (λ (j : Joint). j.asking) from.2) ∙ (at.named ∙ sym here))
           by_test w y v false t is = within w y v is
 

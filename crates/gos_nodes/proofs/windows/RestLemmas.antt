@@ -1,9 +1,10 @@
 -- A regular plan that rests after its answer is idle wherever its result is closed: then nothing of an import is open, so nothing comes in.
-use Rattle.std.proofs.Common.{◌≡◌, ℕ, Bool, Option, true, false, List, [], ◌∷◌, ◌++◌, Some, inl, inr, refl, sym, ◌∙◌, ap, subst}
+use Rattle.std.proofs.Common.{◌≡◌, ℕ, Option, true, false, List, [], ◌∷◌, ◌++◌, Some, inl, inr, refl, sym, ◌∙◌, ap, subst}
 use Rattle.gos_types.specs.declared.shakes.Role.{Role}
 use Rattle.gos_types.specs.declared.shakes.Role.TheVariants.{Serve, Ask}
 use Rattle.gos_types.specs.Types.{IsDone}
 use Rattle.gos_types.specs.Events.{Direction, Request}
+use Rattle.gos_types.proofs.BoolLemmas.{true_is_not_false}
 use Rattle.gos_plan.specs.Kinds.{Contact}
 use Rattle.gos_plan.specs.Plans.{End, ImportEnd, ResultEnd, Plan, contact_at}
 use Rattle.gos_plan.specs.Tokens.{Tokens, Element, Fire, Out, In, token_at, end_of, way_of, way_put, way_taken, Passes, Does, Runs, IsIdle}
@@ -16,9 +17,6 @@ use Rattle.gos_nodes.specs.windows.Nodes.{IsRestful}
 use Rattle.gos_nodes.proofs.windows.PortLemmas.{port_end}
 use Rattle.gos_nodes.proofs.windows.TurnLemmas.{Turned, closed_turned, import_result, asked_beside, result_in}
 
-up_and_shut : (b : Bool) → b ≡ true → b ≡ false → ⊥
-up_and_shut b up shut = let clash : true ≡ false = sym up ∙ shut in cc clash
-
 module _ (p : Plan) (done : IsDone p.outcome) (regular : IsRegular p) (restful : IsRestful p) (first : Tokens) (idle : IsIdle p first) where
   abbrev Resting' : List Pass → Tokens → Type 0
   Resting' past s = is_open past (ResultEnd 0) ≡ false → IsIdle p s
@@ -27,12 +25,12 @@ module _ (p : Plan) (done : IsDone p.outcome) (regular : IsRegular p) (restful :
   no_input : (past : List Pass) (i h : ℕ) (c : Contact) → Turned p past → is_open past (ResultEnd 0) ≡ false → contact_at p (ImportEnd i h) ≡ Some c
       → KeepsTurns p past (pass (ImportEnd i h) (way_put c.role)) → (role : Role) → c.role ≡ role → ⊥
   no_input past i h c turned shut there turn Serve serves =
-      up_and_shut (is_open past (ResultEnd 0))
+      true_is_not_false (is_open past (ResultEnd 0))
       (import_result p done past turned i h c there (subst (ComesInTurn past (ImportEnd i h)) (ap way_put serves) turn.0)) shut
   no_input past i h c turned shut there turn Ask asks =
       let now : Turned p (pass (ImportEnd i h) Request ∷ past) = subst (λ (way : Direction). Turned p (pass (ImportEnd i h) way ∷ past)) (ap way_put asks) turn.1 in
       let (n, x, is, up) = asked_beside p past i h c now there asks in
-      up_and_shut (is_open past (ResultEnd 0)) (import_result p done past turned i n x is up) shut
+      true_is_not_false (is_open past (ResultEnd 0)) (import_result p done past turned i n x is up) shut
 
   -- after one element more
   out_rests : (ys : List Element) (e : End) (v : ℕ) (s w : Tokens) → Runs p ys first s → InputsKeepTurns p [] ys → Resting' (passed p [] ys) s → Does p (Out e v) s w

@@ -4,6 +4,7 @@ use Rattle.std.proofs.Common.{refl, sym, ◌∙◌, ap, subst, arith, inl, inr}
 use Rattle.std.proofs.lemmas.Option.{none-some, same_Some}
 use Rattle.gos_types.specs.Types.{Com}
 use Rattle.gos_types.specs.Events.{Request}
+use Rattle.gos_types.proofs.ListLemmas.{none_in_empty}
 use Rattle.gos_model.specs.Typing.{Imported}
 use Rattle.gos_plan.specs.Kinds.{Part, Skip}
 use Rattle.gos_plan.specs.Firing.{Phase, Rest, First, Second, Req, Ans, row, at, put}
@@ -11,6 +12,7 @@ use Rattle.gos_plan.specs.Plans.{End, PartEnd, ImportEnd, ResultEnd, Joint, Plan
 use Rattle.gos_plan.specs.Tokens.{Tokens, Element, Fire, Out, In, with_token, fired, Runs, IsIdle}
 use Rattle.gos_plan.specs.TokenBits.{LiteralFits}
 use Rattle.gos_plan.specs.SmallPlans.{skip_plan, at_first}
+use Rattle.gos_plan.proofs.SmallPlanLemmas.{skip_is_right}
 use Rattle.gos_realises.specs.realises.Regular.{IsRegular}
 use Rattle.gos_realises.proofs.realises.OneJointLemmas.{is_idle}
 use Rattle.gos_realises.proofs.realises.RingLemmas.{Script, by_turns, leads_on}
@@ -20,17 +22,14 @@ use Rattle.gos_joining.specs.webs.Webs.{joint}
 use Rattle.gos_joining.specs.webs.SmallWebs.{twice_plan, first_out}
 use Rattle.gos_joining.specs.webs.Cutting.{Cut, IsCut, StandsIn}
 use Rattle.gos_joining.proofs.webs.LoneCutLemmas.{AreOutside, lone_is_cut}
-use Rattle.gos_joining.proofs.webs.SmallWebLemmas.{twice_is_right, skip_is_right, one_port, first_is_cut}
+use Rattle.gos_joining.proofs.webs.SmallWebLemmas.{twice_is_right, one_port, first_is_cut}
 use Rattle.gos_nodes.specs.sessions.Sessions.{Session, session_of}
-use Rattle.gos_nodes.specs.windows.Regions.{Serving, IsRegion}
+use Rattle.gos_nodes.specs.windows.Regions.{IsRegion}
 use Rattle.gos_nodes.specs.windows.Nodes.{Stage, IsRestful, IsStage, IsOfStage}
 use Rattle.gos_nodes.proofs.windows.OpenLemmas.{ground_node_is_open}
 use Rattle.gos_nodes.specs.windows.SmallNodes.{number_of_second, port_of_second, second_out, first_stage, second_stage, twice_form, TwiceIsNode, OneIsMissing, TwiceIsOpen, function_plan, deaf_stage, DeafIsNone, both_plan, SharedForBoth}
 
 -- a cut is a region without Shares
-no_serving : (n : Serving) → Contains [] n → ⊥
-no_serving n (k, within, is) = omega (arith, within)
-
 cut_region : (f : Cut) (r c : Plan) → IsCut f r c → IsRegion f [] r c
 cut_region f r c is =
     record {
@@ -43,8 +42,8 @@ cut_region f r c is =
       contacts = is.contacts;
       joints = is.joints;
       all = λ a b there inside. inl (is.all a b there inside);
-      serving = λ n there. absurd (no_serving n there);
-      unused = λ n i j there number low stands. no_serving n there;
+      serving = λ n there. absurd (none_in_empty n there);
+      unused = λ n i j there number low stands. none_in_empty n there;
     }
 
 -- the second Skip
@@ -124,7 +123,7 @@ is_first =
       outcome = tt;
       regular = skip_is_regular;
       restful = skip_rests;
-      loyal = λ n i there number. absurd (no_serving n there);
+      loyal = λ n i there number. absurd (none_in_empty n there);
       run_by = λ stands. refl;
       imports = λ i there. absurd (no_imports i there);
       names = tt;
@@ -139,7 +138,7 @@ is_second =
       outcome = tt;
       regular = skip_is_regular;
       restful = skip_rests;
-      loyal = λ n i there number. absurd (no_serving n there);
+      loyal = λ n i there number. absurd (none_in_empty n there);
       run_by = λ stands. refl;
       imports = λ i there. absurd (no_imports i there);
       names = tt;

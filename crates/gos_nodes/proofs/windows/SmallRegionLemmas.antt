@@ -6,11 +6,11 @@ use Rattle.gos_types.specs.Types.{Com}
 use Rattle.gos_plan.specs.Kinds.{Part, Share}
 use Rattle.gos_plan.specs.Plans.{End, PartEnd, ImportEnd, ResultEnd, Joint, contact_at, IsRight}
 use Rattle.gos_plan.specs.Tokens.{IsPortEnd}
+use Rattle.gos_plan.proofs.JointLemmas.{which_end}
 use Rattle.gos_realises.specs.realises.Regular.{count}
 use Rattle.gos_joining.specs.webs.Webs.{joint}
 use Rattle.gos_joining.specs.webs.SmallWebs.{number_of_first}
 use Rattle.gos_joining.specs.webs.Cutting.{IsInside, IsOutside, StandsIn, lies_at}
-use Rattle.gos_joining.proofs.webs.CutLemmas.{which_end}
 use Rattle.gos_sharing.specs.sharing.Sharing.{caller_end}
 use Rattle.gos_nodes.specs.windows.Regions.{Serving, IsOther}
 use Rattle.gos_nodes.specs.windows.SmallNodes.{calls_plan, call_plan, call_outer, call_inner, call_out, served, CallIsRegion, WrongSideIsNone}

@@ -13,6 +13,7 @@ use Rattle.gos_realises.specs.realises.Realises.{AllGround}
 use Rattle.gos_realises.proofs.realises.InputLemmas.{out_there}
 use Rattle.gos_joining.specs.webs.Cutting.{lies_at, StandsIn, IsCut, asks_in, out_if, in_if}
 use Rattle.gos_joining.proofs.webs.CutLemmas.{Owns, outside_name, place_there, number_at, taken_out, put_in}
+use Rattle.gos_sharing.proofs.buffers.BranchLemmas.{place_stands}
 use Rattle.gos_nodes.specs.windows.Nodes.{Stage}
 use Rattle.gos_nodes.specs.windows.OneSession.{IsTidy, IsOpenSession}
 use Rattle.gos_nodes.proofs.windows.RunnerLemmas.{IsAskedStage, HasStages}
@@ -21,7 +22,7 @@ use Rattle.gos_nodes.proofs.windows.InlayLemmas.{inlay, same_contact, inlay_cut,
 use Rattle.gos_nodes.proofs.windows.RegionLemmas as regions
 use Rattle.gos_nodes.proofs.windows.RegionLemmas.{InRegion, OnRegion, IsFaithful}
 use Rattle.gos_nodes.proofs.windows.AskedLemmas.{asked_is, asked_role}
-use Rattle.gos_nodes.proofs.windows.PortLemmas.{stands_contact, stands_place, place_stands, ground_within, run_one}
+use Rattle.gos_nodes.proofs.windows.PortLemmas.{stands_contact, stands_place, ground_within, run_one}
 
 -- All is idle but for the part of this number.
 pub record Emptied (d : ℕ) (s : Tokens) : Type 0 where

@@ -22,14 +22,14 @@ use Rattle.gos_nodes.proofs.windows.MeetLemmas.{Meets, HasPorts, AreFollowed, me
 use Rattle.gos_nodes.proofs.windows.TypeTurnLemmas.{OpenServed, closed_kept, open_served}
 
 -- the ways at a result and at an import
-result_way_in : (t : Type') → IsDone t → way_in (turned_if (slice_get (contacts_of t) 0)) ≡ Request
+pub result_way_in : (t : Type') → IsDone t → way_in (turned_if (slice_get (contacts_of t) 0)) ≡ Request
 result_way_in Com done = refl
 result_way_in (Exp w) done = refl
 result_way_in (Var w) done = absurd done
 result_way_in (Pair a b) done = absurd done
 result_way_in (Fun a b) done = absurd done
 
-result_way_out : (t : Type') → IsDone t → way_out (turned_if (slice_get (contacts_of t) 0)) ≡ Answer
+pub result_way_out : (t : Type') → IsDone t → way_out (turned_if (slice_get (contacts_of t) 0)) ≡ Answer
 result_way_out Com done = refl
 result_way_out (Exp w) done = refl
 result_way_out (Var w) done = absurd done

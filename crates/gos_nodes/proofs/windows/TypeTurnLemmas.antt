@@ -1,16 +1,16 @@
 -- Turns of a type. They are kept where nothing is open; and where something is, a handshake is open at which an import serves.
 use Rattle.std.specs.Prelude.{◌+◌, ◌-◌, ◌<◌, ◌++◌, ◌&&◌, length, slice_get, nat_lt}
-use Rattle.std.proofs.Common.{◌≡◌, ℕ, zero, suc, Bool, true, false, List, [], ◌∷◌, Some, refl, sym, ◌∙◌, ap, subst, arith, length-append}
+use Rattle.std.proofs.Common.{◌≡◌, ℕ, zero, suc, Bool, true, false, List, [], ◌∷◌, Some, refl, sym, ◌∙◌, ap, subst, arith}
 use Rattle.std.proofs.lemmas.Bool.Decides.{nat_tests}
 use Rattle.gos_types.specs.declared.shakes.Role.TheVariants.{Serve}
 use Rattle.gos_types.specs.Types.{Type', Com, Exp, Var, Pair, Fun}
+use Rattle.gos_types.proofs.ListLemmas.{found_in_front}
 use Rattle.gos_plan.specs.Kinds.{Contact, contacts_of, other_side}
 use Rattle.gos_plan.proofs.SideLemmas.{pairs_join, functions_join}
+use Rattle.gos_plan.proofs.ContactLemmas.{other_side_length}
 use Rattle.gos_realises.specs.realises.Regular.{count, some_open, beyond, KeepsTurnsOf}
 use Rattle.gos_realises.proofs.realises.GroundTurnLemmas.{some_there, there_some, count_fun}
-
-count_pair : (a b : Type') → count (Pair a b) ≡ count a + count b
-count_pair a b = ap (λ (cs : List Contact). length cs) (pairs_join a b).joined ∙ length-append (contacts_of a) (contacts_of b)
+use Rattle.gos_realises.proofs.realises.CountLemmas.{count_pair}
 
 -- nothing is open
 abbrev Closed : Type' → (ℕ → Bool) → Type 0
@@ -48,24 +48,15 @@ closed_kept (Fun a b) f closed =
 abbrev pub OpenServed : Type' → (ℕ → Bool) → Type 0
 OpenServed t f = (g : ℕ) × (c : Contact) × (slice_get (contacts_of t) g ≡ Some c) × (c.role ≡ Serve) × (f g ≡ true)
 
-in_front : (xs ys : List Contact) (g : ℕ) (c : Contact) → slice_get xs g ≡ Some c → slice_get (xs ++ ys) g ≡ Some c
-in_front [] ys g c at = absurd (cc at)
-in_front (x ∷ xs) ys zero c at = at
-in_front (x ∷ xs) ys (suc g) c at = in_front xs ys g c at
-
 behind : (xs ys : List Contact) (g : ℕ) (c : Contact) → slice_get ys g ≡ Some c → slice_get (xs ++ ys) (length xs + g) ≡ Some c
 behind [] ys g c at = let same : g ≡ 0 + g = omega arith in subst (λ (n : ℕ). slice_get ys n ≡ Some c) same at
 behind (x ∷ xs) ys g c at =
     let same : suc (length xs + g) ≡ suc (length xs) + g = omega arith in
     subst (λ (n : ℕ). slice_get (x ∷ (xs ++ ys)) n ≡ Some c) same (behind xs ys g c at)
 
-other_length : (cs : List Contact) → length (other_side cs) ≡ length cs
-other_length [] = refl
-other_length (c ∷ cs) = ap suc (other_length cs)
-
 first_of_pair : (a b : Type') (f : ℕ → Bool) → OpenServed a f → OpenServed (Pair a b) f
 first_of_pair a b f (g, c, at, serves, up) =
-    (g, c, ap (λ (cs : List Contact). slice_get cs g) (pairs_join a b).joined ∙ in_front (contacts_of a) (contacts_of b) g c at, serves, up)
+    (g, c, ap (λ (cs : List Contact). slice_get cs g) (pairs_join a b).joined ∙ found_in_front (contacts_of a) (contacts_of b) g c at, serves, up)
 
 second_of_pair : (a b : Type') (f : ℕ → Bool) → OpenServed b (beyond (count a) f) → OpenServed (Pair a b) f
 second_of_pair a b f (g, c, at, serves, up) = (
@@ -81,7 +72,7 @@ of_outcome a b f (g, c, at, serves, up) = (
   count a + g,
   c,
   ap (λ (cs : List Contact). slice_get cs (count a + g)) (functions_join a b).joined
-      ∙ subst (λ (n : ℕ). slice_get (other_side (contacts_of a) ++ contacts_of b) (n + g) ≡ Some c) (other_length (contacts_of a))
+      ∙ subst (λ (n : ℕ). slice_get (other_side (contacts_of a) ++ contacts_of b) (n + g) ≡ Some c) (other_side_length (contacts_of a))
       (behind (other_side (contacts_of a)) (contacts_of b) g c at),
   serves,
   up,

@@ -1,24 +1,28 @@
 -- The whole where one token lies, or none; and what a firing of the own part leads to.
-use Rattle.std.specs.Prelude.{◌≢◌, ◌^◌, ◌<◌, ◌&&◌, None, nat_eq, slice_get, Contains}
+use Rattle.std.specs.Prelude.{◌^◌, ◌<◌, ◌&&◌, None, nat_eq, slice_get, Contains}
 use Rattle.std.proofs.Common.{◌≡◌, ℕ, Bool, true, false, List, [], ◌∷◌, ◌⊎◌, Option, Some, inl, inr, refl, sym, ◌∙◌, ap, subst, arith, if◌then◌else◌}
 use Rattle.std.proofs.lemmas.Option.{same_Some}
+use Rattle.std.proofs.lemmas.Bool.{ne_eqb}
 use Rattle.gos_types.specs.declared.shakes.Role.{Role}
 use Rattle.gos_types.specs.declared.shakes.Role.TheVariants.{Serve, Ask}
 use Rattle.gos_types.specs.Types.{Type', Com, Exp, Var, Pair, Fun, IsDone}
 use Rattle.gos_types.specs.Events.{Direction, Request, Answer}
+use Rattle.gos_types.proofs.BoolLemmas.{and_first, and_second}
+use Rattle.gos_model.proofs.NumberLemmas.{nat_eq_itself}
 use Rattle.gos_plan.specs.Kinds.{Contact, contacts_of}
 use Rattle.gos_plan.specs.Firing.{Rest, State, Req, Ans, Token, Row, at, put}
 use Rattle.gos_plan.specs.Plans.{End, PartEnd, ImportEnd, ResultEnd, Joint, Plan, contact_at, stands_in, same_end, turned_if}
 use Rattle.gos_plan.specs.Tokens.{Tokens, Element, In, places_of, same_way, held_at, with_held, with_token, with_state, token_at, with_puts, end_of, way_of, way_put, bits_of, Passes, Does}
-use Rattle.gos_plan.proofs.JointLemmas.{IsIn, Found, found, one_joint, stands_there, contained, same_is, same_itself}
+use Rattle.gos_plan.proofs.JointLemmas.{IsIn, Found, found, one_joint, stands_there, contained, same_is, same_itself, asking_stands, serving_stands, which_end}
 use Rattle.gos_plan.proofs.HeldLemmas.{nothing_there}
-use Rattle.gos_plan.proofs.TurnLemmas.{token_state, nat_eq_self}
+use Rattle.gos_plan.proofs.TurnLemmas.{token_state}
+use Rattle.gos_plan.proofs.TokenBitsLemmas.{same_way_itself, same_way_is}
 use Rattle.gos_realises.specs.realises.Regular.{Pass, pass, way_in, is_open, ComesInTurn, KeepsTurns}
 use Rattle.gos_realises.proofs.realises.InputLemmas.{in_there, passed}
 use Rattle.gos_joining.specs.webs.Webs.{joint}
 use Rattle.gos_joining.specs.webs.Cutting.{lies_at, StandsIn}
 use Rattle.gos_joining.proofs.webs.MovedLemmas.{listed}
-use Rattle.gos_joining.proofs.webs.CutLemmas.{which_end, stands_by, first_stands, last_stands, stands_own, lies_there, same_ways}
+use Rattle.gos_joining.proofs.webs.CutLemmas.{stands_by, stands_own, lies_there}
 use Rattle.gos_nodes.specs.windows.Nodes.{Stage}
 use Rattle.gos_nodes.specs.windows.OneSession.{IsTidy}
 use Rattle.gos_nodes.specs.windows.Windows.{Runner, seen, StirsOnly, HoldsOnly}
@@ -29,20 +33,6 @@ use Rattle.gos_nodes.proofs.windows.FollowLemmas.{Follows, follows_first}
 use Rattle.gos_nodes.proofs.windows.AskedLemmas.{asked_first, asked_in}
 use Rattle.gos_nodes.proofs.windows.RunnerLemmas.{IsAskedStage, LeadsOn, RunsStages}
 
-way_is : (a b : Direction) → same_way a b ≡ true → a ≡ b
-way_is Request Request t = refl
-way_is Request Answer t = absurd (cc t)
-way_is Answer Request t = absurd (cc t)
-way_is Answer Answer t = refl
-
-first_of_both : (a b : Bool) → a && b ≡ true → a ≡ true
-first_of_both true b h = refl
-first_of_both false b h = absurd (cc h)
-
-second_of_both : (a b : Bool) → a && b ≡ true → b ≡ true
-second_of_both true b h = h
-second_of_both false b h = absurd (cc h)
-
 pub no_bits : (t : Type') → IsDone t → (c : Contact) → turned_if (slice_get (contacts_of t) 0) ≡ Some c → c.ask_bits ≡ 0
 no_bits Com done c is = ap (λ (x : Contact). x.ask_bits) (sym (same_Some _ c is))
 no_bits (Exp w) done c is = ap (λ (x : Contact). x.ask_bits) (sym (same_Some _ c is))
@@ -52,16 +42,6 @@ no_bits (Fun a b) done c is = absurd done
 
 pub zero_only : (v : ℕ) → v < 2 ^ 0 → v ≡ 0
 zero_only v less = let small : v < 1 = less in omega (arith, small)
-
-pub nat_eq_same : (n : ℕ) → nat_eq n n ≡ true
-nat_eq_same n = nat_eq_self n
-
-pub other_state : (i d : ℕ) → i ≢ d → nat_eq i d ≡ false
-other_state i d apart = by_test (nat_eq i d) refl
-  where
-    by_test : (b : Bool) → nat_eq i d ≡ b → b ≡ false
-    by_test true t = let same : i ≡ d = grind (arith, t) in absurd (apart same)
-    by_test false t = refl
 
 -- one token
 module _ (r : Plan) (e : End) (way : Direction) (v : ℕ) (s : Tokens) where
@@ -77,7 +57,7 @@ module _ (r : Plan) (e : End) (way : Direction) (v : ℕ) (s : Tokens) where
       of_test : (w : Direction) (y : End) (k : ℕ) (b : Bool) → same_way w way && same_end y x ≡ b → (if b then Some v else s.in_place w y) ≡ Some k
           → (w ≡ way) × (places_of r e ≡ Some y)
       of_test w y k true t is =
-          (way_is w way (first_of_both (same_way w way) (same_end y x) t), named ∙ ap Some (sym (same_is y x (second_of_both (same_way w way) (same_end y x) t))))
+          (same_way_is w way (and_first (same_way w way) (same_end y x) t), named ∙ ap Some (sym (same_is y x (and_second (same_way w way) (same_end y x) t))))
       of_test w y k false t is = let clash : None ≡ Some k = sym (empty w y) ∙ is in absurd (cc clash)
 
       of_place : (w : Direction) (y : End) (k : ℕ) → (with_held way (Some x) (Some v) s).in_place w y ≡ Some k → (w ≡ way) × (places_of r e ≡ Some y)
@@ -92,7 +72,7 @@ module _ (r : Plan) (e : End) (way : Direction) (v : ℕ) (s : Tokens) where
           let (same, there) = holds.alone w y k some in
           let end : x ≡ y = same_Some x y (sym named ∙ there) in
           let one : same_way w way && same_end y x ≡ same_way way way && same_end x x = λ l. same_way (same l) way && same_end (sym end l) x in
-          let two : same_way way way && same_end x x ≡ true = λ l. same_ways way l && same_itself x l in
+          let two : same_way way way && same_end x x ≡ true = λ l. same_way_itself way l && same_itself x l in
           let clash : false ≡ true = sym test ∙ (one ∙ two) in absurd (cc clash)
 
       of_test : (x : End) → places_of r e ≡ Some x → (b : Bool) → same_way w way && same_end y x ≡ b → (if b then None else s.in_place w y) ≡ None
@@ -135,17 +115,17 @@ module _ (r : Plan) (d : ℕ) (runner : Runner) (gs : List Stage) (node : RunsSt
   own_is_in = contained r.joints (joint (ResultEnd 0) own_end) node.result
 
   pub result_place : places_of r (ResultEnd 0) ≡ Some (ResultEnd 0)
-  result_place = stands_there r (joint (ResultEnd 0) own_end) (ResultEnd 0) node.base.right own_is_in (first_stands (joint (ResultEnd 0) own_end))
+  result_place = stands_there r (joint (ResultEnd 0) own_end) (ResultEnd 0) node.base.right own_is_in (asking_stands (joint (ResultEnd 0) own_end))
 
   pub own_place : places_of r own_end ≡ Some (ResultEnd 0)
-  own_place = stands_there r (joint (ResultEnd 0) own_end) own_end node.base.right own_is_in (last_stands (joint (ResultEnd 0) own_end))
+  own_place = stands_there r (joint (ResultEnd 0) own_end) own_end node.base.right own_is_in (serving_stands (joint (ResultEnd 0) own_end))
 
   pub at_own_joint : (b : End) → places_of r b ≡ Some (ResultEnd 0) → (b ≡ ResultEnd 0) ⊎ (b ≡ own_end)
   at_own_joint b named =
       let at = found r.joints b (ResultEnd 0) named in
       let same : at.joint ≡ joint (ResultEnd 0) own_end =
       one_joint r [] r.joints at.joint (joint (ResultEnd 0) own_end) (ResultEnd 0) node.base.right at.is_in own_is_in
-      (stands_by (ResultEnd 0) at.joint (inl (sym at.named))) (first_stands (joint (ResultEnd 0) own_end)) in
+      (stands_by (ResultEnd 0) at.joint (inl (sym at.named))) (asking_stands (joint (ResultEnd 0) own_end)) in
       which_end b (joint (ResultEnd 0) own_end) (subst (λ (x : Joint). stands_in b x ≡ true) same at.stands)
 
   -- which inputs may come: the request, an answer to an import, or a request at an import of which another handshake is open
@@ -227,8 +207,8 @@ module _ (r : Plan) (d : ℕ) (runner : Runner) (gs : List Stage) (node : RunsSt
 
         of_stage : (e : Stage) (a b : End) → Contains gs e → Contains e.plan.joints (joint a b) → lies_at e.cut a ≡ whole.joint.asking → lies_at e.cut b ≡ whole.joint.serving
             → (PartEnd d g.asked_at ≡ whole.joint.asking) ⊎ (PartEnd d g.asked_at ≡ whole.joint.serving) → StandsIn g.plan (ResultEnd (runner.asked g))
-        of_stage e a b also in_joints first last (inl is) = of_other e also a (joint a b) in_joints (first_stands (joint a b)) (first ∙ sym is)
-        of_stage e a b also in_joints first last (inr is) = of_other e also b (joint a b) in_joints (last_stands (joint a b)) (last ∙ sym is)
+        of_stage e a b also in_joints first last (inl is) = of_other e also a (joint a b) in_joints (asking_stands (joint a b)) (first ∙ sym is)
+        of_stage e a b also in_joints first last (inr is) = of_other e also b (joint a b) in_joints (serving_stands (joint a b)) (last ∙ sym is)
 
   -- A stage runs: its list so far, from an idle state; its turns, and what passed its ports.
   pub record Going (g : Stage) (has : Contains gs g) (hs : List Element) (before s : Tokens) (past : List Pass) : Type 0 where
@@ -253,13 +233,13 @@ module _ (r : Plan) (d : ℕ) (runner : Runner) (gs : List Stage) (node : RunsSt
     between = with_state d (row.next v) u
 
     at_own : between.state d ≡ row.next v
-    at_own = ap (λ (b : Bool). if b then row.next v else u.state d) (nat_eq_self d)
+    at_own = ap (λ (b : Bool). if b then row.next v else u.state d) (nat_eq_itself d)
 
     empty_between : Emptied d between
     empty_between =
         record {
           places = empty.places;
-          states = λ i apart. ap (λ (b : Bool). (if b then row.next v else u.state i).phase) (other_state i d apart) ∙ empty.states i apart;
+          states = λ i apart. ap (λ (b : Bool). (if b then row.next v else u.state i).phase) (ne_eqb i d apart) ∙ empty.states i apart;
         }
 
     after_one : (x : Token) → row.puts v ≡ x ∷ [] → t ≡ with_token r (end_of d x.slot) (way_of x.slot) (Some x.value) between

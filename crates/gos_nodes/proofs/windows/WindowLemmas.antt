@@ -2,6 +2,7 @@
 use Rattle.std.specs.Prelude.{◌≢◌, ◌^◌, ◌<◌, None, slice_get, Contains}
 use Rattle.std.proofs.Common.{◌≡◌, ℕ, Bool, true, false, List, [], ◌∷◌, ◌++◌, ◌⊎◌, Option, Some, inl, inr, refl, sym, ◌∙◌, ap, subst, if◌then◌else◌}
 use Rattle.std.proofs.lemmas.Option.{same_Some}
+use Rattle.std.proofs.lemmas.Bool.{ne_eqb}
 use Rattle.gos_types.specs.Events.{Direction, Request, Answer}
 use Rattle.gos_plan.specs.Kinds.{Contact}
 use Rattle.gos_plan.specs.Firing.{State, Slot, Ans, Row, at, firing}
@@ -19,7 +20,7 @@ use Rattle.gos_nodes.specs.windows.Nodes.{Stage}
 use Rattle.gos_nodes.specs.windows.Windows.{Runner, seen, HoldsOnly, Where, Resting, Asked, Within, Answered, to_session, to_answer, Staged, rests, waits, stays, holds, is_asked, begins, stirs, goes_on}
 use Rattle.gos_nodes.proofs.windows.MeetLemmas.{Meets, met_contact, met_contacts}
 use Rattle.gos_nodes.proofs.windows.TurnLemmas.{Turned, turns_before, OnlyResult, NoneOpen}
-use Rattle.gos_nodes.proofs.windows.WholeLemmas.{other_state, in_turn_at, Going, Led, asks, own_leads}
+use Rattle.gos_nodes.proofs.windows.WholeLemmas.{in_turn_at, Going, Led, asks, own_leads}
 use Rattle.gos_nodes.proofs.windows.NodeLemmas.{Place, AtRest, AtAsked, AtStage, AtAnswer, Holds, Result, rest_step, asked_step, answer_step, own_fired, own_firing}
 use Rattle.gos_nodes.specs.windows.OneSession.{IsAsked, Stays, IsOneSession}
 use Rattle.gos_nodes.proofs.windows.OneSessionLemmas.{open_then, then_one, ended_is_one, well_before}
@@ -126,7 +127,7 @@ module _ (r : Plan) (d : ℕ) (runner : Runner) (gs : List Stage) (node : RunsSt
     own_kept : (i j : ℕ) (slot : Slot) → g.cut.number i ≡ Some j → Does r (Fire i slot) s t → (n : ℕ) → g.cut.number n ≡ None → t.state n ≡ s.state n
     own_kept i j slot number (v, row, held, by, leads) n out =
         ap (λ (x : Tokens). x.state n) leads
-        ∙ (fired_state r i row v s n ∙ ap (λ (b : Bool). if b then row.next v else s.state n) (other_state n i apart))
+        ∙ (fired_state r i row v s n ∙ ap (λ (b : Bool). if b then row.next v else s.state n) (ne_eqb n i apart))
       where
         apart : n ≢ i
         apart same = let clash : None ≡ Some j = sym out ∙ (ap g.cut.number same ∙ number) in absurd (cc clash)

@@ -17,7 +17,7 @@ use Rattle.gos_programs.proofs.contexts.ShutLemmas.{sources_are_shut}
 use Rattle.gos_programs.proofs.contexts.ScopeLemmas.{ends_empty}
 use Rattle.gos_programs.proofs.contexts.RenamedStoreLemmas.{nothing_beside, above, above_absent}
 use Rattle.gos_programs.proofs.contexts.RenamedLemmas.{acts_beside, unfoldings_renamed, value_renamed, sources_renamed}
-use Rattle.gos_programs.proofs.contexts.RenamedBackLemmas.{unfoldings_back, value_of_renamed, steps_some, shows_some}
+use Rattle.gos_programs.proofs.contexts.RenamedBackLemmas.{unfoldings_back, steps_some, shows_some, is_value}
 
 pub acts_renamed : ActsRenamed
 acts_renamed r i a s u m t inj h =
@@ -94,7 +94,7 @@ waits_beside p q r f s m e inj free stalled = stalled_of q (beside r s f) (renam
     never : NeverValue (renamed r m)
     never n v hs is =
         let b = unfoldings_back r n m v hs in
-        value_answers p s m b.0 n b.2 (value_of_renamed r b.0 (subst IsValue b.1 is)) stalled
+        value_answers p s m b.0 n b.2 (is_value r b.0 (subst IsValue b.1 is)) stalled
 
     stuck : AlwaysStuck q.imports (beside r s f) (renamed r m)
     stuck n v hs =

@@ -14,10 +14,13 @@ use Rattle.gos_programs.specs.contexts.Renaming.{beside}
 use Rattle.gos_programs.proofs.contexts.BackwardLemmas.{OneLabel}
 use Rattle.gos_programs.proofs.contexts.ReachedLemmas.{reached_lifted}
 use Rattle.std.specs.Str.{bytes_eq}
+use Rattle.std.proofs.lemmas.Bool.{ne_eqb}
+use Rattle.gos_types.proofs.BytesLemmas.{same_bytes_eq}
+use Rattle.gos_model.proofs.MoveLemmas.{unfoldings_then}
 use Rattle.gos_programs.specs.contexts.LocalVariable.{wait_for, placed, HasOthers, IsHome, IsElsewhere, OtherMoves, ReadAsked, WriteAnswered, UnfoldingsBefore, ReadAnswered, WriteAsked}
 use Rattle.gos_programs.proofs.contexts.PluggedLemmas.{acts_of, acts_to}
-use Rattle.gos_programs.proofs.contexts.StoreLemmas.{later_at, eq_false}
-use Rattle.gos_programs.proofs.contexts.PlacedLemmas.{same_true, name_cases, reached_placed, unfoldings_placed, placed_row}
+use Rattle.gos_programs.proofs.contexts.StoreLemmas.{later_at}
+use Rattle.gos_programs.proofs.contexts.PlacedLemmas.{name_cases, reached_placed, unfoldings_placed, placed_row, import_placed}
 
 -- labels elsewhere
 answer_placed : (r : ℕ → ℕ) (y : Name) (z : ℕ) (o : Option Type') (n k : ℕ) (t : Term) → IsAnswer o n k t → IsAnswer o n k (placed r y z t)
@@ -26,9 +29,6 @@ answer_placed r y z (Some (Exp w)) (suc zero) k t h = (h.0, ap (placed r y z) h.
 answer_placed r y z (Some (Var w)) (suc zero) k t h = (h.0, ap (placed r y z) h.1)
 answer_placed r y z (Some (Var w)) (suc (suc (suc zero))) k t h = (h.0, ap (placed r y z) h.1)
 answer_placed r y z o n k t h = absurd h
-
-import_placed : (r : ℕ → ℕ) (y : Name) (z : ℕ) (x : Name) → bytes_eq x y ≡ false → placed r y z (Import x) ≡ Import x
-import_placed r y z x f = rw f refl
 
 waits_placed : (r : ℕ → ℕ) (y : Name) (z : ℕ) (x : Name) (n : ℕ) → bytes_eq x y ≡ false → placed r y z (Wait x n) ≡ Wait x n
 waits_placed r y z x n f = ap (λ (b : Bool). wait_for b z x n) f
@@ -99,10 +99,10 @@ type_there : (i : Imports) (x y : Name) (t u : Type') → import_type i y ≡ So
 type_there i x y t u h g e = let same : Some t ≡ Some u = sym h ∙ (sym (ap (import_type i) e) ∙ g) in cc
 
 loc_placed : (r : ℕ → ℕ) (y : Name) (z : ℕ) (x : Name) → x ≡ y → placed r y z (Import x) ≡ Loc z
-loc_placed r y z x e = rw (same_true x y e) refl
+loc_placed r y z x e = rw (same_bytes_eq x y e) refl
 
 wait_there : (r : ℕ → ℕ) (y : Name) (z : ℕ) (x : Name) (n : ℕ) → x ≡ y → placed r y z (Wait x n) ≡ wait_for true z x n
-wait_there r y z x n e = ap (λ (b : Bool). wait_for b z x n) (same_true x y e)
+wait_there r y z x n e = ap (λ (b : Bool). wait_for b z x n) (same_bytes_eq x y e)
 
 -- the answer that a wait at the import waits for
 answer_there : (i : Imports) (y : Name) (w : ℕ) → import_type i y ≡ Some (Var w) → (x : Name) (e n k : ℕ) (b : Term) → x ≡ y → e ≡ n
@@ -166,12 +166,8 @@ write_answered p y r z w s u m t typed (n, v, hs, (h, e)) =
     let one = reached_lifted (OneLabel p.imports (taken y 3 0)) (One r y z) (answered_row r y z w p.imports typed) (one_in r y z) v t h in
     (n, subst (λ (x : Term). Unfoldings n (placed r y z m) x) one (unfoldings_placed r y z n m v hs), e)
 
-unfoldings_append : (n j : ℕ) (m v t : Term) → Unfoldings n m v → Unfoldings j v t → (i : ℕ) × Unfoldings i m t
-unfoldings_append zero j m v t h g = (j, subst (λ (x : Term). Unfoldings j x t) (sym h) g)
-unfoldings_append (suc n) j m v t (u, h, hs) g = let k = unfoldings_append n j u v t hs g in (suc k.0, (u, h, k.1))
-
 pub unfoldings_before : UnfoldingsBefore
-unfoldings_before q a n m v s d hs (j, t, gs, h) = let k = unfoldings_append n j m v t hs gs in (k.0, t, k.1, h)
+unfoldings_before q a n m v s d hs (j, t, gs, h) = let k = unfoldings_then n j m v t hs gs in (k.0, t, k.1, h)
 
 -- the store at the location
 at_home : (r : ℕ → ℕ) (f : Store) (z w k : ℕ) → IsHome r f z w k → (s : Store)
@@ -184,7 +180,7 @@ put_home : (r : ℕ → ℕ) (f : Store) (z j : ℕ) → ((l : ℕ) → z ≡ r 
     → beside r s (store_put f z j) ≡ store_put (beside r s f) z j
 put_home r f z j apart [] = refl
 put_home r f z j apart (e ∷ s) =
-    let g = eq_false (r e.place) z (λ h. apart e.place (sym h)) in
+    let g = ne_eqb (r e.place) z (λ h. apart e.place (sym h)) in
     rw g (λ i. record e { place = r e.place } ∷ put_home r f z j apart s i)
 
 read_row : (r : ℕ → ℕ) (y : Name) (z w k : ℕ) (i : Imports) (f : Store) → import_type i y ≡ Some (Var w) → IsHome r f z w k → (s : Store) (a b : Term)

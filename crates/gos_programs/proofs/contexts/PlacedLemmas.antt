@@ -15,21 +15,14 @@ use Rattle.gos_programs.proofs.contexts.BackwardLemmas.{OneHead}
 use Rattle.gos_programs.proofs.contexts.ReachedLemmas.{reached_lifted}
 use Rattle.gos_programs.proofs.contexts.RenamedStoreLemmas.{entry_beside, put_beside, without_beside, moved}
 use Rattle.std.specs.Str.{bytes_eq}
-use Rattle.std.proofs.lemmas.Slice.Eq.{bytes_eq-Decides}
+use Rattle.gos_types.proofs.BytesLemmas.{bytes_eq_same, same_bytes_eq}
 use Rattle.gos_programs.specs.contexts.LocalVariable.{BodiesArePlaced, wait_for, placed}
-
--- names
-pub same_true : (x y : Name) → x ≡ y → bytes_eq x y ≡ true
-same_true x y e = (bytes_eq-Decides x y).1 e
-
-true_same : (x y : Name) → bytes_eq x y ≡ true → x ≡ y
-true_same x y e = (bytes_eq-Decides x y).0 e
 
 pub name_cases : {P : Type 0} (x y : Name) → (x ≡ y → bytes_eq x y ≡ true → P) → (bytes_eq x y ≡ false → P) → P
 name_cases {P} x y same other = tested (bytes_eq x y) refl
   where
     tested : (b : Bool) → bytes_eq x y ≡ b → P
-    tested true e = same (true_same x y e) e
+    tested true e = same (bytes_eq_same x y e) e
     tested false e = other e
 
 -- substitution goes with it
@@ -177,8 +170,8 @@ placed_row r y z f inj free s s' (Scope l m) b (is, et, es) = (
 )
 placed_row r y z f inj free s s' m b h = absurd h
 
-not_there : (r : ℕ → ℕ) (y : Name) (z : ℕ) (x : Name) → bytes_eq x y ≡ false → placed r y z (Import x) ≡ Import x
-not_there r y z x f = rw f refl
+pub import_placed : (r : ℕ → ℕ) (y : Name) (z : ℕ) (x : Name) → bytes_eq x y ≡ false → placed r y z (Import x) ≡ Import x
+import_placed r y z x f = rw f refl
 
 -- a source without the import, and without locations
 pub sources_placed : (r : ℕ → ℕ) (y : Name) (z : ℕ) (i : Imports) (g : List Type') (m : Term) (t : Type') → Typed i g m t → import_type i y ≡ None
@@ -187,7 +180,7 @@ sources_placed r y z i g Skip t h none = refl
 sources_placed r y z i g (Lit k w) t h none = refl
 sources_placed r y z i g (Bound n) t h none = refl
 sources_placed r y z i g (Import x) t h none =
-    not_there r y z x (name_cases x y (λ same e. let bad : None ≡ Some t = sym none ∙ (sym (ap (import_type i) same) ∙ h) in absurd cc) (λ f. f))
+    import_placed r y z x (name_cases x y (λ same e. let bad : None ≡ Some t = sym none ∙ (sym (ap (import_type i) same) ∙ h) in absurd cc) (λ f. f))
 sources_placed r y z i g (Lam a m) t (b, e, h) none = λ j. Lam a (sources_placed r y z i (a ∷ g) m b h none j)
 sources_placed r y z i g (App m n) t (a, h, k, apart) none = λ j. App (sources_placed r y z i g m (Fun a t) h none j) (sources_placed r y z i g n a k none j)
 sources_placed r y z i g (Both m n) t (a, b, e, h, k) none = λ j. Both (sources_placed r y z i g m a h none j) (sources_placed r y z i g n b k none j)
@@ -214,5 +207,5 @@ sources_placed r y z i g (Put m k) t h none = absurd h
 pub bodies_placed : BodiesArePlaced
 bodies_placed r y z i a m t typed none =
     placed_put r y z m 0 (Import y)
-    ∙ (ap (λ (x : Term). put_at 0 x (placed r y z m)) (rw (same_true y y refl) refl)
+    ∙ (ap (λ (x : Term). put_at 0 x (placed r y z m)) (rw (same_bytes_eq y y refl) refl)
     ∙ ap (put_at 0 (Loc z)) (sources_placed r y z i (a ∷ []) m t typed none))

@@ -43,12 +43,9 @@ is_pair : (r : ℕ → ℕ) (m a b : Term) → renamed r m ≡ Both a b → (c :
 is_pair r (Both c d) a b h = (c, d, refl, cc, cc)
 is_pair r m a b h = absurd cc
 
-is_value : (r : ℕ → ℕ) (m : Term) → IsValue (renamed r m) → IsValue m
+pub is_value : (r : ℕ → ℕ) (m : Term) → IsValue (renamed r m) → IsValue m
 is_value r m (inl e) = inl (is_skip r m e)
 is_value r m (inr (k, w, e)) = inr (k, w, is_lit r m k w e)
-
-pub value_of_renamed : (r : ℕ → ℕ) (m : Term) → IsValue (renamed r m) → IsValue m
-value_of_renamed r m h = is_value r m h
 
 -- what a renamed term becomes is a term renamed
 abbrev Back : (ℕ → ℕ) → Rel → Term → Term → Type 0

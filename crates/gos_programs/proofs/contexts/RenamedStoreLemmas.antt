@@ -1,9 +1,11 @@
 -- What a renamed store has, with others beside it, and after each change.
 use Rattle.std.specs.Prelude.{◌≡◌, ◌≤◌, ℕ, suc, ◌+◌, [], ◌∷◌, Option, Some, None}
 use Rattle.std.proofs.Common.{arith, refl, sym, ap, ◌∙◌}
+use Rattle.std.proofs.lemmas.Bool.{eq-eqb, ne_eqb}
 use Rattle.gos_model.specs.Stores.{Entry, Store, entry_at, store_put, without}
+use Rattle.gos_model.proofs.NumberLemmas.{number_cases}
 use Rattle.gos_programs.specs.contexts.Renaming.{renamed_store, IsInjective, beside}
-use Rattle.gos_programs.proofs.contexts.StoreLemmas.{eq_true, eq_false, number_cases, first_at, later_at}
+use Rattle.gos_programs.proofs.contexts.StoreLemmas.{first_at, later_at}
 
 -- an entry at a renamed place
 abbrev pub moved : (ℕ → ℕ) → Option Entry → Option Entry
@@ -15,8 +17,8 @@ pub entry_beside : (r : ℕ → ℕ) → IsInjective r → (s f : Store) (l : �
 entry_beside r inj [] f l h = h
 entry_beside r inj (e ∷ s) f l h =
     number_cases e.place l
-    (λ same t. let u = eq_true (r e.place) (r l) (ap r same) in rw (t, u) refl)
-    (λ other g. let u = eq_false (r e.place) (r l) (λ q. other (inj e.place l q)) in rw (g, u) (entry_beside r inj s f l h))
+    (λ same t. let u = eq-eqb (r e.place) (r l) (ap r same) in rw (t, u) refl)
+    (λ other g. let u = ne_eqb (r e.place) (r l) (λ q. other (inj e.place l q)) in rw (g, u) (entry_beside r inj s f l h))
 
 -- nothing changes where nothing is
 put_nowhere : (f : Store) (l k : ℕ) → entry_at f l ≡ None → store_put f l k ≡ f
@@ -38,9 +40,9 @@ pub put_beside : (r : ℕ → ℕ) → IsInjective r → (s f : Store) (l k : �
 put_beside r inj [] f l k h = sym (put_nowhere f (r l) k h)
 put_beside r inj (e ∷ s) f l k h =
     number_cases e.place l
-    (λ same t. let u = eq_true (r e.place) (r l) (ap r same) in rw (t, u) refl)
+    (λ same t. let u = eq-eqb (r e.place) (r l) (ap r same) in rw (t, u) refl)
     (λ other g.
-    let u = eq_false (r e.place) (r l) (λ q. other (inj e.place l q)) in
+    let u = ne_eqb (r e.place) (r l) (λ q. other (inj e.place l q)) in
     rw (g, u) (λ i. record e { place = r e.place } ∷ put_beside r inj s f l k h i))
 
 pub without_beside : (r : ℕ → ℕ) → IsInjective r → (s f : Store) (l : ℕ) → entry_at f (r l) ≡ None
@@ -48,9 +50,9 @@ pub without_beside : (r : ℕ → ℕ) → IsInjective r → (s f : Store) (l : 
 without_beside r inj [] f l h = sym (without_nowhere f (r l) h)
 without_beside r inj (e ∷ s) f l h =
     number_cases e.place l
-    (λ same t. let u = eq_true (r e.place) (r l) (ap r same) in rw (t, u) (without_beside r inj s f l h))
+    (λ same t. let u = eq-eqb (r e.place) (r l) (ap r same) in rw (t, u) (without_beside r inj s f l h))
     (λ other g.
-    let u = eq_false (r e.place) (r l) (λ q. other (inj e.place l q)) in
+    let u = ne_eqb (r e.place) (r l) (λ q. other (inj e.place l q)) in
     rw (g, u) (λ i. record e { place = r e.place } ∷ without_beside r inj s f l h i))
 
 pub nothing_beside : (r : ℕ → ℕ) (s : Store) → beside r s [] ≡ renamed_store r s

@@ -8,11 +8,12 @@ use Rattle.gos_model.specs.Steps.{Computes, Steps}
 use Rattle.gos_model.specs.Labels.{Label, is_output}
 use Rattle.gos_model.specs.Typing.{Imports}
 use Rattle.gos_model.specs.Moves.{Config, Idle, Running, Act, Computing, Showing, Acts, Move}
+use Rattle.gos_model.proofs.NumberLemmas.{number_cases}
 use Rattle.gos_programs.specs.contexts.Contexts.{Context, plug}
 use Rattle.gos_programs.specs.contexts.SameStores.{SameEntries, SwappedSame, MoveSame, MovesSame, WaitsSame}
 use Rattle.gos_programs.proofs.contexts.PluggedLemmas.{acts_of, acts_to, reached_plugged, stays_running, inner_rest, running_at}
 use Rattle.gos_programs.proofs.contexts.ReachedLemmas.{reached_lifted}
-use Rattle.gos_programs.proofs.contexts.StoreLemmas.{number_cases, numbered, put_same, put_other, without_same, without_other}
+use Rattle.gos_programs.proofs.contexts.StoreLemmas.{numbered, put_same, put_other, without_same, without_other}
 
 pub same_back : (s t : Store) → SameEntries s t → SameEntries t s
 same_back s t h l = sym (h l)

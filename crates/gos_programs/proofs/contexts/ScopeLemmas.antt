@@ -10,9 +10,10 @@ use Rattle.gos_model.specs.Reach.{Rel}
 use Rattle.gos_model.specs.Steps.{Computes, IsValue}
 use Rattle.gos_model.specs.Labels.{Label, IsAnswer}
 use Rattle.gos_model.specs.Moves.{Program, Config, Idle, Running, Act, Computing, Showing, Acts, Unfoldings, Move, Moves}
+use Rattle.gos_model.proofs.NumberLemmas.{number_cases}
 use Rattle.gos_programs.specs.contexts.Contexts.{Context, SeqFirst, ParLeft, ParRight, IfTest, BinLeft, HeldRight, NotOf, AssignRight, ScopeBody, plug}
 use Rattle.gos_programs.specs.contexts.Scopes.{IsShut, OpensInPlace, IsOpen, KeepsScopes, MovesKeepScopes, RunsKeepScopes, EndsEmpty}
-use Rattle.gos_programs.proofs.contexts.StoreLemmas.{number_cases, not_both, first_at, later_at, without_same, without_absent, put_absent}
+use Rattle.gos_programs.proofs.contexts.StoreLemmas.{not_both, first_at, later_at, without_same, without_absent, put_absent}
 use Rattle.gos_programs.proofs.contexts.ReachedLemmas.{reached_lifted}
 use Rattle.gos_programs.proofs.contexts.ShutLemmas.{shut_put, shut_in_place, shut_head}
 use Rattle.gos_programs.proofs.contexts.BackwardLemmas.{OneHead, OneLabel}

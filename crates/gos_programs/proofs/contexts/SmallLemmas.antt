@@ -2,19 +2,19 @@
 use Rattle.std.specs.Prelude.{◌≡◌, ◌⊎◌, ℕ, zero, suc, [], ◌∷◌, true, false, Some, None}
 use Rattle.std.specs.Str.{bytes_eq}
 use Rattle.std.proofs.Common.{arith, refl, sym, ap, subst, inl, inr, ◌∙◌}
+use Rattle.std.proofs.lemmas.Option.{none-some}
 use Rattle.gos_types.specs.Types.{Com, Var}
+use Rattle.gos_types.proofs.BytesLemmas.{same_bytes_eq}
 use Rattle.gos_model.specs.Stores.{Entry, entry_at}
 use Rattle.gos_model.specs.Terms.{Name}
 use Rattle.gos_model.specs.Typing.{import_type}
 use Rattle.gos_model.specs.Labels.{Port, Given, Taken}
 use Rattle.gos_model.specs.SmallPrograms.{c}
+use Rattle.gos_model.proofs.NumberLemmas.{number_cases}
 use Rattle.gos_programs.specs.contexts.Renaming.{IsInjective}
-use Rattle.gos_programs.proofs.contexts.StoreLemmas.{number_cases, first_at, later_at}
-use Rattle.gos_programs.proofs.contexts.PlacedLemmas.{same_true, name_cases}
+use Rattle.gos_programs.proofs.contexts.StoreLemmas.{first_at, later_at}
+use Rattle.gos_programs.proofs.contexts.PlacedLemmas.{name_cases}
 use Rattle.gos_programs.specs.contexts.SmallContexts.{one_at, one_variable, SidesAreNotAlone, RequestsAreNotInner, BlocksOpenInPlace, StoresKeepScopes, LocationsStand, LocationsAreScoped, BlocksDiffer, BlockIsRenamed, RenamingsTellApart, ZeroIsFree, NoneAreAmongSome, NamesAreKnown, EntriesInAnyOrder, StoresAreApart, StoreIsHeld, LocationIsPlaced, OthersAreLeft, HomeIsApart, LabelsElsewhere}
-
-some_there : {A : Type 0} (a : A) → None ≡ Some a → ⊥
-some_there a e = cc e
 
 there_some : {A : Type 0} (a : A) → Some a ≡ None → ⊥
 there_some a e = cc e
@@ -37,13 +37,13 @@ none_next l = only_at 0 (suc l) (λ h. omega (arith, h))
 
 at_home : (l : ℕ) (e : Entry) → entry_at (one_at 0) l ≡ Some e → 0 ≡ l
 at_home zero e h = refl
-at_home (suc l) e h = absurd (some_there e (sym (none_next l) ∙ h))
+at_home (suc l) e h = absurd (none-some e (sym (none_next l) ∙ h))
 
 pub stores_keep_scopes : StoresKeepScopes
 stores_keep_scopes = ((tt, λ l e h. inl (at_home l e h)), λ h. h.1 0 (record { place = 0; width = 1; number = 0 }) refl)
 
 pub locations_stand : LocationsStand
-locations_stand = (((record { place = 0; width = 1; number = 0 }, refl), (record { place = 0; width = 1; number = 0 }, refl)), λ h. some_there h.0.0 h.0.1)
+locations_stand = (((record { place = 0; width = 1; number = 0 }, refl), (record { place = 0; width = 1; number = 0 }, refl)), λ h. none-some h.0.0 h.0.1)
 
 pub locations_are_scoped : LocationsAreScoped
 locations_are_scoped = (inl refl, λ h. h.1)
@@ -67,10 +67,10 @@ pub zero_is_free : ZeroIsFree
 zero_is_free = (none_next, λ h. there_some (record { place = 1; width = 1; number = 0 }) (h 0))
 
 pub none_are_among_some : NoneAreAmongSome
-none_are_among_some = (λ x t h. absurd (some_there t h), λ h. some_there Com (h c Com refl))
+none_are_among_some = (λ x t h. absurd (none-some t h), λ h. none-some Com (h c Com refl))
 
 pub names_are_known : NamesAreKnown
-names_are_known = ((Com, refl), λ h. some_there h.0 h.1)
+names_are_known = ((Com, refl), λ h. none-some h.0 h.1)
 
 zero_first : (l : ℕ) → entry_at (record { place = 0; width = 1; number = 0 } ∷ one_at 1) l
     ≡ entry_at (record { place = 1; width = 1; number = 0 } ∷ one_at 0) l
@@ -106,10 +106,10 @@ pub location_is_placed : LocationIsPlaced
 location_is_placed = (refl, refl)
 
 pub others_are_left : OthersAreLeft
-others_are_left = (left, λ h. some_there (Var 1) (h c refl))
+others_are_left = (left, λ h. none-some (Var 1) (h c refl))
   where
     left : (x : Name) → bytes_eq x c ≡ false → import_type [] x ≡ import_type one_variable x
-    left x other = name_cases c x (λ same t. let bad : true ≡ false = sym (same_true x c (sym same)) ∙ other in absurd (cc bad)) (λ f. rw f refl)
+    left x other = name_cases c x (λ same t. let bad : true ≡ false = sym (same_bytes_eq x c (sym same)) ∙ other in absurd (cc bad)) (λ f. rw f refl)
 
 pub home_is_apart : HomeIsApart
 home_is_apart = (

@@ -10,13 +10,14 @@ use Rattle.gos_model.specs.Reach.{Rel}
 use Rattle.gos_model.specs.Steps.{Computes, IsValue}
 use Rattle.gos_model.specs.Labels.{Label, IsAnswer}
 use Rattle.gos_model.specs.Moves.{Program, Config, Idle, Running, Act, Computing, Showing, Acts, Unfoldings, Move, Moves}
+use Rattle.gos_model.proofs.NumberLemmas.{number_cases}
 use Rattle.gos_programs.specs.contexts.Contexts.{Context, SeqFirst, ParLeft, ParRight, IfTest, BinLeft, HeldRight, NotOf, AssignRight, ScopeBody, plug}
 use Rattle.gos_programs.specs.contexts.Scopes.{IsShut, OpensInPlace, IsOpen}
 use Rattle.gos_programs.specs.contexts.Standing.{Present, StandsIn, Has, InScope, OpensDiffer, RunsStay}
 use Rattle.gos_programs.proofs.contexts.BackwardLemmas.{OneHead, OneLabel}
 use Rattle.gos_programs.proofs.contexts.PluggedLemmas.{acts_of}
 use Rattle.gos_programs.proofs.contexts.ReachedLemmas.{reached_lifted}
-use Rattle.gos_programs.proofs.contexts.StoreLemmas.{number_cases, not_both, first_at, later_at, without_other, put_same, put_other, numbered}
+use Rattle.gos_programs.proofs.contexts.StoreLemmas.{not_both, first_at, later_at, without_other, put_same, put_other, numbered}
 use Rattle.gos_programs.proofs.contexts.ShutLemmas.{sources_are_shut, shut_put, shut_in_place, shut_head}
 use Rattle.gos_programs.proofs.contexts.ScopeLemmas.{acts_keep_place, unfoldings_keep_place}
 use Rattle.gos_programs.proofs.contexts.InScopeLemmas.{sources_scoped, unfoldings_scoped, acts_scoped}

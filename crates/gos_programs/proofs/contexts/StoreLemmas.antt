@@ -1,8 +1,9 @@
 -- What a store has at a location after each change of it.
 use Rattle.std.specs.Prelude.{◌≡◌, ◌≢◌, ℕ, [], ◌∷◌, Option, Some, None, nat_eq, if◌then◌else◌}
 use Rattle.std.proofs.Common.{refl, sym, ap, ◌∙◌}
+use Rattle.std.proofs.lemmas.Bool.{eq-eqb, ne_eqb}
 use Rattle.gos_model.specs.Stores.{Entry, Store, entry_at, store_put, without}
-pub use Rattle.gos_model.proofs.NumberLemmas.{eq_true, eq_false, true_eq, false_ne, number_cases}
+use Rattle.gos_model.proofs.NumberLemmas.{number_cases}
 
 -- nothing and something differ
 pub not_both : (o : Option Entry) (e : Entry) → o ≡ None → o ≡ Some e → ⊥
@@ -10,10 +11,10 @@ not_both o e a b = let bad : None ≡ Some e = sym a ∙ b in absurd cc
 
 -- what the first entry is
 pub first_at : (e : Entry) (s : Store) (l : ℕ) → e.place ≡ l → entry_at (e ∷ s) l ≡ Some e
-first_at e s l h = rw (eq_true e.place l h) refl
+first_at e s l h = rw (eq-eqb e.place l h) refl
 
 pub later_at : (e : Entry) (s : Store) (l : ℕ) → e.place ≢ l → entry_at (e ∷ s) l ≡ entry_at s l
-later_at e s l h = rw (eq_false e.place l h) refl
+later_at e s l h = rw (ne_eqb e.place l h) refl
 
 -- without a location
 pub without_same : (s : Store) (l : ℕ) → entry_at (without s l) l ≡ None
@@ -40,7 +41,7 @@ pub put_other : (s : Store) (l k x : ℕ) → l ≢ x → entry_at (store_put s 
 put_other [] l k x h = refl
 put_other (e ∷ s) l k x h =
     number_cases e.place l
-    (λ same t. let f = eq_false e.place x (λ q. h (sym same ∙ q)) in rw t (rw f refl))
+    (λ same t. let f = ne_eqb e.place x (λ q. h (sym same ∙ q)) in rw t (rw f refl))
     (λ other f. rw f (λ i. if nat_eq e.place x then Some e else put_other s l k x h i))
 
 -- an entry that isn't there doesn't come by these

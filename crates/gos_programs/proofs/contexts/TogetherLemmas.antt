@@ -5,13 +5,14 @@ use Rattle.gos_model.specs.Terms.{Term}
 use Rattle.gos_model.specs.Stores.{Entry, Store, entry_at}
 use Rattle.gos_model.specs.Labels.{given}
 use Rattle.gos_model.specs.Moves.{Program, Config, Running, Act, Showing, Move, Moves, Stalled}
+use Rattle.gos_model.proofs.NumberLemmas.{number_cases}
 use Rattle.gos_programs.specs.contexts.Contexts.{Context, plug_all, AllAlone}
 use Rattle.gos_programs.specs.contexts.Plugged.{AreInner}
 use Rattle.gos_programs.specs.contexts.Renaming.{renamed, renamed_store, IsFreeOf, beside}
 use Rattle.gos_programs.specs.contexts.SameStores.{SameEntries, AreApart}
 use Rattle.gos_programs.specs.contexts.Widening.{AreAmong, Knows}
 use Rattle.gos_programs.specs.contexts.Together.{Holds, HoldsBoth, TwoRenamings, MoveTogether, MovesTogether, RunTogether, WaitsTogether, BothWaitTogether, RightWaitsTogether, LeftWaitsTogether}
-use Rattle.gos_programs.proofs.contexts.StoreLemmas.{number_cases, later_at}
+use Rattle.gos_programs.proofs.contexts.StoreLemmas.{later_at}
 use Rattle.gos_programs.proofs.contexts.PluggedLemmas.{move_plugged, moves_plugged}
 use Rattle.gos_programs.proofs.contexts.BackwardLemmas.{waits_within, both_wait, right_waits, left_waits}
 use Rattle.gos_programs.proofs.contexts.ShutLemmas.{sources_are_shut}

@@ -8,8 +8,8 @@ use Rattle.gos_model.specs.Substitution.{put_at, instantiate}
 use Rattle.gos_model.specs.Typing.{Imports}
 use Rattle.gos_model.specs.Reach.{Rel, Rewrites, Under, Aside}
 use Rattle.gos_model.specs.Moves.{Unfoldings}
+use Rattle.gos_model.proofs.NumberLemmas.{number_cases}
 use Rattle.gos_programs.specs.contexts.Contexts.{Context, SeqFirst, ParLeft, ParRight, IfTest, BinLeft, HeldRight, NotOf, AssignRight, ScopeBody, plug}
-use Rattle.gos_programs.proofs.contexts.StoreLemmas.{number_cases}
 use Rattle.gos_programs.proofs.contexts.ReachedLemmas.{reached_lifted}
 use Rattle.gos_programs.proofs.contexts.BackwardLemmas.{OneHead}
 use Rattle.gos_programs.specs.results.HasTypes.{Widths, HasType}

@@ -1,10 +1,11 @@
 -- What a source becomes in a run has its type, and so has what the run ends with.
-use Rattle.std.specs.Prelude.{◌≡◌, ◌^◌, ◌<◌, ℕ, List, [], ◌∷◌, ◌++◌, Some, None}
+use Rattle.std.specs.Prelude.{◌≡◌, ◌^◌, ◌<◌, ℕ, List, [], ◌∷◌, ◌++◌}
 use Rattle.std.proofs.Common.{refl, sym, ap, subst, inl, inr, ◌∙◌}
+use Rattle.std.proofs.lemmas.Option.{none-some}
 use Rattle.gos_types.specs.Types.{Type'}
 use Rattle.gos_model.specs.Terms.{Term, Lit}
 use Rattle.gos_model.specs.Typing.{Imports, Typed}
-use Rattle.gos_model.specs.Stores.{Entry, Store}
+use Rattle.gos_model.specs.Stores.{Store}
 use Rattle.gos_model.specs.Steps.{Computes, IsValue}
 use Rattle.gos_model.specs.Labels.{given}
 use Rattle.gos_model.specs.Moves.{Program, Config, Idle, Running, Act, Computing, Showing, Acts, Answers, Move, Moves}
@@ -30,11 +31,8 @@ abbrev Has : Program → Type' → Config → Type 0
 Has p ty Idle = Unit {0}
 Has p ty (Running m s) = RunsAs p.imports m s ty
 
-none_some : (e : Entry) → None ≡ Some e → ⊥
-none_some e x = cc x
-
 begun : (p : Program) (ty : Type') → Typed p.imports [] p.body ty → RunsAs p.imports p.body [] ty
-begun p ty typed = (sources_have (widths_of []) p.imports [] p.body ty typed, λ l e h. absurd (none_some e h))
+begun p ty typed = (sources_have (widths_of []) p.imports [] p.body ty typed, λ l e h. absurd (none-some e h))
 
 one_move : (p : Program) (ty : Type') (before : List Act) (a : Act) (c d : Config)
     → Typed p.imports [] p.body ty → Moves p before Idle c → Move p a c d → Has p ty c → Has p ty d

@@ -2,7 +2,9 @@
 use Rattle.std.specs.Prelude.{◌≡◌, ℕ, zero, suc, ◌+◌, ◌-◌, ◌^◌, ◌<◌, List, [], ◌∷◌, ◌⊎◌, Bool, true, false, Option, Some, None, nat_eq, nat_lt, if◌then◌else◌}
 use Rattle.std.proofs.Common.{arith, refl, sym, ap, subst, inl, inr, ◌∙◌}
 use Rattle.std.proofs.lemmas.Nat.{pow_pos, mod_below, and_le_l, or_lt, xor_lt}
+use Rattle.std.proofs.lemmas.Option.{same_Some}
 use Rattle.gos_types.specs.Types.{Type', Com, Exp, Var}
+use Rattle.gos_types.proofs.TypeLemmas.{same_expression_width, same_variable_width}
 use Rattle.gos_model.specs.Terms.{Op, Add, Sub, And, Or, Xor, Eq, Less, Term, Skip, Lit, Import, Seq, Par, If, While, Assign, Deref, New, Not, Bin, Loc, Scope, Wait, Held, Put, result_of, result_width, complement}
 use Rattle.gos_model.specs.Substitution.{instantiate}
 use Rattle.gos_model.specs.Typing.{Imports, import_type}
@@ -10,9 +12,10 @@ use Rattle.gos_model.specs.Stores.{Entry, Store, entry_at, store_put, without}
 use Rattle.gos_model.specs.Reach.{Rel}
 use Rattle.gos_model.specs.Steps.{Computes}
 use Rattle.gos_model.specs.Labels.{Label, IsAnswer}
+use Rattle.gos_model.proofs.NumberLemmas.{number_cases}
 use Rattle.gos_programs.specs.contexts.Contexts.{Context, SeqFirst, ParLeft, ParRight, IfTest, BinLeft, HeldRight, NotOf, AssignRight, ScopeBody, plug}
 use Rattle.gos_programs.specs.contexts.Standing.{Present}
-use Rattle.gos_programs.proofs.contexts.StoreLemmas.{number_cases, not_both, first_at, later_at, without_same, without_other, numbered, put_same, put_other}
+use Rattle.gos_programs.proofs.contexts.StoreLemmas.{not_both, first_at, later_at, without_same, without_other, numbered, put_same, put_other}
 use Rattle.gos_programs.proofs.contexts.BackwardLemmas.{OneLabel}
 use Rattle.gos_programs.specs.results.HasTypes.{Widths, widths_of, NumbersFit, AnswersWith, HasType}
 use Rattle.gos_programs.proofs.results.TypeLemmas.{widened}
@@ -80,24 +83,15 @@ to_term : (ws : Widths) (i : Imports) (t : Type') (a b : Term) → b ≡ a → H
 to_term ws i t a b e h = subst (λ (x : Term). HasType ws i [] x t) (sym e) h
 
 -- what is known of a literal of an expression's type
-exp_same : (v w : ℕ) → Exp v ≡ Exp w → v ≡ w
-exp_same v w e = cc
-
-var_same : (v w : ℕ) → Var v ≡ Var w → v ≡ w
-var_same v w e = cc
-
-some_same : (a b : Entry) → Some a ≡ Some b → a ≡ b
-some_same a b e = cc
-
 literal : (ws : Widths) (i : Imports) (m : Term) (k v w : ℕ) → m ≡ Lit k v → HasType ws i [] m (Exp w) → (w ≡ v) × (k < 2 ^ v)
 literal ws i m k v w e h =
     let here : HasType ws i [] (Lit k v) (Exp w) = subst (λ (x : Term). HasType ws i [] x (Exp w)) e h in
-    (exp_same w v here.0, here.1)
+    (same_expression_width w v here.0, here.1)
 
 location : (i : Imports) (s : Store) (m : Term) (l w : ℕ) (e : Entry) → m ≡ Loc l → entry_at s l ≡ Some e → HasType (widths_of s) i [] m (Var w) → w ≡ e.width
 location i s m l w e is here h =
     let at : HasType (widths_of s) i [] (Loc l) (Var w) = subst (λ (x : Term). HasType (widths_of s) i [] x (Var w)) is h in
-    var_same w at.0 at.1 ∙ (sym at.2.2 ∙ ap (λ x. x.width) (some_same at.2.0 e (sym at.2.1 ∙ here)))
+    same_variable_width w at.0 at.1 ∙ (sym at.2.2 ∙ ap (λ x. x.width) (same_Some at.2.0 e (sym at.2.1 ∙ here)))
 
 -- a write
 put_fits : (s : Store) (x k w : ℕ) (e : Entry) → entry_at s x ≡ Some e → k < 2 ^ e.width → NumbersFit s → NumbersFit (store_put s x k)
@@ -106,7 +100,7 @@ put_fits s x k w e here fits f l d at =
     (λ same yes.
     let there : entry_at (store_put s x k) l ≡ Some (record e { number = k }) =
     subst (λ (y : ℕ). entry_at (store_put s x k) y ≡ Some (record e { number = k })) same (put_same s x k ∙ ap (numbered k) here) in
-    subst (λ (y : Entry). y.number < 2 ^ y.width) (some_same (record e { number = k }) d (sym there ∙ at)) fits)
+    subst (λ (y : Entry). y.number < 2 ^ y.width) (same_Some (record e { number = k }) d (sym there ∙ at)) fits)
     (λ other no. f l d (sym (put_other s x k l other) ∙ at))
 
 put_stays : (s : Store) (x k : ℕ) → WidthsStay s (store_put s x k)
@@ -126,7 +120,7 @@ new_fits : (s : Store) (x w : ℕ) → NumbersFit s → NumbersFit (record { pla
 new_fits s x w f l d at =
     let e : Entry = record { place = x; width = w; number = 0 } in
     number_cases x l
-    (λ same yes. subst (λ (y : Entry). y.number < 2 ^ y.width) (some_same e d (sym (first_at e s l same) ∙ at)) (pow_pos w))
+    (λ same yes. subst (λ (y : Entry). y.number < 2 ^ y.width) (same_Some e d (sym (first_at e s l same) ∙ at)) (pow_pos w))
     (λ other no. f l d (sym (later_at e s l other) ∙ at))
 
 new_stays : (s : Store) (x w : ℕ) → entry_at s x ≡ None → WidthsStay s (record { place = x; width = w; number = 0 } ∷ s)
@@ -212,18 +206,15 @@ answer_typed ws i o n k b t h g = absurd h
 answers_as : (o p : Option Type') (n : ℕ) (t : Type') → o ≡ p → AnswersWith p n t → AnswersWith o n t
 answers_as o p n t e h = subst (λ (x : Option Type'). AnswersWith x n t) (sym e) h
 
-some_type : (a b : Type') → Some a ≡ Some b → a ≡ b
-some_type a b e = cc
-
 pub label_keeps : (ws : Widths) (i : Imports) (o : Label) (a b : Term) → OneLabel i o a b → KeepsType ws i a b
 label_keeps ws i o (Import x) b (inl (inl (here, e, et))) t h =
-    to_term ws i t (Wait x 1) b et (answers_as (import_type i x) (Some Com) 1 t here (some_type t Com (sym h ∙ here)))
+    to_term ws i t (Wait x 1) b et (answers_as (import_type i x) (Some Com) 1 t here (same_Some t Com (sym h ∙ here)))
 label_keeps ws i o (Import x) b (inl (inr (w, here, e, et))) t h =
-    to_term ws i t (Wait x 1) b et (answers_as (import_type i x) (Some (Exp w)) 1 t here (some_type t (Exp w) (sym h ∙ here)))
+    to_term ws i t (Wait x 1) b et (answers_as (import_type i x) (Some (Exp w)) 1 t here (same_Some t (Exp w) (sym h ∙ here)))
 label_keeps ws i o (Deref m) b (inl (x, w, em, here, e, et)) t (v, is, h) =
     let at : HasType ws i [] (Import x) (Var v) = subst (λ (y : Term). HasType ws i [] y (Var v)) em h in
     to_term ws i t (Wait x 1) b et
-    (answers_as (import_type i x) (Some (Var w)) 1 t here (is ∙ ap (λ y. Exp y) (var_same v w (some_type (Var v) (Var w) (sym at ∙ here)))))
+    (answers_as (import_type i x) (Some (Var w)) 1 t here (is ∙ ap (λ y. Exp y) (same_variable_width v w (same_Some (Var v) (Var w) (sym at ∙ here)))))
 label_keeps ws i o (Put m k) b (inl (x, w, em, here, e, et)) t (v, is, fits, h) =
     to_term ws i t (Wait x 3) b et (answers_as (import_type i x) (Some (Var w)) 3 t here is)
 label_keeps ws i o (Wait x n) b (inr (p, e, h)) t k = answer_typed ws i (import_type i x) n o.value b t h k

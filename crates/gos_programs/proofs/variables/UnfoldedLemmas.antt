@@ -188,7 +188,7 @@ Active q a m s = (d : Config) × Move q a (Running m s) d
 before_one : (q : Program) (a : Act) (m v : Term) (s : Store) → Unfolds m v → Active q a v s → Active q a m s
 before_one q a m v s h (d, (n, u, hs, g)) = (d, (suc n, u, (v, h, hs), g))
 
-answers_value : (o : Label) (m : Term) → Answers o m → IsValue m
+pub answers_value : (o : Label) (m : Term) → Answers o m → IsValue m
 answers_value o m (inl (is, e)) = inl is
 answers_value o m (inr (k, w, is, e)) = inr (k, w, is)
 

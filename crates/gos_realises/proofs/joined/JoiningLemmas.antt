@@ -1,14 +1,16 @@
 -- Of plans whose links fit there is a joining: its joints are those pairs of ends that a path connects.
 use Rattle.std.specs.Prelude.{◌≡◌, ◌≢◌, ℕ, zero, suc, ◌+◌, ◌<◌, Bool, true, false, IsTrue, List, [], ◌∷◌, ◌++◌, ◌⊎◌, length, Option, Some, None, Contains, slice_get}
 use Rattle.std.proofs.Common.{refl, sym, ◌∙◌, ap, subst, arith, inl, inr}
+use Rattle.std.proofs.lemmas.Option.{slice_get_within}
 use Rattle.gos_types.specs.declared.shakes.Role.{Role}
 use Rattle.gos_types.specs.declared.shakes.Role.TheVariants.{Serve, Ask}
 use Rattle.gos_types.specs.Handshakes.{turned}
+use Rattle.gos_types.proofs.RoleLemmas.{ask_is_not_serve}
 use Rattle.gos_model.specs.Typing.{Imported}
 use Rattle.gos_plan.specs.Kinds.{Part, Contact, asks, serves, contacts_of, turned_contact, part_contacts}
-use Rattle.gos_plan.specs.Plans.{End, PartEnd, ImportEnd, ResultEnd, Joint, Plan, contact_at, contacts_of_part, contacts_of_import, turned_if, same_end, stands_in, is_free, Fits, AreRight}
+use Rattle.gos_plan.specs.Plans.{End, PartEnd, ImportEnd, ResultEnd, Joint, Plan, contact_at, contacts_of_part, contacts_of_import, turned_if, stands_in, is_free, Fits, AreRight}
 use Rattle.gos_plan.specs.Joining.{Place, Link, Wiring, Path, Connects, origin, IsJoining}
-use Rattle.gos_plan.proofs.JointLemmas.{IsIn, same_is, contained}
+use Rattle.gos_plan.proofs.JointLemmas.{IsIn, contained, listed, which_end, is_in_front, is_in_behind}
 use Rattle.gos_plan.proofs.JointLemmas as joints
 use Rattle.gos_plan.proofs.DecidedLemmas.{Told, both}
 use Rattle.gos_realises.specs.realises.Links.{contact_of, contact_in, EndsFit, LinkFits, LinksFit}
@@ -117,11 +119,6 @@ in_shakes f (suc n) h small =
       | inr apart ↦ inr (in_shakes f n h (omega (arith, small, apart)))
     ]
 
-in_range : {X : Type 0} (xs : List X) (n : ℕ) (x : X) → slice_get xs n ≡ Some x → n < length xs
-in_range [] n x e = absurd (cc e)
-in_range (y ∷ xs) zero x e = omega arith
-in_range (y ∷ xs) (suc n) x e = let rest = in_range xs n x e in omega (arith, rest)
-
 abbrev part_ends : ℕ → List Part → List End
 part_ends i [] = []
 part_ends i (k ∷ ks) = shakes (PartEnd i) (length (part_contacts k)) ++ part_ends (suc i) ks
@@ -132,7 +129,7 @@ in_parts n (k ∷ ks) zero h c e =
     let sum : n ≡ n + 0 = omega arith in
     one_front (PartEnd (n + 0) h) (shakes (PartEnd n) (length (part_contacts k))) (part_ends (suc n) ks)
     (subst (λ (m : ℕ). OneOf (PartEnd m h) (shakes (PartEnd n) (length (part_contacts k)))) sum
-    (in_shakes (PartEnd n) (length (part_contacts k)) h (in_range (part_contacts k) h c e)))
+    (in_shakes (PartEnd n) (length (part_contacts k)) h (slice_get_within (part_contacts k) h c e)))
 in_parts n (k ∷ ks) (suc i) h c e =
     let sum : suc n + i ≡ n + suc i = omega arith in
     one_behind (PartEnd (n + suc i) h) (shakes (PartEnd n) (length (part_contacts k))) (part_ends (suc n) ks)
@@ -149,7 +146,7 @@ in_imports n (x ∷ xs) zero h c e =
     let sum : n ≡ n + 0 = omega arith in
     one_front (ImportEnd (n + 0) h) (shakes (ImportEnd n) (length (contacts_of x.ty))) (import_ends (suc n) xs)
     (subst (λ (m : ℕ). OneOf (ImportEnd m h) (shakes (ImportEnd n) (length (contacts_of x.ty)))) sum
-    (in_shakes (ImportEnd n) (length (contacts_of x.ty)) h (in_range (contacts_of x.ty) h c e)))
+    (in_shakes (ImportEnd n) (length (contacts_of x.ty)) h (slice_get_within (contacts_of x.ty) h c e)))
 in_imports n (x ∷ xs) (suc i) h c e =
     let sum : suc n + i ≡ n + suc i = omega arith in
     one_behind (ImportEnd (n + suc i) h) (shakes (ImportEnd n) (length (contacts_of x.ty))) (import_ends (suc n) xs)
@@ -163,7 +160,7 @@ all_ends p = part_ends 0 p.parts ++ (import_ends 0 p.imports ++ result_ends p)
 
 in_result : (p : Plan) (h : ℕ) (c : Contact) (o : Option Contact) → slice_get (contacts_of p.outcome) h ≡ o → turned_if o ≡ Some c → OneOf (ResultEnd h) (result_ends p)
 in_result p h c None is e = absurd (cc e)
-in_result p h c (Some d) is e = in_shakes ResultEnd (length (contacts_of p.outcome)) h (in_range (contacts_of p.outcome) h d is)
+in_result p h c (Some d) is e = in_shakes ResultEnd (length (contacts_of p.outcome)) h (slice_get_within (contacts_of p.outcome) h d is)
 
 is_end : (p : Plan) (e : End) (c : Contact) → contact_at p e ≡ Some c → OneOf e (all_ends p)
 is_end p (PartEnd i h) c e =
@@ -191,15 +188,6 @@ abbrev all_pairs : List End → List End → List Joint
 all_pairs [] bs = []
 all_pairs (a ∷ firsts) bs = pairs_of a bs ++ all_pairs firsts bs
 
-joint_front : (j : Joint) (xs ys : List Joint) → IsIn j xs → IsIn j (xs ++ ys)
-joint_front j [] ys h = absurd h
-joint_front j (x ∷ xs) ys (inl is) = inl is
-joint_front j (x ∷ xs) ys (inr h) = inr (joint_front j xs ys h)
-
-joint_behind : (j : Joint) (xs ys : List Joint) → IsIn j ys → IsIn j (xs ++ ys)
-joint_behind j [] ys h = h
-joint_behind j (x ∷ xs) ys h = inr (joint_behind j xs ys h)
-
 in_pairs_of : (a b : End) (bs : List End) → OneOf b bs → IsIn (joint a b) (pairs_of a bs)
 in_pairs_of a b [] h = absurd h
 in_pairs_of a b (x ∷ bs) (inl e) = inl (ap (joint a) e)
@@ -208,8 +196,8 @@ in_pairs_of a b (x ∷ bs) (inr h) = inr (in_pairs_of a b bs h)
 in_pairs : (a b : End) (firsts bs : List End) → OneOf a firsts → OneOf b bs → IsIn (joint a b) (all_pairs firsts bs)
 in_pairs a b [] bs h g = absurd h
 in_pairs a b (x ∷ firsts) bs (inl e) g =
-    joint_front (joint a b) (pairs_of x bs) (all_pairs firsts bs) (subst (λ (y : End). IsIn (joint a b) (pairs_of y bs)) e (in_pairs_of a b bs g))
-in_pairs a b (x ∷ firsts) bs (inr h) g = joint_behind (joint a b) (pairs_of x bs) (all_pairs firsts bs) (in_pairs a b firsts bs h g)
+    is_in_front (joint a b) (pairs_of x bs) (all_pairs firsts bs) (subst (λ (y : End). IsIn (joint a b) (pairs_of y bs)) e (in_pairs_of a b bs g))
+in_pairs a b (x ∷ firsts) bs (inr h) g = is_in_behind (joint a b) (pairs_of x bs) (all_pairs firsts bs) (in_pairs a b firsts bs h g)
 
 -- whether a pair is to be a joint
 abbrev AsksAt : Option Contact → Type 0
@@ -217,9 +205,6 @@ AsksAt o = (q : ℕ) × (v : ℕ) × (o ≡ Some (asks q v))
 
 abbrev ServesAt : Option Contact → Type 0
 ServesAt o = (q : ℕ) × (v : ℕ) × (o ≡ Some (serves q v))
-
-role_clash : Ask ≡ Serve → ⊥
-role_clash e = cc e
 
 told_asks : (o : Option Contact) → Told (AsksAt o)
 told_asks None = inr (λ h. let e = h.2 in cc e)
@@ -232,7 +217,7 @@ told_asks (Some c) = by_role c.role refl
         (λ h.
         let is : Some c ≡ Some (asks h.0 h.1) = h.2 in
         let same : c ≡ asks h.0 h.1 = cc is in
-        role_clash (sym (ap (λ (x : Contact). x.role) same) ∙ e))
+        ask_is_not_serve (sym (ap (λ (x : Contact). x.role) same) ∙ e))
 
 told_serves : (o : Option Contact) → Told (ServesAt o)
 told_serves None = inr (λ h. let e = h.2 in cc e)
@@ -245,7 +230,7 @@ told_serves (Some c) = by_role c.role refl
         (λ h.
         let is : Some c ≡ Some (serves h.0 h.1) = h.2 in
         let same : c ≡ serves h.0 h.1 = cc is in
-        role_clash (sym e ∙ ap (λ (x : Contact). x.role) same))
+        ask_is_not_serve (sym e ∙ ap (λ (x : Contact). x.role) same))
 
 abbrev Good : Wiring → Joint → Type 0
 Good w j =
@@ -298,7 +283,7 @@ good_apart : (w : Wiring) (j k : Joint) → Good w j → Good w k → j.asking �
 good_apart w j k ((p, u, asked), rest) (asked_too, ((q, v, served), path)) same =
     let is : Some (asks p u) ≡ Some (serves q v) = sym asked ∙ (ap (contact_at (whole w [])) same ∙ served) in
     let contacts : asks p u ≡ serves q v = cc is in
-    role_clash (ap (λ (x : Contact). x.role) contacts)
+    ask_is_not_serve (ap (λ (x : Contact). x.role) contacts)
 
 -- an end that isn't free stands in one of the joints
 told_true : (b : Bool) → Told (IsTrue b)
@@ -308,13 +293,6 @@ told_true false = inr (λ e. let no : false ≡ true = e in cc no)
 abbrev StandsThere : End → List Joint → Type 0
 StandsThere e js = (j : Joint) × IsIn j js × ((e ≡ j.asking) ⊎ (e ≡ j.serving))
 
-stands_one : (e : End) (j : Joint) → stands_in e j ≡ true → (e ≡ j.asking) ⊎ (e ≡ j.serving)
-stands_one e j t = by_test (same_end e j.asking) refl
-  where
-    by_test : (b : Bool) → same_end e j.asking ≡ b → (e ≡ j.asking) ⊎ (e ≡ j.serving)
-    by_test true a = inl (same_is e j.asking a)
-    by_test false a = let s : same_end e j.serving ≡ true = grind (arith, t, a) in inr (same_is e j.serving s)
-
 in_more : (e : End) (x : Joint) (js : List Joint) → StandsThere e js → StandsThere e (x ∷ js)
 in_more e x js (j, is_in, at) = (j, inr is_in, at)
 
@@ -323,7 +301,7 @@ not_free e [] busy = absurd (busy refl)
 not_free e (x ∷ js) busy = by_test (stands_in e x) refl (λ f. in_more e x js (not_free e js f))
   where
     by_test : (b : Bool) → stands_in e x ≡ b → ((IsTrue (is_free e js) → ⊥) → StandsThere e (x ∷ js)) → StandsThere e (x ∷ js)
-    by_test true t rest = (x, inl refl, stands_one e x t)
+    by_test true t rest = (x, inl refl, which_end e x t)
     by_test false t rest = rest (λ f. busy (rw t f))
 
 -- the joints: of the pairs those to be joints, each once
@@ -411,11 +389,6 @@ picked_all w fit before (j ∷ js) k goods good h =
         inl (not_fresh w fit before k goods good (λ fresh. fails (subst (λ (x : Joint). Fresh w before x) e fresh)))
     by_told (inr fails) (inr h) more less = less h
 
-contains : (js : List Joint) (j : Joint) → IsIn j js → Contains js j
-contains [] j h = absurd h
-contains (x ∷ js) j (inl e) = (0, omega arith, sym e)
-contains (x ∷ js) j (inr h) = let (k, small, e) = contains js j h in (suc k, omega (arith, small), e)
-
 -- the joining
 abbrev ends_of : Wiring → List End
 ends_of w = all_ends (whole w [])
@@ -445,7 +418,7 @@ fitting_is_joined w fit = (whole w (joints_of w), record { fits = fit; joining =
         let among = in_pairs a b (ends_of w) (ends_of w) (is_end (whole w []) a (asks q v) asks_there) (is_end (whole w []) b (serves q v) serves_there) in
         elim (picked_all w fit [] (all_pairs (ends_of w) (ends_of w)) (joint a b) (λ j none. absurd none) good among) [
           | inl none ↦ absurd none
-          | inr is_in ↦ contains (joints_of w) (joint a b) is_in
+          | inr is_in ↦ listed (joints_of w) (joint a b) is_in
         ]
 
     joining : IsJoining w (whole w (joints_of w))

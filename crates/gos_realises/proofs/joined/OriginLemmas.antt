@@ -2,6 +2,7 @@
 use Rattle.std.specs.Prelude.{◌≡◌, ℕ, zero, suc, ◌+◌, ◌-◌, ◌<◌, ◌≤◌, Bool, true, false, List, [], ◌∷◌, ◌++◌, length, map, Option, Some, None, slice_get, nat_lt, if◌then◌else◌, option_map}
 use Rattle.std.proofs.Common.{refl, sym, ◌∙◌, ap, subst, arith, inl, inr}
 use Rattle.std.proofs.lemmas.Option.{slice_get-map}
+use Rattle.gos_types.proofs.ListLemmas.{same_in_front}
 use Rattle.gos_model.specs.Typing.{Imported}
 use Rattle.gos_plan.specs.Kinds.{Part, Contact, contacts_of}
 use Rattle.gos_plan.specs.Plans.{End, PartEnd, ImportEnd, ResultEnd, Joint, Plan, contact_at, contacts_of_part, contacts_of_import, turned_if}
@@ -20,12 +21,6 @@ whole w js =
       parts = all_parts w.plans;
       joints = js;
     }
-
--- elements of two lists
-pub front_at : {X : Type 0} (xs ys : List X) (i : ℕ) → i < length xs → slice_get (xs ++ ys) i ≡ slice_get xs i
-front_at [] ys i small = absurd (omega (arith, small))
-front_at (x ∷ xs) ys zero small = refl
-front_at (x ∷ xs) ys (suc i) small = front_at xs ys i (omega (arith, small))
 
 pub behind_at : {X : Type 0} (xs ys : List X) (i : ℕ) → length xs ≤ i → slice_get (xs ++ ys) i ≡ slice_get ys (i - length xs)
 behind_at [] ys i large = let e : i ≡ i - 0 = omega arith in ap (slice_get ys) e
@@ -68,7 +63,7 @@ part_of n (p ∷ ps) i x e = by_test (nat_lt i (length p.parts)) refl (part_of (
           number = omega arith;
           stands = λ h. rw t (ap (λ (k : ℕ). place k (PartEnd i h)) sum);
           is = refl;
-          has = sym (front_at p.parts (all_parts ps) i small) ∙ e;
+          has = sym (same_in_front p.parts (all_parts ps) i small) ∙ e;
         }
     by_test false t rest =
         let large : length p.parts ≤ i = grind (arith, t) in
@@ -194,7 +189,7 @@ left_at ls n (p ∷ ps) i l e = by_test (nat_lt i (length (left_in ls n 0 p.impo
         → LeftAt ls n (p ∷ ps) i l
     by_test true t rest =
         let small : i < length (left_in ls n 0 p.imports) = grind (arith, t) in
-        let there = left_one ls n 0 p.imports i l (sym (front_at (left_in ls n 0 p.imports) (left_among ls (suc n) ps) i small) ∙ e) in
+        let there = left_one ls n 0 p.imports i l (sym (same_in_front (left_in ls n 0 p.imports) (left_among ls (suc n) ps) i small) ∙ e) in
         let is = there.number_is in
         let number : there.number ≡ l.number = omega (arith, is) in
         record {

@@ -5,6 +5,7 @@ use Rattle.gos_plan.specs.Plans.{End, Joint, Plan, same_end}
 use Rattle.gos_plan.specs.Joining.{Place, place, Link, Wiring, JoinedWithin, Linked, Path}
 use Rattle.gos_plan.proofs.JointLemmas.{same_itself, same_is}
 use Rattle.gos_plan.proofs.DecidedLemmas.{Told, both}
+use Rattle.gos_plan.proofs.WiringLemmas.{joined_back, place_is}
 
 pub one_of : {A B : Type 0} → Told A → Told B → Told (A ⊎ B)
 one_of (inl a) b = inl (inl a)
@@ -30,10 +31,7 @@ told_end d e = by_test (same_end d e) refl
         inr (λ is. let other : same_end d e ≡ true = subst (λ (x : End). same_end d x ≡ true) is (same_itself d) in
         let no : true ≡ false = sym other ∙ t in cc no)
 
-pub place_is : (a b : Place) → a.plan ≡ b.plan → a.end ≡ b.end → a ≡ b
-place_is a b k e = λ i. place (k i) (e i)
-
-told_place : (a b : Place) → Told (a ≡ b)
+pub told_place : (a b : Place) → Told (a ≡ b)
 told_place a b =
     elim (both (told_number a.plan b.plan) (told_end a.end b.end)) [
       | inl e ↦ inl (place_is a b e.0 e.1)
@@ -90,16 +88,6 @@ then_path w (suc n) a b c (d, s, p) q = let (m, path) = then_path w n d b c p q 
 
 pub paths_then : (w : Wiring) (a b c : Place) → Paths w a b → Paths w b c → Paths w a c
 paths_then w a b c (n, p) q = then_path w n a b c p q
-
-pub joined_back : (w : Wiring) (a b : Place) → JoinedWithin w a b → JoinedWithin w b a
-joined_back w a b (p, j, same, is, has, ways) = (
-  p,
-  j,
-  sym same,
-  subst (λ (k : ℕ). slice_get w.plans k ≡ Some p) same is,
-  has,
-  elim ways [ inl (e, f) ↦ inr (f, e) | inr (e, f) ↦ inl (f, e) ],
-)
 
 pub step_back : (w : Wiring) (a b : Place) → Step w a b → Step w b a
 step_back w a b (inl joined) = inl (joined_back w a b joined)

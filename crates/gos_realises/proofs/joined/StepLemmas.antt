@@ -1,24 +1,23 @@
 -- The joints and links of a wiring whose links fit make chains.
 --
 -- An end is seen by its joint as the plan has it. Its link sees a part's end so too, and a port's from the other side.
-use Rattle.std.specs.Prelude.{◌≡◌, ◌≢◌, ℕ, zero, suc, ◌||◌, Bool, true, false, [], ◌⊎◌, Option, Some, None, Contains, slice_get}
-use Rattle.std.proofs.Common.{refl, sym, ◌∙◌, ap, subst, inl, inr}
+use Rattle.std.specs.Prelude.{◌≡◌, ◌≢◌, ℕ, zero, suc, ◌||◌, Bool, true, [], ◌⊎◌, Option, Some, None, Contains, slice_get}
+use Rattle.std.proofs.Common.{sym, ◌∙◌, ap, subst, inl, inr}
 use Rattle.gos_types.specs.declared.shakes.Role.{Role}
 use Rattle.gos_types.specs.declared.shakes.Role.TheVariants.{Serve, Ask}
 use Rattle.gos_types.specs.Handshakes.{turned}
-use Rattle.gos_plan.specs.Kinds.{Contact, asks, serves}
+use Rattle.gos_types.proofs.BoolLemmas.{or_true}
+use Rattle.gos_types.proofs.RoleLemmas.{turned_twice}
+use Rattle.gos_plan.specs.Kinds.{Contact}
 use Rattle.gos_plan.specs.Plans.{End, PartEnd, ImportEnd, ResultEnd, Joint, Plan, contact_at, same_end, stands_in, Fits, IsRight}
 use Rattle.gos_plan.specs.Joining.{Place, Link, Wiring, JoinedWithin, Linked, Path}
-use Rattle.gos_plan.proofs.JointLemmas.{same_itself, one_joint, contained, free_later}
+use Rattle.gos_plan.proofs.JointLemmas.{same_itself, one_joint, contained, free_later, ends_are_apart}
 use Rattle.gos_plan.proofs.JointLemmas as joints
+use Rattle.gos_plan.proofs.WiringLemmas.{linked_back, joined_back, place_is}
 use Rattle.gos_realises.specs.realises.Links.{contact_of, contact_in, IsUnjoined, EndsFit, LinkFits, StandsIn, LinksFit}
 use Rattle.gos_realises.proofs.realises.PlaceLemmas.{place_of}
-use Rattle.gos_realises.proofs.joined.ReachLemmas.{joined_back, place_is, Step, Paths}
+use Rattle.gos_realises.proofs.joined.ReachLemmas.{Step, Paths}
 use Rattle.gos_realises.proofs.joined.ChainLemmas.{Chains, Walk, IsOnly, one_end}
-
-pub role_twice : (r : Role) → turned (turned r) ≡ r
-role_twice Serve = refl
-role_twice Ask = refl
 
 pub not_turned : (r : Role) → r ≡ turned r → ⊥
 not_turned Serve e = cc e
@@ -51,31 +50,18 @@ IsPart (ResultEnd h) = ⊥
 abbrev Ends : Joint → End → End → Type 0
 Ends j a b = ((a ≡ j.asking) × (b ≡ j.serving)) ⊎ ((a ≡ j.serving) × (b ≡ j.asking))
 
-ask_is_not_serve : Ask ≡ Serve → ⊥
-ask_is_not_serve e = cc e
-
-ends_differ : (p : Plan) (j : Joint) → Fits p j → j.asking ≡ j.serving → ⊥
-ends_differ p j (q, v, asked, served) e =
-    let same : Some (asks q v) ≡ Some (serves q v) = sym asked ∙ (ap (contact_at p) e ∙ served) in
-    let roles : Some Ask ≡ Some Serve = ap joint_role same in
-    ask_is_not_serve (cc roles)
-
 other_end : (p : Plan) (j : Joint) → Fits p j → (e b c : End) → Ends j e b → Ends j e c → b ≡ c
 other_end p j fit e b c (inl (at, is)) (inl (at_too, is_too)) = is ∙ sym is_too
-other_end p j fit e b c (inl (at, is)) (inr (at_too, is_too)) = absurd (ends_differ p j fit (sym at ∙ at_too))
-other_end p j fit e b c (inr (at, is)) (inl (at_too, is_too)) = absurd (ends_differ p j fit (sym at_too ∙ at))
+other_end p j fit e b c (inl (at, is)) (inr (at_too, is_too)) = absurd (ends_are_apart p j fit (sym at ∙ at_too))
+other_end p j fit e b c (inr (at, is)) (inl (at_too, is_too)) = absurd (ends_are_apart p j fit (sym at_too ∙ at))
 other_end p j fit e b c (inr (at, is)) (inr (at_too, is_too)) = is ∙ sym is_too
-
-or_right : (b : Bool) → (b || true) ≡ true
-or_right true = refl
-or_right false = refl
 
 stands : (j : Joint) (e b : End) → Ends j e b → stands_in e j ≡ true
 stands j e b (inl (at, is)) =
     subst (λ (x : End). stands_in x j ≡ true) (sym at) (ap (λ (t : Bool). t || same_end j.asking j.serving) (same_itself j.asking))
 stands j e b (inr (at, is)) =
     subst (λ (x : End). stands_in x j ≡ true) (sym at)
-    (ap (λ (t : Bool). same_end j.serving j.asking || t) (same_itself j.serving) ∙ or_right (same_end j.serving j.asking))
+    (ap (λ (t : Bool). same_end j.serving j.asking || t) (same_itself j.serving) ∙ or_true (same_end j.serving j.asking))
 
 joined_one : (w : Wiring) → LinksFit w → (a b c : Place) → JoinedWithin w a b → JoinedWithin w a c → b ≡ c
 joined_one w fit a b c (p, j, same, is, has, ways) (q, k, same_too, is_too, has_too, ways_too) =
@@ -134,8 +120,8 @@ fit_seen : (w : Wiring) (a b : Place) (c d : Contact) (e f : End) → EndsFit w 
 fit_seen w a b c d (PartEnd i h) (PartEnd j g) fit = absurd fit
 fit_seen w a b c d (PartEnd i h) (ImportEnd j g) fit = ap (λ (x : Contact). turned x.role) fit.0
 fit_seen w a b c d (PartEnd i h) (ResultEnd g) fit = ap (λ (x : Contact). turned x.role) fit.0
-fit_seen w a b c d (ImportEnd i h) (PartEnd j g) fit = ap (λ (x : Contact). x.role) fit.0 ∙ sym (role_twice c.role)
-fit_seen w a b c d (ResultEnd h) (PartEnd j g) fit = ap (λ (x : Contact). x.role) fit.0 ∙ sym (role_twice c.role)
+fit_seen w a b c d (ImportEnd i h) (PartEnd j g) fit = ap (λ (x : Contact). x.role) fit.0 ∙ sym (turned_twice c.role)
+fit_seen w a b c d (ResultEnd h) (PartEnd j g) fit = ap (λ (x : Contact). x.role) fit.0 ∙ sym (turned_twice c.role)
 fit_seen w a b c d (ImportEnd i h) (ImportEnd j g) fit = ap (λ (x : Contact). turned x.role) fit
 fit_seen w a b c d (ImportEnd i h) (ResultEnd g) fit = ap (λ (x : Contact). turned x.role) fit
 fit_seen w a b c d (ResultEnd h) (ImportEnd j g) fit = ap (λ (x : Contact). turned x.role) fit
@@ -155,7 +141,7 @@ link_roles w l (apart, (c, d, at_one, at_other, fit)) = (
 )
 
 opposite_back : (o u : Option Role) → Opposite o u → Opposite u o
-opposite_back o u (r, e, f) = (turned r, f, e ∙ ap Some (sym (role_twice r)))
+opposite_back o u (r, e, f) = (turned r, f, e ∙ ap Some (sym (turned_twice r)))
 
 linked_roles : (w : Wiring) → LinksFit w → (a b : Place) → Linked w a b → Opposite (role_at_link w a) (role_at_link w b)
 linked_roles w fit a b (l, has, ways) = by_way (link_roles w l (link_fits w fit l has)) ways
@@ -218,9 +204,6 @@ back_role o u r (s, e, f) is =
     let same : Some s ≡ Some r = sym e ∙ is in
     let roles : s ≡ r = cc same in
     f ∙ ap (λ (x : Role). Some (turned x)) roles
-
-linked_back : (w : Wiring) (a b : Place) → Linked w a b → Linked w b a
-linked_back w a b (l, has, ways) = (l, has, elim ways [ inl (e, f) ↦ inr (f, e) | inr (e, f) ↦ inl (f, e) ])
 
 way_back : (w : Wiring) → LinksFit w → (r : Role) (a b : Place) → RoleStep w r a b → RoleStep w (turned r) b a
 way_back w fit r a b (inl (x, e)) =

@@ -2,6 +2,7 @@
 -- So a Share ties what it puts to what it takes.
 use Rattle.std.proofs.Common.{◌≡◌, inl, inr, ℕ, ◌+◌, ◌*◌, ◌<◌, Bool, true, false, length, Some, slice_get, refl, sym, ◌∙◌, ap, subst, arith, nat_eq, if◌then◌else◌}
 use Rattle.std.proofs.lemmas.Option.{slice_get_within}
+use Rattle.std.proofs.lemmas.Bool.{eqb-true}
 use Rattle.gos_types.specs.declared.shakes.Role.TheVariants.{Ask}
 use Rattle.gos_types.specs.Types.{Type'}
 use Rattle.gos_types.specs.Events.{Request, Answer}
@@ -43,14 +44,11 @@ answer_open p i h k v o s right fit is asks lies =
 pub one_put : (n m : ℕ) → (if nat_eq n m then true else false) ≡ true → n ≡ m
 one_put n m e = grind (arith, e)
 
-pub alike : (n m : ℕ) → nat_eq n m ≡ true → n ≡ m
-alike n m e = grind (arith, e)
-
 pub unlike : (n m : ℕ) → (n ≡ m → ⊥) → (if nat_eq n m then true else false) ≡ false
 unlike n m apart = by_test (nat_eq n m) refl
   where
     by_test : (b : Bool) → nat_eq n m ≡ b → (if b then true else false) ≡ false
-    by_test true e = absurd (apart (alike n m e))
+    by_test true e = absurd (apart (eqb-true n m e))
     by_test false e = refl
 
 pub differ : (n m : ℕ) → nat_eq n m ≡ false → n ≡ m → ⊥
@@ -72,16 +70,16 @@ law_of_row p o s i t q v r j c alone is there open_answer passes a b = (first r 
         → Tied (Share t) (r.next v) a b × (is_put (Ans b) (r.puts v) ≡ false)
     first r (asked_first role) put takes =
         let one = one_put j a put in
-        let two = alike (n + j) b takes in
+        let two = eqb-true (n + j) b takes in
         ((j, c, there, inl (role, sym one, inl (sym two))), refl)
     first r (asked_second role) put takes =
         let one = one_put j a put in
-        let two = alike (n + n + j) b takes in
+        let two = eqb-true (n + n + j) b takes in
         ((j, c, there, inl (role, sym one, inr (sym two))), refl)
     first r (answered_source role) put takes = absurd (cc put)
     first r (asked_source role) put takes =
         let one = one_put (caller n q.number j) a put in
-        let two = alike j b takes in
+        let two = eqb-true j b takes in
         ((j, c, there, inr (role, sym two, q.number, sym one)), refl)
     first r (answered_caller role) put takes = absurd (cc put)
 

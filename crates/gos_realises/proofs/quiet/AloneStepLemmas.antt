@@ -2,10 +2,12 @@
 use Rattle.std.specs.Prelude.{Option, None}
 use Rattle.std.proofs.Common.{◌≡◌, ℕ, ◌+◌, ◌*◌, ◌<◌, Bool, true, false, length, Some, slice_get, refl, sym, ◌∙◌, ap, subst, arith, nat_eq, if◌then◌else◌}
 use Rattle.std.proofs.lemmas.Option.{slice_get_within}
+use Rattle.std.proofs.lemmas.Bool.{eqb-true}
 use Rattle.gos_types.specs.declared.shakes.Role.TheVariants.{Serve, Ask}
 use Rattle.gos_types.specs.Types.{Type'}
 use Rattle.gos_types.specs.Handshakes.{turned}
 use Rattle.gos_types.specs.Events.{Request}
+use Rattle.gos_model.proofs.NumberLemmas.{nat_eq_itself}
 use Rattle.gos_plan.specs.Kinds.{Part, Share, Contact, contacts_of, turned_contact}
 use Rattle.gos_plan.specs.Firing.{Slot, Req, Ans, Row, same_slot, firing}
 use Rattle.gos_plan.specs.Plans.{End, PartEnd, Plan, IsRight, contacts_of_part, contact_at}
@@ -13,7 +15,6 @@ use Rattle.gos_plan.specs.Tokens.{Tokens, Fire, end_of, way_of, token_at, with_t
 use Rattle.gos_plan.specs.Orderly.{Open, after_taken, after_puts, AllComeWell, ComesInOrder}
 use Rattle.gos_plan.specs.Firings.{after_taking}
 use Rattle.gos_plan.specs.Projection.{asked_by}
-use Rattle.gos_plan.proofs.TurnLemmas.{nat_eq_self}
 use Rattle.gos_plan.proofs.HeldLemmas.{AllFit}
 use Rattle.gos_plan.proofs.AskingLemmas.{TakesAsking, PutsAsking, PutsInRole, row_roles, row_asks, source_at}
 use Rattle.gos_plan.proofs.ProjectionLemmas.{taken_own, taken_other, puts_other}
@@ -25,7 +26,7 @@ use Rattle.gos_realises.proofs.quiet.LadderLemmas.{opened_by, put_role, at_end, 
 use Rattle.gos_realises.proofs.quiet.LadderStepLemmas.{taken_busy, was_open}
 use Rattle.gos_realises.proofs.quiet.SharedLemmas.{caller, one_shake, asked_first, asked_second, answered_source, asked_source, answered_caller, SharedRow, shared_row}
 use Rattle.gos_realises.proofs.quiet.SharedLemmas as shared
-use Rattle.gos_realises.proofs.quiet.AloneLemmas.{Lone, Alone, answer_open, one_put, alike, unlike, differ}
+use Rattle.gos_realises.proofs.quiet.AloneLemmas.{Lone, Alone, answer_open, one_put, unlike, differ}
 
 -- a firing in order, with what is known of its row
 pub record Fact (p : Plan) (j : ℕ) (slot : Slot) (o : Open) (s : Tokens) (m : Open) (w : Tokens) : Type 0 where
@@ -128,7 +129,7 @@ other_part p i j slot o m s w right x apart alone t k c is there role y opened =
         let one = one_server p (PartEnd j h) (PartEnd i k) lone.place right at lone.there
         (at_end p j h x.kind x.is (put_role x.kind (x.row.puts x.value) h x.puts_role put)) (serves_source p i t k c is there role) in
         let same = part_is j i h k one in
-        let no_part : true ≡ false = sym (nat_eq_self i) ∙ (ap (nat_eq i) (sym same) ∙ apart) in
+        let no_part : true ≡ false = sym (nat_eq_itself i) ∙ (ap (nat_eq i) (sym same) ∙ apart) in
         cc no_part
 
 -- the Share itself, where it neither asks a caller at this handshake nor answers the source
@@ -270,7 +271,7 @@ own_part p i slot o m s w right fit x alone t k c is there role y opened = by_ro
         by_test : (d : Bool) → nat_eq h k ≡ d → Lone p m w i n y k
         by_test false apart = kept r e (λ z. unlike (caller n b h) (caller n z k) (λ same. differ h k apart (one_shake n b z h k less low same))) refl
         by_test true same =
-            let here = alike h k same in
+            let here = eqb-true h k same in
             own_asked p i slot o m s w right fit x alone t k c is there role
             (sym x.takes ∙ (ap (λ (d : Row). d.takes) (sym e) ∙ ap Req here)) b
             (λ z put. ap (caller n b) (sym here) ∙ one_put (caller n b h) z (subst (λ (d : Row). is_put (Req z) (d.puts x.value) ≡ true) (sym e) put))
@@ -280,7 +281,7 @@ own_part p i slot o m s w right fit x alone t k c is there role y opened = by_ro
         by_test : (d : Bool) → nat_eq h k ≡ d → Lone p m w i n y k
         by_test false apart = kept r e (λ z. refl) (unlike h k (differ h k apart))
         by_test true same =
-            let here = alike h k same in
+            let here = eqb-true h k same in
             absurd (own_answered p i slot o m s w right fit x alone t k c is there role b
             (sym x.takes ∙ (ap (λ (d : Row). d.takes) (sym e) ∙ ap (λ (z : ℕ). Ans (caller n b z)) here))
             (λ z. subst (λ (d : Row). is_put (Req z) (d.puts x.value) ≡ false) e refl) y opened)

@@ -7,17 +7,11 @@ use Rattle.gos_plan.specs.Tokens.{Tokens, Element, Fire, IsPortEnd, end_of, IsId
 use Rattle.gos_plan.specs.Orderly.{handshake_at, Open, none_open, OrderlyFrom}
 use Rattle.gos_plan.specs.Made.{PartFiring}
 use Rattle.gos_plan.proofs.HeldLemmas.{AllFit, all_fit}
+use Rattle.gos_plan.proofs.ElementLemmas.{orderly_then}
 use Rattle.gos_realises.specs.quiet.Ranks.{Ranks, no_ranks, Stepped, Steps, HasRank, RanksHold}
 use Rattle.gos_realises.proofs.quiet.StepLemmas.{step_fits}
 use Rattle.gos_realises.proofs.quiet.LadderLemmas.{Ladders, rank_elsewhere}
 use Rattle.gos_realises.proofs.quiet.LadderStepLemmas.{Law, Firing, firing_facts, ladders_step}
-
-pub orderly_append : (p : Plan) (xs ys : List Element) (o m u : Open) (s w t : Tokens) → OrderlyFrom p xs o s m w → OrderlyFrom p ys m w u t
-    → OrderlyFrom p (xs ++ ys) o s u t
-orderly_append p [] ys o m u s w t h k =
-    subst (λ (y : Open). OrderlyFrom p ys y s u t) h.0 (subst (λ (y : Tokens). OrderlyFrom p ys m y u t) h.1 k)
-orderly_append p (x ∷ xs) ys o m u s w t (n, z, does, comes, welcome, rest) k =
-    (n, z, does, comes, welcome, orderly_append p xs ys n m u z w t rest k)
 
 -- the rules tie, wherever an orderly list leads
 abbrev pub AlwaysTies : Plan → Type 0
@@ -50,7 +44,7 @@ all_steps p first xs [] o u f g s t right ties idle orderly (a, b, c) fit ladder
 )
 all_steps p first xs (y ∷ fs) o u f g s t right ties idle orderly (m, h, w, one, rest) fit ladders flat =
     all_steps p first (xs ++ Fire y.part y.takes ∷ []) fs m u h g w t right ties idle
-    (orderly_append p xs (Fire y.part y.takes ∷ []) none_open o m first s w orderly
+    (orderly_then p xs (Fire y.part y.takes ∷ []) none_open o m first s w orderly
     (m, w, (one.value, one.row, one.lies, one.fires, one.leads), one.comes, one.welcome, (refl, refl))) rest
     (step_fits p y.part y.takes o m f h s w one fit)
     (ladders_step p y.part y.takes o m f h s w right fit (ties first s xs o idle orderly) one ladders)

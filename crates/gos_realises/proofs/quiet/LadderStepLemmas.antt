@@ -3,6 +3,7 @@ use Rattle.std.specs.Prelude.{Option, None}
 use Rattle.std.proofs.Common.{◌≡◌, inl, inr, ℕ, suc, Bool, true, false, List, [], ◌∷◌, Some, slice_get, refl, sym, ◌∙◌, ap, subst, arith, nat_eq}
 use Rattle.gos_types.specs.declared.shakes.Role.TheVariants.{Serve}
 use Rattle.gos_types.specs.Events.{Request, Answer}
+use Rattle.gos_model.proofs.NumberLemmas.{nat_eq_itself}
 use Rattle.gos_plan.specs.Kinds.{Part}
 use Rattle.gos_plan.specs.Firing.{State, Slot, Req, Ans, Token, Row, same_slot, firing}
 use Rattle.gos_plan.specs.Plans.{End, PartEnd, Plan, IsRight}
@@ -10,7 +11,7 @@ use Rattle.gos_plan.specs.Tokens.{Tokens, places_of, with_held, end_of, way_of, 
 use Rattle.gos_plan.specs.Orderly.{handshake_at, Open, after_taken}
 use Rattle.gos_plan.proofs.JointLemmas.{same_itself}
 use Rattle.gos_plan.proofs.HeldLemmas.{Fits, AllFit}
-use Rattle.gos_plan.proofs.TurnLemmas.{fired_state, nat_eq_self}
+use Rattle.gos_plan.proofs.TurnLemmas.{fired_state}
 use Rattle.gos_plan.proofs.RowLemmas.{role_taking}
 use Rattle.gos_plan.proofs.AskingLemmas.{TakesAsking, PutsAsking, PutsInRole, RoleIs, row_roles, row_asks}
 use Rattle.gos_plan.proofs.ProjectionLemmas.{taken_own, taken_other, puts_other}
@@ -104,7 +105,7 @@ stays_busy p j slot o m f h s w n x busy never =
 
 -- only the part that fires changes its state
 state_own : (p : Plan) (j : ℕ) (slot : Slot) (o m : Open) (f h : Ranks) (s w : Tokens) (x : Stepped p j slot o f s m h w) → w.state j ≡ x.row.next x.value
-state_own p j slot o m f h s w x = ap (λ (y : Tokens). y.state j) x.leads ∙ (fired_state p j x.row x.value s j ∙ rw (nat_eq_self j) refl)
+state_own p j slot o m f h s w x = ap (λ (y : Tokens). y.state j) x.leads ∙ (fired_state p j x.row x.value s j ∙ rw (nat_eq_itself j) refl)
 
 state_other : (p : Plan) (i j : ℕ) (slot : Slot) (o m : Open) (f h : Ranks) (s w : Tokens) (x : Stepped p j slot o f s m h w) → nat_eq i j ≡ false
     → w.state i ≡ s.state i
@@ -148,7 +149,7 @@ ladder_other p i j slot o m f h s w x apart ladders a r opened ranked =
         let one = one_server p (PartEnd j c) (PartEnd i below.server) below.place x.right there below.there
         (at_end p j c x.kind x.is (put_role x.kind ts c x.puts_role put)) (at_end p i below.server below.kind below.is below.serves) in
         let same = part_is j i c below.server one in
-        let no_part : true ≡ false = sym (nat_eq_self i) ∙ (ap (nat_eq i) (sym same) ∙ apart) in
+        let no_part : true ≡ false = sym (nat_eq_itself i) ∙ (ap (nat_eq i) (sym same) ∙ apart) in
         cc no_part
 
     stays : Busy m w below.place × (h below.place ≡ f below.place)
@@ -189,7 +190,7 @@ ladder_put p j (Req b) o m f h s w x law a r put ranked =
     at = taken_at p (PartEnd j b) Request x.step.value s x.step.lies
 
     ties : Tied x.kind (x.step.row.next x.step.value) a b × (is_put (Ans b) (x.step.row.puts x.step.value) ≡ false)
-    ties = (law a b).0 put (subst (λ (c : Slot). same_slot c (Req b) ≡ true) (sym x.takes) (nat_eq_self b))
+    ties = (law a b).0 put (subst (λ (c : Slot). same_slot c (Req b) ≡ true) (sym x.takes) (nat_eq_itself b))
 
     ranks : suc (f (handshake_at p (PartEnd j b))) ≡ suc r
     ranks =

@@ -264,7 +264,7 @@ rounds p first start (suc n) k past o f s (a ∷ b ∷ c ∷ d ∷ ms) right lad
     (steps_fit p (in_four a b c d) o four.0 f four.1 s d.after four.2 fit) (steps_welcome p (in_four a b c d) o four.0 f four.1 s d.after four.2 welcome)
     (low_next p o four.0 f four.1 s a b c d ms k right welcome soon four.2 low) four.3 (soon_after_four p s a b c d ms soon) (omega (arith, many)))
 
-orderly_welcome : (p : Plan) (xs : List Element) (o u : Open) (s t : Tokens) → OrderlyFrom p xs o s u t → AllWelcome p s → AllWelcome p t
+pub orderly_welcome : (p : Plan) (xs : List Element) (o u : Open) (s t : Tokens) → OrderlyFrom p xs o s u t → AllWelcome p s → AllWelcome p t
 orderly_welcome p [] o u s t list welcome = subst (λ (y : Tokens). AllWelcome p y) (sym list.1) welcome
 orderly_welcome p (x ∷ xs) o u s t (m, w, does, comes, also, list) welcome = orderly_welcome p xs m u w t list also
 

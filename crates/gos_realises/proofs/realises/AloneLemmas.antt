@@ -6,8 +6,6 @@ use Rattle.std.proofs.Common.{refl, sym, ◌∙◌, ap, subst, arith, inl, inr}
 use Rattle.std.proofs.lemmas.Bool.Decides.{nat_tests}
 use Rattle.std.proofs.lemmas.List.{append-nil}
 use Rattle.std.proofs.lemmas.Option.{slice_get_past, none-some}
-use Rattle.gos_types.specs.declared.shakes.Role.{Role}
-use Rattle.gos_types.specs.declared.shakes.Role.TheVariants.{Serve, Ask}
 use Rattle.gos_types.specs.Types.{Type'}
 use Rattle.gos_model.specs.Typing.{Imported}
 use Rattle.gos_plan.specs.Kinds.{Part, Contact, asks, serves, contacts_of}
@@ -15,7 +13,8 @@ use Rattle.gos_plan.specs.Plans.{End, PartEnd, ImportEnd, ResultEnd, Joint, Plan
 use Rattle.gos_plan.specs.Tokens.{places_of}
 use Rattle.gos_plan.specs.Joining.{Place, place, Wiring, JoinedWithin, Linked, Path, Connects, all_left, left_place, origin, IsJoining}
 use Rattle.gos_plan.proofs.JointLemmas as joints
-use Rattle.gos_plan.proofs.JointLemmas.{same_itself, one_joint, contained, stands_there, found, listed}
+use Rattle.gos_plan.proofs.JointLemmas.{same_itself, one_joint, contained, stands_there, found, listed, ends_are_apart}
+use Rattle.gos_plan.proofs.ContactLemmas.{asks_is_not_serves}
 use Rattle.gos_realises.specs.realises.Wirings.{side}
 use Rattle.gos_realises.specs.realises.Renumbered.{moved, moved_if, IsRenumbered}
 use Rattle.gos_realises.specs.realises.Alone.{AloneIsItself, OrderIsFree}
@@ -26,7 +25,7 @@ use Rattle.gos_realises.proofs.realises.RenumberLemmas.{renumbering_keeps}
 abbrev pub Ends : End → End → Joint → Type 0
 Ends a b j = ((a ≡ j.asking) × (b ≡ j.serving)) ⊎ ((a ≡ j.serving) × (b ≡ j.asking))
 
-first_stands : (a b : End) (j : Joint) → Ends a b j → stands_in a j ≡ true
+pub first_stands : (a b : End) (j : Joint) → Ends a b j → stands_in a j ≡ true
 first_stands a b j (inl (e, f)) =
     let t : same_end a j.asking ≡ true = subst (λ x. same_end a x ≡ true) e (same_itself a) in grind (arith, t)
 first_stands a b j (inr (e, f)) =
@@ -36,27 +35,12 @@ turned_ends : (a b : End) (j : Joint) → Ends a b j → Ends b a j
 turned_ends a b j (inl (e, f)) = inr (f, e)
 turned_ends a b j (inr (e, f)) = inl (f, e)
 
--- an end that asks doesn't serve
-abbrev role_or : Option Contact → Role
-role_or None = Ask
-role_or (Some c) = c.role
-
-asks_is_not_serves : Ask ≡ Serve → ⊥
-asks_is_not_serves e = cc
-
-pub apart : (q v x y : ℕ) → Some (asks q v) ≡ Some (serves x y) → ⊥
-apart q v x y e = asks_is_not_serves (ap role_or e)
-
-not_one : (p : Plan) (j : Joint) → Fits p j → j.asking ≡ j.serving → ⊥
-not_one p j (q, v, asked, served) e =
-    apart q v q v (sym asked ∙ (ap (contact_at p) e ∙ served))
-
 -- to and fro along one joint
-back_again : (p : Plan) (j : Joint) → Fits p j → (a c b : End) → Ends a c j → Ends c b j → a ≡ b
-back_again p j fit a c b (inl (e, f)) (inl (g, h)) = absurd (not_one p j fit (sym g ∙ f))
+pub back_again : (p : Plan) (j : Joint) → Fits p j → (a c b : End) → Ends a c j → Ends c b j → a ≡ b
+back_again p j fit a c b (inl (e, f)) (inl (g, h)) = absurd (ends_are_apart p j fit (sym g ∙ f))
 back_again p j fit a c b (inl (e, f)) (inr (g, h)) = e ∙ sym h
 back_again p j fit a c b (inr (e, f)) (inl (g, h)) = e ∙ sym h
-back_again p j fit a c b (inr (e, f)) (inr (g, h)) = absurd (not_one p j fit (sym f ∙ g))
+back_again p j fit a c b (inr (e, f)) (inr (g, h)) = absurd (ends_are_apart p j fit (sym f ∙ g))
 
 module _ (p : Plan) (right : IsRight p) where
   abbrev alone : Wiring
@@ -145,12 +129,12 @@ module _ (p : Plan) (right : IsRight p) where
 
     asks_first : (a b : End) → Connects alone r a b → (a ≡ b) ⊎ Joins a b → Contains p.joints (record { asking = a; serving = b })
     asks_first a b (q, v, n, asked, served, path) (inl e) =
-        absurd (apart q v q v (sym asked ∙ (ap (contact_at r) e ∙ served)))
+        absurd (asks_is_not_serves q v q v (sym asked ∙ (ap (contact_at r) e ∙ served)))
     asks_first a b (q, v, n, asked, served, path) (inr (j, has, inl (e, f))) =
         subst (λ (x : Joint). Contains p.joints x) (λ i. record { asking = sym e i; serving = sym f i }) has
     asks_first a b (q, v, n, asked, served, path) (inr (j, has, inr (e, f))) =
         let (x, y, j_asked, j_served) = joint_fits j has in
-        absurd (apart q v x y (sym asked ∙ (same_contact a ∙ (ap (contact_at p) e ∙ j_served))))
+        absurd (asks_is_not_serves q v x y (sym asked ∙ (same_contact a ∙ (ap (contact_at p) e ∙ j_served))))
 
     from_joint : (a b : End) → Contains p.joints (record { asking = a; serving = b }) → Connects alone r a b
     from_joint a b has =

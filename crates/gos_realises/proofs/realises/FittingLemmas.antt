@@ -2,30 +2,22 @@
 use Rattle.std.specs.Prelude.{◌≡◌, ℕ, zero, suc, ◌+◌, ◌<◌, List, [], ◌∷◌, ◌++◌, ◌⊎◌, length, Option, Some, slice_get}
 use Rattle.std.proofs.Common.{refl, sym, ◌∙◌, ap, subst, arith, inl, inr, get_or}
 use Rattle.std.proofs.lemmas.Option.{slice_get-get_or, slice_get-map}
-use Rattle.gos_types.specs.declared.shakes.Role.{Role}
-use Rattle.gos_types.specs.declared.shakes.Role.TheVariants.{Serve, Ask}
-use Rattle.gos_types.specs.Handshakes.{turned}
 use Rattle.gos_types.specs.Types.{Type', Com, Exp}
+use Rattle.gos_types.proofs.ListLemmas.{found_in_front}
 use Rattle.gos_model.specs.Typing.{Imported}
 use Rattle.gos_plan.specs.Kinds as kinds
 use Rattle.gos_plan.specs.Kinds.{Part, Contact, asks, serves, contacts_of, turned_contact, other_side}
 use Rattle.gos_plan.specs.Plans.{End, PartEnd, ImportEnd, ResultEnd, Plan, turned_if, contacts_of_import, IsRight}
 use Rattle.gos_plan.specs.Joining.{Place, place, Link}
 use Rattle.gos_plan.proofs.SideLemmas.{pairs_join, functions_join}
-use Rattle.gos_plan.proofs.AskingLemmas.{front, behind}
+use Rattle.gos_plan.proofs.AskingLemmas.{behind}
+use Rattle.gos_plan.proofs.ContactLemmas.{turned_contact_twice, other_side_length}
 use Rattle.gos_realises.specs.realises.Regular.{count}
 use Rattle.gos_realises.specs.realises.Links.{LinkFits, StandsIn, contact_in}
 use Rattle.gos_realises.specs.realises.Wirings.{lone, link, results_linked, reading, writing, applying}
 use Rattle.gos_realises.specs.realises.Modules.{import_linked, imports_linked, supplying, Supply, plans_of, AreSupplied}
 use Rattle.gos_realises.specs.realises.Realises.{Realises}
 use Rattle.gos_realises.specs.realises.Fitting.{AppliedFits, SidesFit, VariablesFit, SuppliedFits}
-
-role_twice : (r : Role) → turned (turned r) ≡ r
-role_twice Serve = refl
-role_twice Ask = refl
-
-contact_twice : (c : Contact) → turned_contact (turned_contact c) ≡ c
-contact_twice c = λ i. record c { role = role_twice c.role i }
 
 -- link k of results
 link_at : (n m k : ℕ) (l : Link) → slice_get (results_linked 1 n m) k ≡ Some l
@@ -40,10 +32,6 @@ link_at n (suc m) (suc k) l is =
     let small = rest.0 in
     let e : n + suc k ≡ suc n + k = omega arith in
     (omega (arith, small), (λ i. link 0 (ResultEnd (e i)) 1 (ResultEnd (e i))) ∙ rest.1)
-
-lengths : (cs : List Contact) → length (other_side cs) ≡ length cs
-lengths [] = refl
-lengths (c ∷ cs) = ap suc (lengths cs)
 
 abbrev number : End → ℕ
 number (PartEnd i h) = h
@@ -77,7 +65,7 @@ applied_fits a b p q p_right q_right p_type q_type = record { right = rights; ea
         let c : Contact = get_or (contacts_of a) k (asks 0 0) in
         let has : slice_get (contacts_of a) k ≡ Some c = slice_get-get_or (contacts_of a) k (asks 0 0) small in
         let turned_has : slice_get (other_side (contacts_of a)) k ≡ Some (turned_contact c) = slice_get-map turned_contact (contacts_of a) k ∙ ap (λ (o : Option Contact). turned_if o) has in
-        let in_p : slice_get (contacts_of p.outcome) k ≡ Some (turned_contact c) = ap (λ cs. slice_get cs k) joined ∙ front (other_side (contacts_of a)) (contacts_of b) k (turned_contact c) turned_has in
+        let in_p : slice_get (contacts_of p.outcome) k ≡ Some (turned_contact c) = ap (λ cs. slice_get cs k) joined ∙ found_in_front (other_side (contacts_of a)) (contacts_of b) k (turned_contact c) turned_has in
         let in_q : slice_get (contacts_of q.outcome) k ≡ Some c = ap (λ (t : Type'). slice_get (contacts_of t) k) q_type ∙ has in
         let e : 0 + k ≡ k = omega arith in (
           (λ same. omega (arith, same)),
@@ -86,7 +74,7 @@ applied_fits a b p q p_right q_right p_type q_type = record { right = rights; ea
             turned_contact c,
             ap (λ n. turned_if (slice_get (contacts_of p.outcome) n)) e ∙ ap turned_if in_p,
             ap (λ n. turned_if (slice_get (contacts_of q.outcome) n)) e ∙ ap turned_if in_q,
-            ap turned_contact (sym (contact_twice c)),
+            ap turned_contact (sym (turned_contact_twice c)),
           ),
         )
 
@@ -105,7 +93,7 @@ applied_fits a b p q p_right q_right p_type q_type = record { right = rights; ea
         × ((k : ℕ) (l : Link) → slice_get (results_linked 1 0 (count a)) k ≡ Some l → StandsIn (place 0 (ResultEnd (count a + h))) l → ⊥)
     left h c there = (
       ap (λ cs. slice_get cs (count a + h)) joined
-          ∙ (behind (other_side (contacts_of a)) (contacts_of b) h (count a + h) (let e = lengths (contacts_of a) in omega (arith, e)) ∙ there),
+          ∙ (behind (other_side (contacts_of a)) (contacts_of b) h (count a + h) (let e = other_side_length (contacts_of a) in omega (arith, e)) ∙ there),
       λ k l is stands.
           let (small, same) = link_at 0 (count a) k l is in
           let at_k = end_in k (place 0 (ResultEnd (count a + h))) (subst (StandsIn (place 0 (ResultEnd (count a + h)))) (sym same) stands) in
@@ -130,7 +118,7 @@ sides_fit a b p p_right p_type = (
         × ((k : ℕ) (l : Link) → slice_get [] k ≡ Some l → StandsIn (place 0 (ResultEnd (0 + h))) l → ⊥)
     first h c there = (
       (let e : 0 + h ≡ h = omega arith in ap (λ n. slice_get (contacts_of p.outcome) n) e)
-          ∙ (ap (λ cs. slice_get cs h) joined ∙ front (contacts_of a) (contacts_of b) h c there),
+          ∙ (ap (λ cs. slice_get cs h) joined ∙ found_in_front (contacts_of a) (contacts_of b) h c there),
       λ k l is stands. absurd (cc is),
     )
 
@@ -328,7 +316,7 @@ supplied_at i (x ∷ xs) k l is =
         }
 
 -- what stands for import number j
-supply_at : (is : List Imported) (ss : List Supply) (j : ℕ) (x : Imported) → AreSupplied is ss → slice_get is j ≡ Some x
+pub supply_at : (is : List Imported) (ss : List Supply) (j : ℕ) (x : Imported) → AreSupplied is ss → slice_get is j ≡ Some x
     → (s : Supply) × (slice_get (plans_of ss) j ≡ Some s.plan) × Realises x.ty s.plan s.term
 supply_at [] ss j x supplied is = absurd (cc is)
 supply_at (i ∷ is) [] j x supplied at_j = absurd supplied
@@ -336,11 +324,11 @@ supply_at (i ∷ is) (s ∷ ss) zero x supplied at_j =
     let same : i ≡ x = cc at_j in (s, refl, subst (λ (y : Imported). Realises y.ty s.plan s.term) same supplied.0)
 supply_at (i ∷ is) (s ∷ ss) (suc j) x supplied at_j = supply_at is ss j x supplied.1 at_j
 
-all_right : (is : List Imported) (ss : List Supply) (k : ℕ) (p : Plan) → AreSupplied is ss → slice_get (plans_of ss) k ≡ Some p → IsRight p
-all_right is [] k p supplied at_k = absurd (cc at_k)
-all_right [] (s ∷ ss) k p supplied at_k = absurd supplied
-all_right (i ∷ is) (s ∷ ss) zero p supplied at_k = let same : s.plan ≡ p = cc at_k in subst IsRight same supplied.0.suits.right
-all_right (i ∷ is) (s ∷ ss) (suc k) p supplied at_k = all_right is ss k p supplied.1 at_k
+pub supply_is_right : (is : List Imported) (ss : List Supply) (k : ℕ) (p : Plan) → AreSupplied is ss → slice_get (plans_of ss) k ≡ Some p → IsRight p
+supply_is_right is [] k p supplied at_k = absurd (cc at_k)
+supply_is_right [] (s ∷ ss) k p supplied at_k = absurd supplied
+supply_is_right (i ∷ is) (s ∷ ss) zero p supplied at_k = let same : s.plan ≡ p = cc at_k in subst IsRight same supplied.0.suits.right
+supply_is_right (i ∷ is) (s ∷ ss) (suc k) p supplied at_k = supply_is_right is ss k p supplied.1 at_k
 
 abbrev import_of : End → ℕ
 import_of (PartEnd i h) = i
@@ -360,7 +348,7 @@ supplied_fits p ss p_right supplied = record { right = rights; each = each; once
   where
     rights : (k : ℕ) (x : Plan) → slice_get (p ∷ plans_of ss) k ≡ Some x → IsRight x
     rights zero x is = let same : p ≡ x = cc is in subst IsRight same p_right
-    rights (suc k) x is = all_right p.imports ss k x supplied is
+    rights (suc k) x is = supply_is_right p.imports ss k x supplied is
 
     link_fits : (j n : ℕ) (x : Imported) → slice_get p.imports j ≡ Some x → n < count x.ty → LinkFits (supplying p ss) (supplied_link j n)
     link_fits j n x at_j small =

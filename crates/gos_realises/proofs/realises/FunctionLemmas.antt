@@ -2,11 +2,12 @@
 use Rattle.std.specs.Prelude.{◌≡◌, ◌≢◌, ℕ, zero, suc, ◌+◌, List, [], ◌∷◌, ◌⊎◌, Option, Some, None, Contains, slice_get}
 use Rattle.std.proofs.Common.{refl, sym, ◌∙◌, ap, subst, arith, inl, inr}
 use Rattle.gos_types.specs.declared.shakes.Role.{Role}
-use Rattle.gos_types.specs.declared.shakes.Role.TheVariants.{Serve, Ask}
+use Rattle.gos_types.specs.declared.shakes.Role.TheVariants.{Ask}
 use Rattle.gos_types.specs.Types.{Com, Fun}
+use Rattle.gos_types.proofs.ListLemmas.{none_in_empty}
+use Rattle.gos_types.proofs.RoleLemmas.{ask_is_not_serve}
 use Rattle.gos_model.specs.Terms as terms
 use Rattle.gos_model.specs.Terms.{Term, Lam, App, Bound}
-use Rattle.gos_model.specs.Typing.{Imported}
 use Rattle.gos_model.specs.Reach.{Unfolds}
 use Rattle.gos_model.specs.Labels.{given}
 use Rattle.gos_model.specs.Moves.{Program, Config, Idle, Running, Act, Computing, Showing, Moves, labels, Unfoldings, ActsTo, Stalled}
@@ -42,12 +43,9 @@ class_of (suc k) e = 0
 abbrev class : Place → ℕ
 class a = class_of a.plan a.end
 
-no_joint : (j : Joint) → Contains [] j → ⊥
-no_joint j (k, l, e) = omega (arith, l)
-
 joined_class : (k : ℕ) (a b : End) (p : Plan) (j : Joint) → slice_get wiring.plans k ≡ Some p → Contains p.joints j → class_of k a ≡ class_of k b
 joined_class zero a b p j is has =
-    let same : empty_function ≡ p = cc is in absurd (no_joint j (subst (λ (x : Plan). Contains x.joints j) (sym same) has))
+    let same : empty_function ≡ p = cc is in absurd (none_in_empty j (subst (λ (x : Plan). Contains x.joints j) (sym same) has))
 joined_class (suc k) a b p j is has = refl
 
 linked_class : (a b : Place) → Linked wiring a b → class a ≡ class b
@@ -95,15 +93,12 @@ abbrev role_or : Option Contact → Role
 role_or None = Ask
 role_or (Some c) = c.role
 
-asks_is_not_serves : Ask ≡ Serve → ⊥
-asks_is_not_serves e = cc
-
 no_connection : (a b : End) → Connects wiring lost a b → ⊥
 no_connection a b (q, v, n, asked, served, path) = no_path a b (asks q v) (serves q v) n asked served apart path
   where
     apart : a ≢ b
     apart e =
-        asks_is_not_serves (ap role_or (sym asked ∙ (ap (contact_at lost) e ∙ served)))
+        ask_is_not_serve (ap role_or (sym asked ∙ (ap (contact_at lost) e ∙ served)))
 
 result : (h : ℕ) (c : Contact) → slice_get (contacts_of Com) h ≡ Some c → slice_get (contacts_of (Fun Com Com)) (1 + h) ≡ Some c
 result zero c there = there
@@ -122,7 +117,7 @@ joined =
             right = tt;
             result = result;
             fits = λ a b c d n one other apart path. absurd (no_path a b c d n one other apart path);
-            joints = λ a b. (λ has. absurd (no_joint (record { asking = a; serving = b }) has), λ connects. absurd (no_connection a b connects));
+            joints = λ a b. (λ has. absurd (none_in_empty (record { asking = a; serving = b }) has), λ connects. absurd (no_connection a b connects));
           };
     }
 
@@ -176,12 +171,9 @@ lost_is_quiet s = (no_firing, no_output)
     no_output (ResultEnd zero) v w does = let none = does.1.0 in cc none
     no_output (ResultEnd (suc h)) v w does = does.1
 
-no_import : (j : Imported) → Contains [] j → ⊥
-no_import j (k, l, e) = omega (arith, l)
-
 pub empty_is_no_function : EmptyIsNoFunction
 empty_is_no_function r =
-    let done = (r.means skip_plan lost terms.Skip (λ i j has none. absurd (no_import j none)) skip_is_realised.suits skip_is_realised.means joined).1 in
+    let done = (r.means skip_plan lost terms.Skip (λ i j has none. absurd (none_in_empty j none)) skip_is_realised.suits skip_is_realised.means joined).1 in
     let comes : Does lost (In (ResultEnd 0) 0) at_first at_first = (tt, (omega arith, refl)) in
     let both = done at_first at_first (In (ResultEnd 0) 0 ∷ []) (first_is_idle lost) (at_first, comes, refl) ((λ shut. (refl, refl, refl)), tt) in
     let (acts, e, moves, shown, goes, last) = both.0.1 at_first comes in

@@ -5,6 +5,7 @@
 use Rattle.std.specs.Prelude.{◌≡◌, ℕ, zero, suc, ◌+◌, ◌-◌, ◌<◌, Bool, true, false, ◌&&◌, ◌||◌, IsFalse, List, [], ◌∷◌, nat_eq, nat_lt}
 use Rattle.std.proofs.Common.{refl, sym, ◌∙◌, ap, arith}
 use Rattle.std.proofs.lemmas.Bool.Decides.{nat_tests}
+use Rattle.std.proofs.lemmas.Bool.{or_right}
 use Rattle.gos_types.specs.Types.{Type', Com, Exp, Var, Pair, Fun, IsGround, IsDone}
 use Rattle.gos_model.specs.Typing.{Imported}
 use Rattle.gos_plan.specs.Plans.{ImportEnd, ResultEnd}
@@ -12,10 +13,6 @@ use Rattle.gos_realises.specs.realises.Regular.{count, some_open, beyond, KeepsT
 use Rattle.gos_realises.specs.realises.Realises.{AllGround}
 pub use Rattle.gos_realises.proofs.realises.CountLemmas.{count_fun}
 use Rattle.gos_realises.proofs.realises.CountLemmas.{some_shake}
-
-or_true : (b x : Bool) → x ≡ true → b || x ≡ true
-or_true true x h = refl
-or_true false x h = h
 
 -- one of the first n is open
 pub some_there : (n : ℕ) (f : ℕ → Bool) → some_open n f ≡ true → (k : ℕ) × (k < n) × (f k ≡ true)
@@ -36,7 +33,7 @@ there_some (suc n) f k low is = by_test (nat_eq k n) refl (λ other. there_some 
         let same : k ≡ n = grind (arith, t) in
         let here : f n ≡ true = ap f (sym same) ∙ is in rw here refl
     by_test false t further =
-        let other : k < n = grind (arith, nat_tests, t, low) in or_true (f n) (some_open n f) (further other)
+        let other : k < n = grind (arith, nat_tests, t, low) in or_right (f n) (some_open n f) (further other)
 
 -- how many handshakes imports have together: the number of the result's
 abbrev pub width : List Imported → ℕ

@@ -35,7 +35,7 @@ pub literals_joined : (p : Plan) (ps : List Plan) (r : Plan) → r.parts ≡ all
 literals_joined p ps r are one others = literals_same r.parts (p.parts ++ all_parts ps) are (literals_append p.parts (all_parts ps) one others)
 
 -- parts that each stand somewhere among others
-each_fits : (xs : List Part) → ((k : ℕ) (x : Part) → slice_get xs k ≡ Some x → LiteralFits x) → AllByRecursion LiteralFits xs
+pub each_fits : (xs : List Part) → ((k : ℕ) (x : Part) → slice_get xs k ≡ Some x → LiteralFits x) → AllByRecursion LiteralFits xs
 each_fits [] each = tt
 each_fits (x ∷ xs) each = (each 0 x refl, each_fits xs (λ k y at. each (suc k) y at))
 

@@ -1,10 +1,10 @@
 -- The plan of `import c : com; c` realises the name: the ring of its run, of c's run and answer, and of its own answer.
-use Rattle.std.specs.Prelude.{◌≡◌, ℕ, zero, suc, ◌<◌, Bool, true, false, IsTrue, List, [], ◌∷◌, ◌++◌, ◌⊎◌, Some, None, Contains}
+use Rattle.std.specs.Prelude.{◌≡◌, ℕ, zero, suc, ◌<◌, Bool, true, false, IsTrue, List, [], ◌∷◌, ◌++◌, ◌⊎◌, Some, None}
 use Rattle.std.proofs.Common.{refl, sym, subst, arith, inl, inr}
 use Rattle.gos_types.specs.Events.{Request, Answer}
+use Rattle.gos_types.proofs.ListLemmas.{none_in_empty}
 use Rattle.gos_model.specs.Terms as terms
 use Rattle.gos_model.specs.Terms.{Term, Import, Wait}
-use Rattle.gos_model.specs.Typing.{Imported}
 use Rattle.gos_model.specs.Reach.{Unfolds}
 use Rattle.gos_model.specs.Labels.{Label, given, taken, is_output}
 use Rattle.gos_model.specs.Moves.{Program, Config, Idle, Running, Act, Computing, Showing, Moves, labels, Unfoldings, ActsTo, Stalled}
@@ -122,7 +122,7 @@ idle_is_stalled : Stalled program Idle
 idle_is_stalled = (λ d move. let e = move.0 in cc e, λ o d out move. run_is_no_output o out move.0)
 
 -- while c runs the program can only wait
-no_unfolding : (u : Term) → Unfolds (Wait c 1) u → ⊥
+pub no_unfolding : (u : Term) → Unfolds (Wait c 1) u → ⊥
 no_unfolding u h = grind (arith, h)
 
 waiting : (n : ℕ) (u : Term) → Unfoldings n (Wait c 1) u → Wait c 1 ≡ u
@@ -188,9 +188,6 @@ ring =
       goes_on = goes_on;
     }
 
-none_after : (j : Imported) → Contains [] j → ⊥
-none_after j (k, l, e) = omega (arith, l)
-
 pub name_is_realised : NameIsRealised
 name_is_realised =
     record {
@@ -200,7 +197,7 @@ name_is_realised =
             literals = no_literals;
             outcome = refl;
             all_ground = (tt, tt);
-            names = (λ j there. absurd (none_after j there), tt);
+            names = (λ j there. absurd (none_in_empty j there), tt);
             typed = refl;
             regular = circle_is_regular call_plan Stage next succ At OpenAt Opened circle Resting first;
           };

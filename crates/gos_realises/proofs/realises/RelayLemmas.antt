@@ -3,6 +3,7 @@ use Rattle.std.specs.Prelude.{◌≡◌, ℕ, Bool, true, false, List, [], ◌�
 use Rattle.std.proofs.Common.{refl, sym, ◌∙◌, ap, subst, inl, inr}
 use Rattle.std.proofs.lemmas.Option.{same_Some}
 use Rattle.gos_types.specs.Events.{Direction, Request, Answer}
+use Rattle.gos_types.proofs.BoolLemmas.{true_is_not_false}
 use Rattle.gos_plan.specs.Kinds.{Contact, asks, serves}
 use Rattle.gos_plan.specs.Firing.{Slot}
 use Rattle.gos_plan.specs.Plans.{End, PartEnd, Plan, contact_at, same_end}
@@ -13,6 +14,7 @@ use Rattle.gos_plan.proofs.JointLemmas.{same_itself}
 use Rattle.gos_realises.specs.realises.Regular.{Pass, pass, way_in, way_out, is_request, is_open, ComesInTurn}
 use Rattle.gos_realises.proofs.realises.OneJointLemmas.{Lies, rests_alone, with_request, with_answer, not_both}
 use Rattle.gos_realises.proofs.realises.RingLemmas.{after, told_open, OutputTurns, IsCircle, IsFirst}
+use Rattle.gos_realises.proofs.realises.PassLemmas.{open_itself}
 
 pub data Stage : Type 0 where
   Resting Asked Away Back : Stage
@@ -67,17 +69,10 @@ pub record IsRelay (p : Plan) (a b : End) : Type 0 where
   pub answers_in_turn : (past : List Pass) → is_open past a ≡ true → is_open past b ≡ false → OutputTurns p past (Out a 0)
   pub silent : (told_open p [] a ≡ false) × (told_open p [] b ≡ false)
 
-true_is_not_false : (b : Bool) → b ≡ true → b ≡ false → ⊥
-true_is_not_false b up down = let both : true ≡ false = sym up ∙ down in cc both
-
--- whether a handshake is open after one more that passed
-same_pass : (e : End) (way : Direction) (past : List Pass) → is_open (pass e way ∷ past) e ≡ is_request way
-same_pass e way past = ap (λ (t : Bool). if t then is_request way else is_open past e) (same_itself e)
-
 other_pass : (d e : End) (way : Direction) (past : List Pass) → same_end d e ≡ false → is_open (pass d way ∷ past) e ≡ is_open past e
 other_pass d e way past apart = ap (λ (t : Bool). if t then is_request way else is_open past e) apart
 
-opened_itself : (e : End) (x : Bool) (o : Open) → with_open e x o e ≡ x
+pub opened_itself : (e : End) (x : Bool) (o : Open) → with_open e x o e ≡ x
 opened_itself e x o = ap (λ (t : Bool). if t then x else o e) (same_itself e)
 
 module _ (p : Plan) (a b : End) (is : IsRelay p a b) where
@@ -156,19 +151,19 @@ module _ (p : Plan) (a b : End) (is : IsRelay p a b) where
 
   passed : (q : Stage) (past : List Pass) → Opened a b q (is_open past) → Opened a b (succ q) (is_open (after p (next a b q) past))
   passed Resting past o = (
-    same_pass a (way_in (contact_at p a)) past ∙ ap (λ (c : Option Contact). is_request (way_in c)) is.asking,
+    open_itself a (way_in (contact_at p a)) past ∙ ap (λ (c : Option Contact). is_request (way_in c)) is.asking,
     other_pass a b (way_in (contact_at p a)) past is.a_not_b ∙ o.1,
   )
   passed Asked past o = (
     other_pass b a (way_out (contact_at p b)) past is.b_not_a ∙ o.0,
-    same_pass b (way_out (contact_at p b)) past ∙ ap (λ (c : Option Contact). is_request (way_out c)) is.serving,
+    open_itself b (way_out (contact_at p b)) past ∙ ap (λ (c : Option Contact). is_request (way_out c)) is.serving,
   )
   passed Away past o = (
     other_pass b a (way_in (contact_at p b)) past is.b_not_a ∙ o.0,
-    same_pass b (way_in (contact_at p b)) past ∙ ap (λ (c : Option Contact). is_request (way_in c)) is.serving,
+    open_itself b (way_in (contact_at p b)) past ∙ ap (λ (c : Option Contact). is_request (way_in c)) is.serving,
   )
   passed Back past o = (
-    same_pass a (way_out (contact_at p a)) past ∙ ap (λ (c : Option Contact). is_request (way_out c)) is.asking,
+    open_itself a (way_out (contact_at p a)) past ∙ ap (λ (c : Option Contact). is_request (way_out c)) is.asking,
     other_pass a b (way_out (contact_at p a)) past is.a_not_b ∙ o.1,
   )
 

@@ -14,12 +14,13 @@ use Rattle.gos_plan.specs.Kinds.{Part, Contact, asks, serves, contacts_of}
 use Rattle.gos_plan.specs.Plans.{End, PartEnd, ImportEnd, ResultEnd, Joint, Plan, contact_at, contacts_of_part, contacts_of_import, turned_if, IsRight}
 use Rattle.gos_plan.specs.Joining.{Place, place, Link, Wiring, JoinedWithin, Linked, Path, Connects, all_left, left_place, origin, IsJoining}
 use Rattle.gos_plan.specs.SmallPlans.{same_plan}
+use Rattle.gos_plan.proofs.ContactLemmas.{asks_is_not_serves}
 use Rattle.gos_realises.specs.realises.Wirings.{link, applying}
 use Rattle.gos_realises.specs.realises.Realises.{AllGround, NamesDiffer, Means}
 use Rattle.gos_realises.specs.realises.Renumbered.{IsRenumbered}
 use Rattle.gos_realises.specs.realises.Functions.{SameIsRealised}
 use Rattle.gos_realises.proofs.realises.LiteralLemmas.{no_literals, literals_same}
-use Rattle.gos_realises.proofs.realises.AloneLemmas.{Ends, Joins, joint_fits, one_more, apart, in_place}
+use Rattle.gos_realises.proofs.realises.AloneLemmas.{Ends, Joins, joint_fits, one_more, in_place}
 use Rattle.gos_realises.proofs.realises.HeadLemmas.{heads_are_realised}
 use Rattle.gos_realises.proofs.realises.LeftLemmas.{left_list, left_all, imports_left, left_at}
 use Rattle.gos_realises.proofs.realises.RenumberLemmas.{renumbering_keeps}
@@ -160,12 +161,12 @@ module _ (q : Plan) (right : IsRight q) (outcome : q.outcome ≡ Com) where
         subst (λ d. Near d b) one (subst (λ e. Near (home (origin wiring a)) e) other (near_path n (origin wiring a) (origin wiring b) path))
 
     asks_first : (a b : End) → Connects wiring r a b → Near a b → Contains q.joints (record { asking = a; serving = b })
-    asks_first a b (x, v, n, asked, served, path) (inl e) = absurd (apart x v x v (sym asked ∙ (ap (contact_at r) e ∙ served)))
+    asks_first a b (x, v, n, asked, served, path) (inl e) = absurd (asks_is_not_serves x v x v (sym asked ∙ (ap (contact_at r) e ∙ served)))
     asks_first a b (x, v, n, asked, served, path) (inr (j, has, inl (e, f))) =
         subst (λ (k : Joint). Contains q.joints k) (λ i. record { asking = sym e i; serving = sym f i }) has
     asks_first a b (x, v, n, asked, served, path) (inr (j, has, inr (e, f))) =
         let (y, z, j_asked, j_served) = joint_fits q right j has in
-        absurd (apart x v y z (sym asked ∙ (same_contact a ∙ (ap (contact_at q) e ∙ j_served))))
+        absurd (asks_is_not_serves x v y z (sym asked ∙ (same_contact a ∙ (ap (contact_at q) e ∙ j_served))))
 
     from_joint : (a b : End) → Contains q.joints (record { asking = a; serving = b }) → Connects wiring r a b
     from_joint a b has =

@@ -6,6 +6,7 @@ use Rattle.std.proofs.lemmas.Bool.Decides.{nat_tests}
 use Rattle.std.proofs.lemmas.Slice.Eq.{bytes_eq-Decides}
 use Rattle.std.proofs.lemmas.Option.{none-some, same_Some}
 use Rattle.gos_types.specs.Events.{Direction, Request, Answer}
+use Rattle.gos_types.proofs.BytesLemmas.{same_bytes_eq}
 use Rattle.gos_model.specs.Typing.{Imported, Imports}
 use Rattle.gos_model.specs.Labels.{Given, Label, is_answer}
 use Rattle.gos_model.specs.Protocol.{shake_of, same_port}
@@ -20,9 +21,6 @@ use Rattle.gos_realises.proofs.realises.RenumberLemmas.{tests_agree}
 use Rattle.gos_realises.proofs.realises.RingLemmas.{told_open}
 
 -- names
-pub test_same : (x y : List ℕ) → x ≡ y → bytes_eq x y ≡ true
-test_same x y e = grind (arith, bytes_eq-Decides, e)
-
 pub test_differ : (x y : List ℕ) → (x ≡ y → ⊥) → bytes_eq x y ≡ false
 test_differ x y differ = by_test (bytes_eq x y) refl
   where
@@ -43,7 +41,7 @@ pub one_name : (is : Imports) → NamesDiffer is → (j i : ℕ) (y x : Imported
     → bytes_eq y.name x.name ≡ nat_eq j i
 one_name [] differ j i y x at_j at_i = absurd (none-some y at_j)
 one_name (k ∷ ks) differ zero zero y x at_j at_i =
-    test_same y.name x.name (ap (λ (z : Imported). z.name) (sym (same_Some k y at_j) ∙ same_Some k x at_i))
+    same_bytes_eq y.name x.name (ap (λ (z : Imported). z.name) (sym (same_Some k y at_j) ∙ same_Some k x at_i))
 one_name (k ∷ ks) differ (suc j) zero y x at_j at_i =
     test_differ y.name x.name (λ e. differ.0 y (contains_at ks j y at_j) (ap (λ (z : Imported). z.name) (same_Some k x at_i) ∙ sym e))
     ∙ sym (behind_zero j)

@@ -3,8 +3,9 @@
 use Rattle.std.specs.Prelude.{◌≡◌, ◌≢◌, ℕ, zero, suc, ◌+◌, ◌-◌, ◌<◌, Bool, true, false, not, ◌&&◌, ◌||◌, List, [], ◌∷◌, ◌++◌, ◌⊎◌, length, map, Option, Some, None, Contains, nat_eq, nat_lt, slice_get}
 use Rattle.std.proofs.Common.{refl, sym, ◌∙◌, ap, subst, arith, inl, inr, length-append}
 use Rattle.std.proofs.lemmas.Bool.Decides.{nat_tests}
-use Rattle.std.proofs.lemmas.Option.{slice_get_past}
+use Rattle.std.proofs.lemmas.Option.{slice_get_past, none-some}
 use Rattle.gos_types.specs.Types.{Type', Com, Fun}
+use Rattle.gos_types.proofs.ListLemmas.{none_in_empty}
 use Rattle.gos_model.specs.Terms as terms
 use Rattle.gos_model.specs.Terms.{App}
 use Rattle.gos_model.specs.Typing.{Imported}
@@ -287,12 +288,6 @@ module _ (q : Plan) where
   skip_spot : (h : ℕ) → Spot (place 0 (PartEnd 0 h)) (place 1 (PartEnd 0 h))
   skip_spot h = record { to = refl; out = (0, refl); home = (0, refl) }
 
-some_is : (x y : Contact) → Some x ≡ Some y → x ≡ y
-some_is x y e = cc e
-
-none_is : (c : Contact) → None ≡ Some c → ⊥
-none_is c e = cc e
-
 module _ (q r : Plan) (outcome : q.outcome ≡ Fun Com Com) (right : IsRight q) (join : IsJoining (before q) r) where
   abbrev size : ℕ
   size = length q.parts
@@ -374,12 +369,12 @@ module _ (q r : Plan) (outcome : q.outcome ≡ Fun Com Com) (right : IsRight q) 
       above l c there =
           let none : slice_get (q.parts ++ (Skip ∷ [])) j ≡ None =
           slice_get_past (q.parts ++ (Skip ∷ [])) j (omega (arith, l, length-append q.parts (Skip ∷ []))) in
-          absurd (none_is c (sym (ap (λ (k : Option Part). slice_get (contacts_of_part k) h) none) ∙ there))
+          absurd (none-some c (sym (ap (λ (k : Option Part). slice_get (contacts_of_part k) h) none) ∙ there))
   spot (ImportEnd j h) c there = by_import (slice_get r.imports j) refl
     where
       by_import : (o : Option Imported) → slice_get r.imports j ≡ o
           → Spot q (origin (before q) (ImportEnd j h)) (origin (after q) (ImportEnd j h))
-      by_import None e = absurd (none_is c (sym (ap (λ (k : Option Imported). slice_get (contacts_of_import k) h) e) ∙ there))
+      by_import None e = absurd (none-some c (sym (ap (λ (k : Option Imported). slice_get (contacts_of_import k) h) e) ∙ there))
       by_import (Some x) e =
           let is : slice_get q.imports j ≡ Some x = ap (λ (is : List Imported). slice_get is j) (sym imports_same) ∙ e in
           spot_at q (origin (before q) (ImportEnd j h)) (origin (after q) (ImportEnd j h)) (place 1 (ImportEnd (0 + j) h)) (place 0 (ImportEnd (0 + j) h))
@@ -387,7 +382,7 @@ module _ (q r : Plan) (outcome : q.outcome ≡ Fun Com Com) (right : IsRight q) 
           (ap (λ ls. left_place (slice_get ls j) h) (left_after q) ∙ ap (λ o. left_place o h) (left_at 0 0 q.imports j x is))
           (import_spot q (0 + j) h)
   spot (ResultEnd zero) c there = result_spot q
-  spot (ResultEnd (suc h)) c there = absurd (none_is c there)
+  spot (ResultEnd (suc h)) c there = absurd (none-some c there)
 
   paths_back : (n : ℕ) (a b : End) (c d : Contact) → contact_at renewed a ≡ Some c → contact_at renewed b ≡ Some d
       → Path (after q) n (origin (after q) a) (origin (after q) b)
@@ -415,7 +410,7 @@ module _ (q r : Plan) (outcome : q.outcome ≡ Fun Com Com) (right : IsRight q) 
 
   result : (h : ℕ) (c : Contact) → slice_get (contacts_of Com) h ≡ Some c → slice_get (contacts_of q.outcome) (1 + h) ≡ Some c
   result zero c there = ap (λ (t : Type'). slice_get (contacts_of t) 1) outcome ∙ there
-  result (suc h) c there = absurd (none_is c there)
+  result (suc h) c there = absurd (none-some c there)
 
   fits : (a b : End) (c d : Contact) (n : ℕ) → contact_at renewed a ≡ Some c → contact_at renewed b ≡ Some d → a ≢ b
       → Path (after q) n (origin (after q) a) (origin (after q) b) → d ≡ turned_contact c
@@ -497,9 +492,6 @@ module _ (q r : Plan) (outcome : q.outcome ≡ Fun Com Com) (right : IsRight q) 
   pub joined_to_skip : IsJoined (after q) renewed
   joined_to_skip = record { fits = links_fit; joining = joining }
 
-no_import : (j : Imported) → Contains [] j → ⊥
-no_import j (k, l, e) = omega (arith, l)
-
 pub use_is_realised : UseIsRealised
 use_is_realised [] r supplied join names = absurd supplied
 use_is_realised (s ∷ t ∷ ss) r supplied join names = absurd supplied.1
@@ -508,7 +500,7 @@ use_is_realised (s ∷ []) r supplied join names =
     let suits = supplied.0.suits in
     let joined = join.joining in
     let both =
-    supplied.0.means skip_plan (renewed q r suits.outcome suits.right joined) terms.Skip (λ i j has none. absurd (no_import j none))
+    supplied.0.means skip_plan (renewed q r suits.outcome suits.right joined) terms.Skip (λ i j has none. absurd (none_in_empty j none))
     skip_is_realised.suits skip_is_realised.means (joined_to_skip q r suits.outcome suits.right joined) in
     let same = renumbered q r suits.outcome suits.right joined in
     let keeps = renumbering_keeps (forth (length q.parts)) (back (length q.parts)) r (renewed q r suits.outcome suits.right joined) same in

@@ -3,10 +3,10 @@
 -- What is open behind a Share lags: requests reach it late, and its own are late outside. So of the handshakes that are served those that are
 -- open behind it are open outside, and of those that are asked the other way round. Where anything is open a handshake that
 -- is served is (`positive`).
-use Rattle.std.specs.Prelude.{◌≡◌, ℕ, zero, suc, ◌+◌, ◌-◌, ◌<◌, Bool, true, false, ◌&&◌, IsTrue, IsFalse, List, ◌⊎◌, length, Some, slice_get, nat_lt, option_map}
-use Rattle.std.proofs.Common.{refl, sym, ◌∙◌, ap, subst, arith, inl, inr, length-append}
+use Rattle.std.specs.Prelude.{◌≡◌, ℕ, zero, suc, ◌+◌, ◌-◌, ◌<◌, Bool, true, false, ◌&&◌, IsTrue, IsFalse, List, ◌⊎◌, length, Some, slice_get, nat_lt}
+use Rattle.std.proofs.Common.{refl, sym, ◌∙◌, ap, subst, arith, inl, inr}
 use Rattle.std.proofs.lemmas.Bool.Decides.{nat_tests}
-use Rattle.std.proofs.lemmas.Option.{slice_get_within, slice_get-map}
+use Rattle.std.proofs.lemmas.Option.{slice_get_within}
 use Rattle.std.proofs.lemmas.List.{length-map}
 use Rattle.gos_types.specs.declared.shakes.Role.{Role}
 use Rattle.gos_types.specs.declared.shakes.Role.TheVariants.{Serve, Ask}
@@ -15,11 +15,14 @@ use Rattle.gos_types.specs.Handshakes.{turned}
 use Rattle.gos_model.specs.Typing.{Imported}
 use Rattle.gos_plan.specs.Kinds.{Contact, contacts_of, turned_contact, other_side}
 use Rattle.gos_plan.specs.Plans.{End}
-use Rattle.gos_plan.proofs.AskingLemmas.{front, behind}
+use Rattle.gos_plan.proofs.AskingLemmas.{behind}
 use Rattle.gos_plan.proofs.SideLemmas.{pairs_join, functions_join}
 use Rattle.gos_realises.specs.realises.Regular.{count, some_open, beyond, KeepsTurnsOf}
 use Rattle.gos_realises.proofs.realises.GroundTurnLemmas.{first_open, some_there, there_some, count_fun}
+use Rattle.gos_realises.proofs.realises.CountLemmas.{count_pair}
 use Rattle.gos_joining.proofs.renumbered.TurnLemmas.{of_import, of_result, ImportKeeps, EachKeeps}
+use Rattle.gos_supplies.proofs.turns.WholeLemmas.{shut_turned}
+use Rattle.gos_supplies.proofs.turns.BetweenLemmas.{pair_first, fun_first}
 
 -- what is open in f is open in g, where the handshake is served; where it is asked the other way round
 abbrev pub RoleBelow : Role → Bool → Bool → Type 0
@@ -42,17 +45,9 @@ turned_below Serve x y h = h
 turned_below Ask x y h = h
 
 -- the handshakes of both sides
-pub first_of_pair : (a b : Type') (j : ℕ) (k : Contact) → slice_get (contacts_of a) j ≡ Some k → slice_get (contacts_of (Pair a b)) j ≡ Some k
-first_of_pair a b j k at = ap (λ (cs : List Contact). slice_get cs j) (pairs_join a b).joined ∙ front (contacts_of a) (contacts_of b) j k at
-
 pub second_of_pair : (a b : Type') (j : ℕ) → slice_get (contacts_of (Pair a b)) (count a + j) ≡ slice_get (contacts_of b) j
 second_of_pair a b j =
     ap (λ (cs : List Contact). slice_get cs (count a + j)) (pairs_join a b).joined ∙ behind (contacts_of a) (contacts_of b) j (count a + j) refl
-
-pub first_of_fun : (a b : Type') (j : ℕ) (k : Contact) → slice_get (contacts_of a) j ≡ Some k → slice_get (contacts_of (Fun a b)) j ≡ Some (turned_contact k)
-first_of_fun a b j k at =
-    ap (λ (cs : List Contact). slice_get cs j) (functions_join a b).joined
-    ∙ front (other_side (contacts_of a)) (contacts_of b) j (turned_contact k) (slice_get-map turned_contact (contacts_of a) j ∙ ap (option_map turned_contact) at)
 
 pub second_of_fun : (a b : Type') (j : ℕ) → slice_get (contacts_of (Fun a b)) (count a + j) ≡ slice_get (contacts_of b) j
 second_of_fun a b j =
@@ -60,18 +55,15 @@ second_of_fun a b j =
     ap (λ (cs : List Contact). slice_get cs (count a + j)) (functions_join a b).joined
     ∙ behind (other_side (contacts_of a)) (contacts_of b) j (count a + j) (omega (arith, size))
 
-pub count_pair : (a b : Type') → count (Pair a b) ≡ count a + count b
-count_pair a b = ap (λ (cs : List Contact). length cs) (pairs_join a b).joined ∙ length-append (contacts_of a) (contacts_of b)
-
 -- so of what is below
 below_first : (a b : Type') (f g : ℕ → Bool) → Below (Pair a b) f g → Below a f g
-below_first a b f g below j k at = below j k (first_of_pair a b j k at)
+below_first a b f g below j k at = below j k (pair_first a b j k at)
 
 below_second : (a b : Type') (f g : ℕ → Bool) → Below (Pair a b) f g → Below b (beyond (count a) f) (beyond (count a) g)
 below_second a b f g below j k at = below (count a + j) k (second_of_pair a b j ∙ at)
 
 below_argument : (a b : Type') (f g : ℕ → Bool) → Below (Fun a b) f g → Below a g f
-below_argument a b f g below j k at = turned_below k.role (f j) (g j) (below j (turned_contact k) (first_of_fun a b j k at))
+below_argument a b f g below j k at = turned_below k.role (f j) (g j) (below j (turned_contact k) (fun_first a b j k at))
 
 below_outcome : (a b : Type') (f g : ℕ → Bool) → Below (Fun a b) f g → Below b (beyond (count a) f) (beyond (count a) g)
 below_outcome a b f g below j k at = below (count a + j) k (second_of_fun a b j ∙ at)
@@ -108,7 +100,7 @@ positive (Var w) f keeps h = let (j, low, up) = some_there 2 f h in of_number j 
     of_number (suc (suc j)) low up = absurd (omega (arith, low))
 positive (Pair a b) f (one, other, apart) h =
     elim (side_open (count a) (count b) (count (Pair a b)) f (count_pair a b) h) [
-      | inl up ↦ (let (j, k, at, role, is) = positive a f one up in (j, k, first_of_pair a b j k at, role, is))
+      | inl up ↦ (let (j, k, at, role, is) = positive a f one up in (j, k, pair_first a b j k at, role, is))
       | inr up ↦ (let (j, k, at, role, is) = positive b (beyond (count a) f) other up in (count a + j, k, second_of_pair a b j ∙ at, role, is))
     ]
 positive (Fun a b) f (one, other, leads) h =
@@ -246,16 +238,3 @@ ports_between n is t f g h (f_imports, f_result) (g_imports, g_result) below bet
 -- where nothing is open turns are kept
 pub none_open_of : (n : ℕ) (f : ℕ → Bool) → ((h : ℕ) → f h ≡ false) → some_open n f ≡ true → ⊥
 none_open_of n f closed up = let (j, low, is) = some_there n f up in let clash : false ≡ true = sym (closed j) ∙ is in cc clash
-
-pub none_keeps : (t : Type') (f : ℕ → Bool) → ((h : ℕ) → f h ≡ false) → KeepsTurnsOf t f
-none_keeps Com f closed = tt
-none_keeps (Exp w) f closed = tt
-none_keeps (Var w) f closed = let none : f 0 ≡ false = closed 0 in rw none refl
-none_keeps (Pair a b) f closed = (
-  none_keeps a f closed,
-  none_keeps b (beyond (count a) f) (λ h. closed (count a + h)),
-  not_both false false (some_open (count a) f) (some_open (count b) (beyond (count a) f)) (λ up. absurd (none_open_of (count a) f closed up))
-      (λ up. absurd (none_open_of (count b) (beyond (count a) f) (λ h. closed (count a + h)) up)) refl,
-)
-none_keeps (Fun a b) f closed =
-    (none_keeps a f closed, none_keeps b (beyond (count a) f) (λ h. closed (count a + h)), λ up. absurd (none_open_of (count a) f closed up))

@@ -1,18 +1,18 @@
 -- The ends of a plan with a Share behind its parts: their handshakes, and that they are apart.
-use Rattle.std.specs.Prelude.{◌≡◌, ℕ, zero, suc, ◌+◌, ◌*◌, ◌<◌, true, length, Option, Some, None, slice_get}
+use Rattle.std.specs.Prelude.{◌≡◌, ℕ, zero, suc, ◌+◌, ◌*◌, ◌<◌, true, length, Some, slice_get}
 use Rattle.std.proofs.Common.{refl, sym, ◌∙◌, ap, subst, arith}
 use Rattle.std.proofs.lemmas.Option.{slice_get_within}
 use Rattle.gos_types.specs.declared.shakes.Role.{Role}
 use Rattle.gos_types.specs.declared.shakes.Role.TheVariants.{Serve, Ask}
 use Rattle.gos_types.specs.Types.{Type'}
+use Rattle.gos_types.proofs.BoolLemmas.{same_tests}
 use Rattle.gos_plan.specs.Kinds.{Share, Contact, contacts_of, turned_contact, part_contacts}
 use Rattle.gos_plan.specs.Plans.{End, PartEnd, ImportEnd, ResultEnd, Plan, contact_at, contacts_of_part, contacts_of_import, turned_if, same_end}
 use Rattle.gos_plan.proofs.JointLemmas.{same_itself, same_is}
 use Rattle.gos_plan.proofs.AskingLemmas.{source_at, first_caller_at, second_caller_at}
+use Rattle.gos_plan.proofs.ContactLemmas.{turned_of, part_is_there}
 use Rattle.gos_realises.specs.realises.Regular.{count}
 use Rattle.gos_joining.specs.webs.Webs.{joint}
-use Rattle.gos_joining.proofs.webs.CutLemmas.{part_at}
-use Rattle.gos_joining.proofs.webs.MovedLemmas.{same_bool}
 use Rattle.gos_sharing.specs.sharing.Sharing.{source_end, caller_end}
 use Rattle.gos_sharing.specs.buffers.Buffering.{end_behind}
 use Rattle.gos_sharing.proofs.buffers.BufferedLemmas.{at_last, before_last}
@@ -37,10 +37,6 @@ pub outer_is : (i : ℕ) (t : Type') (c j : ℕ) (role : Role) → outer_joint i
 outer_is i t c j Serve = refl
 outer_is i t c j Ask = refl
 
-turned_is : (f : Option Contact) (k : Contact) → turned_if f ≡ Some k → (d : Contact) × (f ≡ Some d) × (k ≡ turned_contact d)
-turned_is None k e = absurd (cc e)
-turned_is (Some d) k e = let same : turned_contact d ≡ k = cc e in (d, refl, sym same)
-
 module _ (i : ℕ) (t : Type') (c : ℕ) (r p : Plan) (is : HasShare i t c r p) where
   abbrev behind : End → End
   behind = end_behind i
@@ -56,10 +52,10 @@ module _ (i : ℕ) (t : Type') (c : ℕ) (r p : Plan) (is : HasShare i t c r p) 
 
   -- handshakes
   pub result_is : (h : ℕ) (k : Contact) → contact_at p (ResultEnd h) ≡ Some k → (d : Contact) × (slice_get (contacts_of t) h ≡ Some d) × (k ≡ turned_contact d)
-  result_is h k there = turned_is (slice_get (contacts_of t) h) k (ap (λ u. turned_if (slice_get (contacts_of u) h)) (sym is.also_outcome) ∙ there)
+  result_is h k there = turned_of (slice_get (contacts_of t) h) k (ap (λ u. turned_if (slice_get (contacts_of u) h)) (sym is.also_outcome) ∙ there)
 
   pub owned_contact : (e : End) (k : Contact) → contact_at p e ≡ Some k → Owned t p e
-  owned_contact (PartEnd j h) k there = let (x, at) = part_at (slice_get p.parts j) h k there in slice_get_within p.parts j x at
+  owned_contact (PartEnd j h) k there = let (x, at) = part_is_there (slice_get p.parts j) h k there in slice_get_within p.parts j x at
   owned_contact (ImportEnd j h) k there = tt
   owned_contact (ResultEnd h) k there = let (d, at, turned) = result_is h k there in slice_get_within (contacts_of t) h d at
 
@@ -103,7 +99,7 @@ module _ (i : ℕ) (t : Type') (c : ℕ) (r p : Plan) (is : HasShare i t c r p) 
   behind_one (ResultEnd h) (ResultEnd g) one other same = let e : h ≡ g = cc same in ap ResultEnd e
 
   pub same_behind : (d e : End) → Owned t p d → Owned t p e → same_end (behind d) (behind e) ≡ same_end d e
-  same_behind d e one other = same_bool (same_end (behind d) (behind e)) (same_end d e) to from
+  same_behind d e one other = same_tests (same_end (behind d) (behind e)) (same_end d e) to from
     where
       to : same_end (behind d) (behind e) ≡ true → same_end d e ≡ true
       to h = subst (λ (x : End). same_end d x ≡ true) (behind_one d e one other (same_is (behind d) (behind e) h)) (same_itself d)

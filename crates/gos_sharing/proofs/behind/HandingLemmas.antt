@@ -1,11 +1,12 @@
 -- What the Share does: it hands a token of its caller on to its source, or one of its source to its caller.
-use Rattle.std.specs.Prelude.{◌≡◌, ℕ, zero, suc, ◌+◌, ◌*◌, ◌<◌, Bool, true, false, List, [], ◌∷◌, ◌++◌, length, Option, Some, None, slice_get}
+use Rattle.std.specs.Prelude.{◌≡◌, ℕ, zero, suc, ◌+◌, ◌*◌, ◌<◌, Bool, true, false, List, [], ◌∷◌, ◌++◌, Option, Some, None, slice_get}
 use Rattle.std.proofs.Common.{refl, sym, ◌∙◌, ap, subst, arith, inl, inr, if◌then◌else◌}
 use Rattle.gos_types.specs.declared.shakes.Role.{Role}
 use Rattle.gos_types.specs.declared.shakes.Role.TheVariants.{Serve, Ask}
 use Rattle.gos_types.specs.Types.{Type'}
 use Rattle.gos_types.specs.Handshakes.{turned}
 use Rattle.gos_types.specs.Events.{Direction, Request, Answer}
+use Rattle.gos_types.proofs.ListLemmas.{element_at}
 use Rattle.gos_plan.specs.Kinds.{Share, Contact, contacts_of, turned_contact, part_contacts}
 use Rattle.gos_plan.specs.Firing.{Phase, Rest, State, at, Slot, Req, Ans, put, Row, row, rows, row_for, same_slot, shared_rows, share_rows, firing}
 use Rattle.gos_plan.specs.Plans.{End, PartEnd, ImportEnd, ResultEnd, Plan}
@@ -32,7 +33,7 @@ slot_of Answer h = Ans h
 abbrev pub caller_number : Type' → ℕ → ℕ → ℕ
 caller_number t c j = count t + c * count t + j
 
-way_of_slot : (way : Direction) (h : ℕ) → way_of (slot_of way h) ≡ way
+pub way_of_slot : (way : Direction) (h : ℕ) → way_of (slot_of way h) ≡ way
 way_of_slot Request h = refl
 way_of_slot Answer h = refl
 
@@ -118,11 +119,6 @@ share_takes t x slot j k rests at_j takes =
     let zeros : j ≡ 0 + j = omega arith in
     let found = in_table slot (count t) x.number (contacts_of t) 0 j k at_j (subst (λ (m : ℕ). TakesAt (count t) x.number m k.role slot) zeros takes) in
     (found.0, ap (λ (p : Phase). row_for slot (rows (Share t) p x.number)) rests ∙ found.1)
-
-there_is : (cs : List Contact) (h : ℕ) → h < length cs → (k : Contact) × (slice_get cs h ≡ Some k)
-there_is [] h low = absurd (omega (arith, low))
-there_is (x ∷ xs) zero low = (x, refl)
-there_is (x ∷ xs) (suc h) low = there_is xs h (omega (arith, low))
 
 -- of a Share, for one of its callers
 module _ (i : ℕ) (t : Type') (c : ℕ) (r : Plan) (two : c < 2) (share : slice_get r.parts i ≡ Some (Share t)) where
@@ -233,7 +229,7 @@ module _ (i : ℕ) (t : Type') (c : ℕ) (r p : Plan) (is : IsBehind i t c r p) 
       of_end (ImportEnd l g) own same = absurd (cc same)
       of_end (ResultEnd g) own same =
           let e : h ≡ g = cc same in
-          let (k, at_g) = there_is (contacts_of t) g own in at_source k (ap (slice_get (contacts_of t)) e ∙ at_g)
+          let (k, at_g) = element_at (contacts_of t) g own in at_source k (ap (slice_get (contacts_of t)) e ∙ at_g)
 
       of_caller : (j : ℕ) (k : Contact) → slice_get (contacts_of t) j ≡ Some k → PartEnd i h ≡ caller_end i t c j → Where h
       of_caller j k at_j same = at_caller j k at_j (cc same)

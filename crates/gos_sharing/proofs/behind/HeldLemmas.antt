@@ -14,13 +14,14 @@ use Rattle.gos_plan.specs.TokenBits as bits
 use Rattle.gos_plan.specs.Orderly.{Open, AllWelcome}
 use Rattle.gos_plan.proofs.HeldLemmas as held
 use Rattle.gos_realises.specs.realises.Regular.{Pass, pass, is_request, is_open}
+use Rattle.gos_realises.proofs.realises.PassLemmas.{open_itself, open_otherwise}
 use Rattle.gos_joining.proofs.renumbered.TurnLemmas.{EachKeeps}
 use Rattle.gos_sharing.specs.behind.Behind.{IsBehind}
 use Rattle.gos_sharing.proofs.behind.BetweenLemmas.{RoleBelow}
 use Rattle.gos_sharing.proofs.behind.EndLemmas.{asker}
 use Rattle.gos_sharing.proofs.behind.SeenLemmas.{seen, Opens, Untouched}
 use Rattle.gos_sharing.proofs.behind.StepLemmas.{RegularFrom}
-use Rattle.gos_sharing.proofs.behind.LagLemmas.{Line, lead, follow, line_below, open_this, open_other, told_end, ports_moved, same_imports}
+use Rattle.gos_sharing.proofs.behind.LagLemmas.{Line, lead, follow, line_below, told_end, ports_moved, same_imports}
 
 module _ (i : ℕ) (t : Type') (c : ℕ) (r p : Plan) (is : IsBehind i t c r p) where
   abbrev pub LineAt : List Pass → List Pass → Open → Tokens → ℕ → Role → Type 0
@@ -58,8 +59,8 @@ module _ (i : ℕ) (t : Type') (c : ℕ) (r p : Plan) (is : IsBehind i t c r p) 
       by_test : (ResultEnd j ≡ ResultEnd l) ⊎ (ResultEnd j ≡ ResultEnd l → ⊥)
           → (is_open (pass (ResultEnd j) way ∷ past) (ResultEnd l) ≡ is_open past (ResultEnd l)) ⊎ (is_open (pass (ResultEnd j) way ∷ past) (ResultEnd l) ≡ is_open other (ResultEnd l))
       by_test (inl same) =
-          inr (ap (is_open (pass (ResultEnd j) way ∷ past)) (sym same) ∙ (open_this (ResultEnd j) way past ∙ (value ∙ ap (is_open other) same)))
-      by_test (inr apart) = inl (open_other (ResultEnd j) (ResultEnd l) way past apart)
+          inr (ap (is_open (pass (ResultEnd j) way ∷ past)) (sym same) ∙ (open_itself (ResultEnd j) way past ∙ (value ∙ ap (is_open other) same)))
+      by_test (inr apart) = inl (open_otherwise (ResultEnd j) (ResultEnd l) way past apart)
 
   pub not_import : (j n l : ℕ) → ResultEnd j ≡ ImportEnd n l → ⊥
   not_import j n l e = cc e
@@ -73,7 +74,7 @@ module _ (i : ℕ) (t : Type') (c : ℕ) (r p : Plan) (is : IsBehind i t c r p) 
   inside_moves past own o mine s h j way value =
       ports_moved p.imports t (is_open own) (is_open past) (is_open (pass (ResultEnd j) way ∷ own)) h.inside h.outside (held_below past own o mine s h)
       (same_imports p.imports (is_open own) (is_open past) h.imports) (moved_either j way own past value)
-      (λ n l. inr (open_other (ResultEnd j) (ImportEnd n l) way own (not_import j n l)))
+      (λ n l. inr (open_otherwise (ResultEnd j) (ImportEnd n l) way own (not_import j n l)))
 
   pub outside_moves : (past own : List Pass) (o mine : Open) (s : Tokens) → Held past own o mine s → (j : ℕ) (way : Direction) → is_request way ≡ is_open own (ResultEnd j)
       → EachKeeps 0 p.imports t (is_open (pass (ResultEnd j) way ∷ past))
@@ -84,7 +85,7 @@ module _ (i : ℕ) (t : Type') (c : ℕ) (r p : Plan) (is : IsBehind i t c r p) 
         | inl e ↦ inr e
         | inr e ↦ inl e
       ])
-      (λ n l. inl (open_other (ResultEnd j) (ImportEnd n l) way past (not_import j n l)))
+      (λ n l. inl (open_otherwise (ResultEnd j) (ImportEnd n l) way past (not_import j n l)))
 
   -- lines of the others, and of this one
   pub lines_untouched : (past own : List Pass) (o m : Open) (s w : Tokens) → Untouched i t c r p is o m s w → Lines past own o s → Lines past own m w

@@ -10,9 +10,11 @@ use Rattle.gos_plan.specs.Orderly.{Open, named_by, handshake_at, with_open, afte
 use Rattle.gos_plan.proofs.JointLemmas.{same_itself}
 use Rattle.gos_plan.proofs.HeldLemmas as held
 use Rattle.gos_realises.specs.realises.Regular.{is_request}
+use Rattle.gos_realises.proofs.realises.RelayLemmas.{opened_itself}
+use Rattle.gos_supplies.proofs.turns.StandLemmas.{opened_apart}
 use Rattle.gos_sharing.specs.behind.Behind.{IsBehind}
 use Rattle.gos_sharing.proofs.behind.EndLemmas.{asker}
-use Rattle.gos_sharing.proofs.behind.SeenLemmas.{Opens, outer_opens, other_open, this_open, other_place}
+use Rattle.gos_sharing.proofs.behind.SeenLemmas.{Opens, outer_opens, other_place}
 use Rattle.gos_sharing.proofs.behind.LagLemmas.{Line, TurnAt}
 
 module _ (r : Plan) (e a : End) (named : places_of r e ≡ Some a) where
@@ -20,20 +22,20 @@ module _ (r : Plan) (e a : End) (named : places_of r e ≡ Some a) where
   name = ap (λ (f : Option End). named_by f e) named
 
   pub put_other : (d : End) → (d ≡ a → ⊥) → (way : Direction) (o : Open) → after_put r e way o d ≡ o d
-  put_other d apart Request o = other_open (handshake_at r e) d true o (λ same. apart (same ∙ name))
+  put_other d apart Request o = opened_apart (handshake_at r e) d true o (λ same. apart (same ∙ name))
   put_other d apart Answer o = refl
 
   pub taken_other : (d : End) → (d ≡ a → ⊥) → (way : Direction) (o : Open) → after_taken r e way o d ≡ o d
   taken_other d apart Request o = refl
-  taken_other d apart Answer o = other_open (handshake_at r e) d false o (λ same. apart (same ∙ name))
+  taken_other d apart Answer o = opened_apart (handshake_at r e) d false o (λ same. apart (same ∙ name))
 
   pub put_this : (way : Direction) (o : Open) (s : Tokens) → ComesWell r e way o s → after_put r e way o a ≡ true
-  put_this Request o s well = ap (λ (n : End). with_open n true o a) name ∙ this_open a true o
+  put_this Request o s well = ap (λ (n : End). with_open n true o a) name ∙ opened_itself a true o
   put_this Answer o s well = ap o (sym name) ∙ well.0
 
   pub taken_this : (way : Direction) (o : Open) → o a ≡ true → after_taken r e way o a ≡ is_request way
   taken_this Request o up = up
-  taken_this Answer o up = ap (λ (n : End). with_open n false o a) name ∙ this_open a false o
+  taken_this Answer o up = ap (λ (n : End). with_open n false o a) name ∙ opened_itself a false o
 
   pub place_other : (d : End) → (d ≡ a → ⊥) → (way w : Direction) (held : Option ℕ) (s : Tokens) → (with_token r e way held s).in_place w d ≡ s.in_place w d
   place_other d apart way w held s = ap (λ (f : Option End). (with_held way f held s).in_place w d) named ∙ other_place a d way w held s apart

@@ -3,7 +3,7 @@
 -- A joint of the caller is open as far as the side says that asks there (`Line`). So inside and outside differ only as `Below`
 -- says, and where one handshake moves from what it is on the one side to what it is on the other turns are kept.
 use Rattle.std.specs.Prelude.{◌≡◌, ℕ, ◌+◌, Bool, true, false, List, ◌∷◌, ◌⊎◌, Option, Some, None, slice_get}
-use Rattle.std.proofs.Common.{refl, sym, ◌∙◌, ap, subst, arith, inl, inr, if◌then◌else◌}
+use Rattle.std.proofs.Common.{refl, sym, ◌∙◌, ap, subst, arith, inl, inr}
 use Rattle.std.proofs.lemmas.Option.{slice_get_within}
 use Rattle.gos_types.specs.declared.shakes.Role.{Role}
 use Rattle.gos_types.specs.declared.shakes.Role.TheVariants.{Serve, Ask}
@@ -14,7 +14,7 @@ use Rattle.gos_plan.specs.Kinds.{Contact, contacts_of}
 use Rattle.gos_plan.specs.Plans.{End, ImportEnd, ResultEnd, Plan, same_end, contacts_of_import}
 use Rattle.gos_plan.specs.Tokens.{way_taken, way_put}
 use Rattle.gos_plan.proofs.JointLemmas.{same_itself, same_is}
-use Rattle.gos_realises.specs.realises.Regular.{count, Pass, pass, is_request, is_open, whole_end, ComesInTurn, KeepsTurns}
+use Rattle.gos_realises.specs.realises.Regular.{count, Pass, is_request, is_open, whole_end, ComesInTurn, KeepsTurns}
 use Rattle.gos_realises.proofs.realises.GroundTurnLemmas.{there_some}
 use Rattle.gos_joining.proofs.renumbered.TurnLemmas.{of_import, of_result, EachKeeps, keeps_each, each_keeps}
 use Rattle.gos_sharing.proofs.behind.BetweenLemmas.{RoleBelow, Below, Between, ServedOpen, positive, ports_between}
@@ -37,17 +37,6 @@ pub record Line (leads follows opened : Bool) (places : Direction → Option ℕ
 pub line_below : (role : Role) (outside inside : Bool) → (follow role outside inside ≡ true → lead role outside inside ≡ true) → RoleBelow role inside outside
 line_below Serve outside inside h = h
 line_below Ask outside inside h = h
-
--- what passed last
-pub open_this : (e : End) (way : Direction) (past : List Pass) → is_open (pass e way ∷ past) e ≡ is_request way
-open_this e way past = ap (λ (b : Bool). if b then is_request way else is_open past e) (same_itself e)
-
-pub open_other : (e d : End) (way : Direction) (past : List Pass) → (e ≡ d → ⊥) → is_open (pass e way ∷ past) d ≡ is_open past d
-open_other e d way past apart = by_test (same_end e d) refl
-  where
-    by_test : (b : Bool) → same_end e d ≡ b → is_open (pass e way ∷ past) d ≡ is_open past d
-    by_test true h = absurd (apart (same_is e d h))
-    by_test false h = ap (λ (b : Bool). if b then is_request way else is_open past d) h
 
 -- an end is this one or another
 pub told_end : (e d : End) → (e ≡ d) ⊎ (e ≡ d → ⊥)

@@ -1,18 +1,19 @@
 -- The plan behind the Share is a region of the whole: where its ends lie there.
-use Rattle.std.specs.Prelude.{◌≡◌, ℕ, zero, suc, ◌<◌, Bool, true, false, List, [], ◌∷◌, ◌⊎◌, length, Option, Some, None, slice_get, nat_eq, nat_lt, Contains}
+use Rattle.std.specs.Prelude.{◌≡◌, ℕ, ◌<◌, Bool, true, false, List, [], ◌∷◌, ◌⊎◌, length, Option, Some, None, slice_get, nat_eq, nat_lt, Contains}
 use Rattle.std.proofs.Common.{refl, sym, ◌∙◌, ap, subst, arith, inl, inr, if◌then◌else◌}
 use Rattle.std.proofs.lemmas.Bool.Decides.{nat_tests}
 use Rattle.std.proofs.lemmas.Option.{slice_get_within}
 use Rattle.gos_types.specs.declared.shakes.Role.{Role}
 use Rattle.gos_types.specs.declared.shakes.Role.TheVariants.{Serve, Ask}
 use Rattle.gos_types.specs.Types.{Type'}
+use Rattle.gos_types.proofs.ListLemmas.{element_at}
 use Rattle.gos_plan.specs.Kinds.{Part, Contact, asks, serves, contacts_of}
 use Rattle.gos_plan.specs.Plans.{End, PartEnd, ImportEnd, ResultEnd, Joint, Plan, contact_at, stands_in, is_free}
 use Rattle.gos_plan.specs.Tokens.{places_of, IsPortEnd}
-use Rattle.gos_plan.proofs.JointLemmas.{IsIn, found, fits, has_place, stands_there, contained}
+use Rattle.gos_plan.proofs.JointLemmas.{IsIn, found, fits, has_place, stands_there, contained, which_end, stands_somewhere}
 use Rattle.gos_joining.specs.webs.Webs.{joint}
 use Rattle.gos_joining.specs.webs.Cutting.{Cut, IsCut, IsInside, IsOutside, StandsIn, lies_at}
-use Rattle.gos_joining.proofs.webs.CutLemmas.{which_end, stands_by}
+use Rattle.gos_joining.proofs.webs.CutLemmas.{stands_by}
 use Rattle.gos_joining.proofs.webs.MovedLemmas.{listed}
 use Rattle.gos_sharing.specs.sharing.Sharing.{caller_end}
 use Rattle.gos_sharing.specs.buffers.Buffering.{end_behind}
@@ -60,21 +61,6 @@ stands_not_free p e (j, has, stands) = by_test (is_free e p.joints) refl
     by_test : (b : Bool) → is_free e p.joints ≡ b → b ≡ false
     by_test false h = refl
     by_test true h = absurd (free_is p.joints (contained p.joints j has) h)
-
-not_free_stands : (e : End) (js : List Joint) → is_free e js ≡ false → (j : Joint) × IsIn j js × (stands_in e j ≡ true)
-not_free_stands e [] h = absurd (cc h)
-not_free_stands e (x ∷ xs) h = by_test (stands_in e x) refl (λ k. not_free_stands e xs k)
-  where
-    by_test : (b : Bool) → stands_in e x ≡ b → (is_free e xs ≡ false → (j : Joint) × IsIn j xs × (stands_in e j ≡ true))
-        → (j : Joint) × IsIn j (x ∷ xs) × (stands_in e j ≡ true)
-    by_test true t further = (x, inl refl, t)
-    by_test false t further =
-        let rest : is_free e xs ≡ false = grind (arith, t, h) in let (j, is_in, stands) = further rest in (j, inr is_in, stands)
-
-there_is : (xs : List Part) (k : ℕ) → k < length xs → (x : Part) × (slice_get xs k ≡ Some x)
-there_is [] k low = absurd (omega (arith, low))
-there_is (x ∷ xs) zero low = (x, refl)
-there_is (x ∷ xs) (suc k) low = there_is xs k (omega (arith, low))
 
 module _ (i : ℕ) (t : Type') (c : ℕ) (r p : Plan) (is : IsBehind i t c r p) where
   abbrev behind : End → End
@@ -190,7 +176,7 @@ module _ (i : ℕ) (t : Type') (c : ℕ) (r p : Plan) (is : IsBehind i t c r p) 
         whole_right = is.right;
         right = is.also_right;
         parts = λ k x at. (let low = slice_get_within p.parts k x at in (own_part i t c r p is.frame k low ∙ at, within k low));
-        numbers = λ k j e. (let (low, same) = number_is k j e in (same, subst (λ (n : ℕ). (x : Part) × (slice_get p.parts n ≡ Some x)) (sym same) (there_is p.parts k low)));
+        numbers = λ k j e. (let (low, same) = number_is k j e in (same, subst (λ (n : ℕ). (x : Part) × (slice_get p.parts n ≡ Some x)) (sym same) (element_at p.parts k low)));
         ports = ports;
         inners = inners;
         contacts = λ e port stands. (let (k, at) = stands_contact e stands in contact_behind i t c r p is.frame e k at ∙ sym at);
@@ -214,7 +200,7 @@ module _ (i : ℕ) (t : Type') (c : ℕ) (r p : Plan) (is : IsBehind i t c r p) 
           (share_outside, ap (λ b. if b then unless (is_free (ResultEnd h) p.joints) (ResultEnd h) else None) test ∙ ap (λ b. unless b (ResultEnd h)) (stands_not_free p (ResultEnd h) stands))
 
       stood : (e : End) → is_free e p.joints ≡ false → StandsIn p e
-      stood e h = let (j, is_in, stands) = not_free_stands e p.joints h in (j, listed p.joints j is_in, stands)
+      stood e h = let (j, is_in, stands) = stands_somewhere e p.joints h in (j, listed p.joints j is_in, stands)
 
       inners : (b e : End) → inner_of i p b ≡ Some e → IsPortEnd e × StandsIn p e × (behind e ≡ b)
       inners (PartEnd k h) e at = by_test (nat_eq k i) refl at

@@ -3,10 +3,7 @@ use Rattle.std.specs.Prelude.{◌≡◌, ℕ, ◌<◌, ◌^◌, Bool, false, Lis
 use Rattle.std.proofs.Common.{refl, sym, ◌∙◌, ap, subst, arith, inl, inr}
 use Rattle.std.proofs.lemmas.Option.{same_Some}
 use Rattle.std.proofs.lemmas.List.Elements.{All-push}
-use Rattle.gos_types.specs.declared.shakes.Role.{Role}
-use Rattle.gos_types.specs.declared.shakes.Role.TheVariants.{Serve, Ask}
 use Rattle.gos_types.specs.Types.{Type'}
-use Rattle.gos_types.specs.Handshakes.{turned}
 use Rattle.gos_types.specs.Events.{Direction}
 use Rattle.gos_plan.specs.Kinds.{Part, Share, Contact}
 use Rattle.gos_plan.specs.Firing.{State, Slot}
@@ -21,6 +18,7 @@ use Rattle.gos_plan.proofs.HeldLemmas as held
 use Rattle.gos_realises.specs.realises.Regular.{Pass, pass, way_in, way_out, is_request, is_open, KeepsTurns}
 use Rattle.gos_realises.proofs.realises.RingLemmas.{after, OutputTurns}
 use Rattle.gos_realises.proofs.realises.InputLemmas.{InputTurns, in_there, out_there}
+use Rattle.gos_realises.proofs.realises.PassLemmas.{open_itself, open_otherwise}
 use Rattle.gos_joining.proofs.renumbered.TurnLemmas.{EachKeeps}
 use Rattle.gos_joining.proofs.webs.CutLemmas.{fire_cut}
 use Rattle.gos_sharing.specs.behind.Behind.{IsBehind}
@@ -28,16 +26,8 @@ use Rattle.gos_sharing.proofs.behind.BetweenLemmas.{RoleBelow}
 use Rattle.gos_sharing.proofs.behind.LyingLemmas.{lying, is_cut, within}
 use Rattle.gos_sharing.proofs.behind.SeenLemmas.{seen, token_so, put_so, Opens, Untouched, InOrder, fire_order, out_order, in_order}
 use Rattle.gos_sharing.proofs.behind.StepLemmas.{RegularFrom, Stepped, stepped}
-use Rattle.gos_sharing.proofs.behind.LagLemmas.{TurnAt, turn_at, at_turn, open_this, open_other, told_end, ports_moved, put_below, taken_below, both_ways, ports_of_turns, turns_of_ports}
+use Rattle.gos_sharing.proofs.behind.LagLemmas.{TurnAt, turn_at, at_turn, told_end, ports_moved, put_below, taken_below, both_ways, ports_of_turns, turns_of_ports}
 use Rattle.gos_sharing.proofs.behind.HeldLemmas.{Held, held_below, lines_untouched, line_kept, not_result}
-
-pub turned_put : (role : Role) → way_put (turned role) ≡ way_taken role
-turned_put Serve = refl
-turned_put Ask = refl
-
-pub turned_taken : (role : Role) → way_taken (turned role) ≡ way_put role
-turned_taken Serve = refl
-turned_taken Ask = refl
 
 module _ (i : ℕ) (t : Type') (c : ℕ) (r p : Plan) (is : IsBehind i t c r p) (literals : All LiteralFits p.parts) where
   abbrev before : Tokens → Tokens
@@ -111,9 +101,9 @@ module _ (i : ℕ) (t : Type') (c : ℕ) (r p : Plan) (is : IsBehind i t c r p) 
           → is_open (pass (ImportEnd n l) way ∷ own) (ImportEnd m k) ≡ is_open (pass (ImportEnd n l) way ∷ past) (ImportEnd m k)
       by_end (inl e) =
           subst (λ (d : End). is_open (pass (ImportEnd n l) way ∷ own) d ≡ is_open (pass (ImportEnd n l) way ∷ past) d) e
-          (open_this (ImportEnd n l) way own ∙ sym (open_this (ImportEnd n l) way past))
+          (open_itself (ImportEnd n l) way own ∙ sym (open_itself (ImportEnd n l) way past))
       by_end (inr apart) =
-          open_other (ImportEnd n l) (ImportEnd m k) way own apart ∙ (same m k ∙ sym (open_other (ImportEnd n l) (ImportEnd m k) way past apart))
+          open_otherwise (ImportEnd n l) (ImportEnd m k) way own apart ∙ (same m k ∙ sym (open_otherwise (ImportEnd n l) (ImportEnd m k) way past apart))
 
   held_import : (past own : List Pass) (o mine : Open) (s : Tokens) → Held i t c r p is past own o mine s → (n l : ℕ) (way : Direction) (m mine_too : Open) (w : Tokens)
       → RegularFrom p (pass (ImportEnd n l) way ∷ own) mine_too (before w) → AllWelcome p (before w) → Opens i t c r p is m mine_too → Untouched i t c r p is o m s w
@@ -131,11 +121,11 @@ module _ (i : ℕ) (t : Type') (c : ℕ) (r p : Plan) (is : IsBehind i t c r p) 
         imports = same_passed n l way past own h.imports;
         lines = λ j k at_j.
             line_kept i t c r p is past own (pass (ImportEnd n l) way ∷ past) (pass (ImportEnd n l) way ∷ own) m m w w j k.role
-            (open_other (ImportEnd n l) (ResultEnd j) way past (not_result i t c r p is n l j)) (open_other (ImportEnd n l) (ResultEnd j) way own (not_result i t c r p is n l j)) refl
+            (open_otherwise (ImportEnd n l) (ResultEnd j) way past (not_result i t c r p is n l j)) (open_otherwise (ImportEnd n l) (ResultEnd j) way own (not_result i t c r p is n l j)) refl
             (λ d. refl) (lines_untouched i t c r p is past own o m s w untouched h.lines j k at_j);
         branch = λ j k at_j role up.
             ap (λ (q : State). q.number) same
-            ∙ h.branch j k at_j role (sym (open_other (ImportEnd n l) (ResultEnd j) way own (not_result i t c r p is n l j)) ∙ up);
+            ∙ h.branch j k at_j role (sym (open_otherwise (ImportEnd n l) (ResultEnd j) way own (not_result i t c r p is n l j)) ∙ up);
         rests = ap (λ (q : State). q.phase) same ∙ h.rests;
       }
 
@@ -151,12 +141,12 @@ module _ (i : ℕ) (t : Type') (c : ℕ) (r p : Plan) (is : IsBehind i t c r p) 
           → RoleBelow d.role (is_open past (ImportEnd m h)) (is_open (pass (ImportEnd n l) way ∷ own) (ImportEnd m h))
       by_end (inl e) =
           let one : k ≡ d = same_Some k d (sym at_p ∙ (ap (contact_at p) e ∙ at_d)) in
-          let value : is_open (pass (ImportEnd n l) way ∷ own) (ImportEnd m h) ≡ is_request way = ap (is_open (pass (ImportEnd n l) way ∷ own)) (sym e) ∙ open_this (ImportEnd n l) way own in
+          let value : is_open (pass (ImportEnd n l) way ∷ own) (ImportEnd m h) ≡ is_request way = ap (is_open (pass (ImportEnd n l) way ∷ own)) (sym e) ∙ open_itself (ImportEnd n l) way own in
           subst (λ (y : Bool). RoleBelow d.role (is_open past (ImportEnd m h)) y) (sym value)
           (subst (λ (x : Contact). RoleBelow x.role (is_open past (ImportEnd m h)) (is_request way)) one (below (is_open past (ImportEnd m h))))
       by_end (inr apart) =
           both_ways d.role (is_open past (ImportEnd m h)) (is_open (pass (ImportEnd n l) way ∷ own) (ImportEnd m h))
-          (sym (open_other (ImportEnd n l) (ImportEnd m h) way own apart ∙ same m h))
+          (sym (open_otherwise (ImportEnd n l) (ImportEnd m h) way own apart ∙ same m h))
 
   moved_lies_up : (n l : ℕ) (k : Contact) (way : Direction) (own past : List Pass) → contact_at p (ImportEnd n l) ≡ Some k
       → ((m h : ℕ) → is_open own (ImportEnd m h) ≡ is_open past (ImportEnd m h))
@@ -169,12 +159,12 @@ module _ (i : ℕ) (t : Type') (c : ℕ) (r p : Plan) (is : IsBehind i t c r p) 
           → RoleBelow d.role (is_open (pass (ImportEnd n l) way ∷ past) (ImportEnd m h)) (is_open own (ImportEnd m h))
       by_end (inl e) =
           let one : k ≡ d = same_Some k d (sym at_p ∙ (ap (contact_at p) e ∙ at_d)) in
-          let value : is_open (pass (ImportEnd n l) way ∷ past) (ImportEnd m h) ≡ is_request way = ap (is_open (pass (ImportEnd n l) way ∷ past)) (sym e) ∙ open_this (ImportEnd n l) way past in
+          let value : is_open (pass (ImportEnd n l) way ∷ past) (ImportEnd m h) ≡ is_request way = ap (is_open (pass (ImportEnd n l) way ∷ past)) (sym e) ∙ open_itself (ImportEnd n l) way past in
           subst (λ (y : Bool). RoleBelow d.role y (is_open own (ImportEnd m h))) (sym value)
           (subst (λ (x : Contact). RoleBelow x.role (is_request way) (is_open own (ImportEnd m h))) one (below (is_open own (ImportEnd m h))))
       by_end (inr apart) =
           both_ways d.role (is_open (pass (ImportEnd n l) way ∷ past) (ImportEnd m h)) (is_open own (ImportEnd m h))
-          (open_other (ImportEnd n l) (ImportEnd m h) way past apart ∙ sym (same m h))
+          (open_otherwise (ImportEnd n l) (ImportEnd m h) way past apart ∙ sym (same m h))
 
   pub import_out : (past own : List Pass) (o mine : Open) (s w : Tokens) → Held i t c r p is past own o mine s → (n l v : ℕ) → Does r (Out (ImportEnd n l) v) s w
       → Next past o s (Out (ImportEnd n l) v) w
@@ -224,10 +214,10 @@ module _ (i : ℕ) (t : Type') (c : ℕ) (r p : Plan) (is : IsBehind i t c r p) 
           outside : EachKeeps 0 p.imports t (is_open (pass (ImportEnd n l) way ∷ past))
           outside =
               ports_moved p.imports t (is_open (pass (ImportEnd n l) way ∷ own)) (is_open past) (is_open (pass (ImportEnd n l) way ∷ past)) inside h.outside
-              (λ j d at_j. subst (λ (b : Bool). RoleBelow d.role b (is_open past (ResultEnd j))) (sym (open_other (ImportEnd n l) (ResultEnd j) way own (not_result i t c r p is n l j)))
+              (λ j d at_j. subst (λ (b : Bool). RoleBelow d.role b (is_open past (ResultEnd j))) (sym (open_otherwise (ImportEnd n l) (ResultEnd j) way own (not_result i t c r p is n l j)))
               (held_below i t c r p is past own o mine s h j d at_j))
               (moved_lies n l k way own past at_p h.imports (λ x. taken_below k.role x))
-              (λ j. inr (open_other (ImportEnd n l) (ResultEnd j) way past (not_result i t c r p is n l j)))
+              (λ j. inr (open_otherwise (ImportEnd n l) (ResultEnd j) way past (not_result i t c r p is n l j)))
               (λ m g. inr (sym (same_passed n l way past own h.imports m g)))
 
           turn_r : KeepsTurns r past (pass (ImportEnd n l) way)
@@ -284,10 +274,10 @@ module _ (i : ℕ) (t : Type') (c : ℕ) (r p : Plan) (is : IsBehind i t c r p) 
           inside : EachKeeps 0 p.imports t (is_open (pass (ImportEnd n l) way ∷ own))
           inside =
               ports_moved p.imports t (is_open own) (is_open (pass (ImportEnd n l) way ∷ past)) (is_open (pass (ImportEnd n l) way ∷ own)) h.inside outside
-              (λ j d at_j. subst (λ (b : Bool). RoleBelow d.role (is_open own (ResultEnd j)) b) (sym (open_other (ImportEnd n l) (ResultEnd j) way past (not_result i t c r p is n l j)))
+              (λ j d at_j. subst (λ (b : Bool). RoleBelow d.role (is_open own (ResultEnd j)) b) (sym (open_otherwise (ImportEnd n l) (ResultEnd j) way past (not_result i t c r p is n l j)))
               (held_below i t c r p is past own o mine s h j d at_j))
               (moved_lies_up n l k way own past at_p h.imports (λ x. put_below k.role x))
-              (λ j. inl (open_other (ImportEnd n l) (ResultEnd j) way own (not_result i t c r p is n l j)))
+              (λ j. inl (open_otherwise (ImportEnd n l) (ResultEnd j) way own (not_result i t c r p is n l j)))
               (λ m g. inl (same_passed n l way past own h.imports m g))
 
           turn_p : KeepsTurns p own (pass (ImportEnd n l) way)

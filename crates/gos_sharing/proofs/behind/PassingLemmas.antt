@@ -1,19 +1,20 @@
 -- The plan behind a Share lies behind it: its joints are right, and are those of the plan and of the caller.
-use Rattle.std.specs.Prelude.{◌≡◌, ℕ, zero, suc, ◌+◌, ◌*◌, ◌<◌, ◌≤◌, Bool, true, false, not, ◌&&◌, ◌||◌, List, [], ◌∷◌, ◌++◌, ◌⊎◌, length, map, Some, slice_get, Contains}
+use Rattle.std.specs.Prelude.{◌≡◌, ℕ, zero, suc, ◌+◌, ◌*◌, ◌<◌, ◌≤◌, false, not, ◌&&◌, ◌||◌, List, [], ◌∷◌, ◌++◌, ◌⊎◌, length, map, Some, slice_get, Contains}
 use Rattle.std.proofs.Common.{refl, sym, ◌∙◌, ap, subst, arith, inl, inr}
+use Rattle.std.proofs.lemmas.Bool.{false_from_ne_true}
 use Rattle.gos_types.specs.declared.shakes.Role.{Role}
 use Rattle.gos_types.specs.declared.shakes.Role.TheVariants.{Serve, Ask}
 use Rattle.gos_types.specs.Types.{Type'}
 use Rattle.gos_types.specs.Handshakes.{turned}
 use Rattle.gos_plan.specs.Kinds.{Contact, asks, serves, contacts_of}
 use Rattle.gos_plan.specs.Plans.{End, Joint, Plan, stands_in, is_free, Fits, AreRight, IsRight}
-use Rattle.gos_plan.proofs.JointLemmas.{IsIn, fits, contained}
+use Rattle.gos_plan.proofs.JointLemmas.{IsIn, fits, contained, which_end}
+use Rattle.gos_plan.proofs.ContactLemmas.{as_serves, turned_asks}
 use Rattle.gos_realises.specs.realises.Regular.{count}
 use Rattle.gos_joining.specs.webs.Webs.{joint}
-use Rattle.gos_joining.proofs.webs.CutLemmas.{which_end}
 use Rattle.gos_joining.proofs.webs.MovedLemmas.{listed}
 use Rattle.gos_sharing.specs.buffers.Buffering.{end_behind, joint_behind}
-use Rattle.gos_sharing.proofs.buffers.BufferedLemmas.{in_map, map_in, in_first, in_second, in_either, free_of, asks_of, serves_of}
+use Rattle.gos_sharing.proofs.buffers.BufferedLemmas.{in_map, map_in, in_first, in_second, in_either, free_of}
 use Rattle.gos_sharing.specs.behind.Behind.{outer_joint, outer_joints, passing, HasShare, IsBehind, LiesBehind}
 use Rattle.gos_sharing.proofs.behind.EndLemmas.{Owned, asker, server, outer_is, owned_contact, contact_behind, caller_contact, result_contact, same_behind, not_asker, not_server}
 
@@ -45,10 +46,6 @@ together q before (x ∷ xs) ys one other = (one.0, together q (x ∷ before) xs
     moved j (inl (inl e)) = inr (inl e)
     moved j (inl (inr h)) = inl h
     moved j (inr h) = inr (inr h)
-
-false_not : (b : Bool) → (b ≡ true → ⊥) → b ≡ false
-false_not true h = absurd (h refl)
-false_not false h = refl
 
 module _ (c : ℕ) (p : Plan) (two : c < 2) (right : IsRight p) where
   abbrev i : ℕ
@@ -114,8 +111,8 @@ module _ (c : ℕ) (p : Plan) (two : c < 2) (right : IsRight p) where
       by_role Serve same = (
         k.ask_bits,
         k.answer_bits,
-        result_contact i t c whole p frame j k at ∙ ap Some (asks_of k same),
-        caller_contact i t c whole p frame j k at ∙ ap Some (serves_of k same),
+        result_contact i t c whole p frame j k at ∙ ap Some (turned_asks k same),
+        caller_contact i t c whole p frame j k at ∙ ap Some (as_serves k same),
       )
       by_role Ask same = (
         k.ask_bits,
@@ -129,7 +126,7 @@ module _ (c : ℕ) (p : Plan) (two : c < 2) (right : IsRight p) where
   NoneFrom n js = (x : Joint) → IsIn x js → (h : ℕ) (role : Role) → n ≤ h → (stands_in (asker i t c h role) x ≡ false) × (stands_in (server i t c h role) x ≡ false)
 
   none_of : (e : End) (x : Joint) → ((e ≡ x.asking) ⊎ (e ≡ x.serving) → ⊥) → stands_in e x ≡ false
-  none_of e x apart = false_not (stands_in e x) (λ h. apart (which_end e x h))
+  none_of e x apart = false_from_ne_true (stands_in e x) (λ h. apart (which_end e x h))
 
   apart_outer : (n h : ℕ) (role other : Role) → n ≤ h → (asker i t c (suc h) role ≡ asker i t c n other → ⊥) × (asker i t c (suc h) role ≡ server i t c n other → ⊥)
   apart_outer n h Serve Serve le = (λ e. let same : suc h ≡ n = cc e in omega (arith, le, same), λ e. cc e)

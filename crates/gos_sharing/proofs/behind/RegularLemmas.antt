@@ -12,17 +12,19 @@ use Rattle.gos_plan.specs.Tokens.{Tokens, Element, Fire, Out, In, token_at, end_
 use Rattle.gos_plan.specs.TokenBits.{LiteralFits}
 use Rattle.gos_plan.specs.Orderly.{Open, none_open, AllWelcome}
 use Rattle.gos_plan.proofs.TokenBitsLemmas.{idle_fits}
+use Rattle.gos_plan.proofs.ContactLemmas.{turned_taken, part_is_there}
+use Rattle.gos_plan.proofs.ElementLemmas.{firing_part}
 use Rattle.gos_realises.specs.realises.Regular.{count, Pass, is_open, InputsKeepTurns, OutputsKeepTurns, IsRegular}
 use Rattle.gos_realises.proofs.realises.InputLemmas.{passed, InputTurns, first_turn, later_turns}
 use Rattle.gos_realises.proofs.realises.RingLemmas.{after}
 use Rattle.gos_joining.proofs.renumbered.TurnLemmas.{EachKeeps}
-use Rattle.gos_joining.proofs.webs.CutLemmas.{part_at, part_there}
 use Rattle.gos_joining.proofs.webs.IdleLemmas.{idle_is_cut}
 use Rattle.gos_sharing.specs.sharing.Sharing.{caller_end}
 use Rattle.gos_sharing.proofs.buffers.BranchLemmas.{none_fits}
 use Rattle.gos_realises.proofs.realises.IdleLemmas.{idle_welcome}
+use Rattle.gos_supplies.proofs.turns.WholeLemmas.{shut_turned}
 use Rattle.gos_sharing.specs.behind.Behind.{IsBehind, BehindIsRegular}
-use Rattle.gos_sharing.proofs.behind.BetweenLemmas.{none_keeps, none_open_of}
+use Rattle.gos_sharing.proofs.behind.BetweenLemmas.{none_open_of}
 use Rattle.gos_sharing.proofs.behind.EndLemmas.{asker, share, own_part, source_contact, caller_contact}
 use Rattle.gos_sharing.proofs.behind.LyingLemmas.{lying}
 use Rattle.gos_sharing.proofs.behind.SeenLemmas.{seen, token_so, part_state}
@@ -30,7 +32,7 @@ use Rattle.gos_sharing.proofs.behind.StepLemmas.{Ordered, out_joined, from_idle}
 use Rattle.gos_sharing.proofs.behind.LagLemmas.{both_lead}
 use Rattle.gos_sharing.proofs.behind.HandingLemmas.{slot_of, caller_number, Where, at_source, at_caller, lies_where, TakesAt, takes_inward, takes_outward, share_takes}
 use Rattle.gos_sharing.proofs.behind.HeldLemmas.{Held}
-use Rattle.gos_sharing.proofs.behind.OuterLemmas.{turned_taken, Next, part_fires, import_out, import_in}
+use Rattle.gos_sharing.proofs.behind.OuterLemmas.{Next, part_fires, import_out, import_in}
 use Rattle.gos_sharing.proofs.behind.ResultLemmas.{result_in, result_out}
 use Rattle.gos_sharing.proofs.behind.ShareLemmas.{share_fires, caller_branch}
 
@@ -60,7 +62,7 @@ module _ (i : ℕ) (t : Type') (c : ℕ) (r p : Plan) (is : IsBehind i t c r p) 
   welcome past own o mine s h n slot d v at_end way lies = of_part (told_part n part_low)
     where
       part_low : n < length r.parts
-      part_low = let (k, there) = part_at (slice_get r.parts n) (shake_of slot) d at_end in slice_get_within r.parts n k there
+      part_low = let (k, there) = part_is_there (slice_get r.parts n) (shake_of slot) d at_end in slice_get_within r.parts n k there
 
       Taken : ℕ → Type 0
       Taken m = (row : Row) × (firing_of (slice_get r.parts m) (s.state m) slot ≡ Some row)
@@ -104,7 +106,7 @@ module _ (i : ℕ) (t : Type') (c : ℕ) (r p : Plan) (is : IsBehind i t c r p) 
   step past own o mine s w h (Fire n slot) does turn = of_part (told_part n part_low)
     where
       part_low : n < length r.parts
-      part_low = let (k, there) = part_there (slice_get r.parts n) (s.state n) slot does.1 does.3 in slice_get_within r.parts n k there
+      part_low = let (k, there) = firing_part (slice_get r.parts n) (s.state n) slot does.1 does.3 in slice_get_within r.parts n k there
 
       of_part : (n < length p.parts) ⊎ (n ≡ i) → Next i t c r p is literals past o s (Fire n slot) w
       of_part (inl low) = part_fires i t c r p is literals past own o mine s w h n low slot does
@@ -146,8 +148,8 @@ module _ (i : ℕ) (t : Type') (c : ℕ) (r p : Plan) (is : IsBehind i t c r p) 
 
   closed : EachKeeps 0 p.imports t (is_open [])
   closed = (
-    λ n x at. (none_keeps x.ty (λ h. false) (λ h. refl), λ up. absurd (none_open_of (count x.ty) (λ h. false) (λ h. refl) up)),
-    none_keeps t (λ h. false) (λ h. refl),
+    λ n x at. (shut_turned x.ty (λ h. false) (λ h. refl), λ up. absurd (none_open_of (count x.ty) (λ h. false) (λ h. refl) up)),
+    shut_turned t (λ h. false) (λ h. refl),
   )
 
   -- where all begins

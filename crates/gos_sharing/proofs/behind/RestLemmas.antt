@@ -1,24 +1,27 @@
 -- What is behind a Share rests where the plan does.
 --
 -- Where nothing is open outside nothing is inside: what the inside has open at its result is served, and so open outside first.
-use Rattle.std.specs.Prelude.{◌≡◌, ℕ, ◌<◌, Bool, true, false, List, [], ◌⊎◌, length, Option, Some, None, slice_get, All, Contains, if◌then◌else◌}
+use Rattle.std.specs.Prelude.{◌≡◌, ℕ, ◌<◌, Bool, true, List, [], ◌⊎◌, length, Option, Some, None, slice_get, All, Contains, if◌then◌else◌}
 use Rattle.std.proofs.Common.{refl, sym, ◌∙◌, ap, subst, inl, inr}
 use Rattle.std.proofs.lemmas.Option.{slice_get_within}
+use Rattle.std.proofs.lemmas.Bool.{false_from_ne_true}
 use Rattle.gos_types.specs.declared.shakes.Role.{Role}
 use Rattle.gos_types.specs.declared.shakes.Role.TheVariants.{Serve, Ask}
 use Rattle.gos_types.specs.Types.{Type'}
 use Rattle.gos_types.specs.Events.{Direction}
+use Rattle.gos_types.proofs.BoolLemmas.{true_is_not_false}
 use Rattle.gos_plan.specs.Kinds.{Part, Contact, contacts_of}
 use Rattle.gos_plan.specs.Firing.{Rest, State}
-use Rattle.gos_plan.specs.Plans.{End, PartEnd, ImportEnd, ResultEnd, Joint, Plan, contact_at, turned_if}
+use Rattle.gos_plan.specs.Plans.{End, PartEnd, ImportEnd, ResultEnd, Joint, Plan, contact_at}
 use Rattle.gos_plan.specs.Tokens.{Tokens, IsPortEnd, IsIdle}
 use Rattle.gos_plan.specs.TokenBits.{LiteralFits}
 use Rattle.gos_plan.specs.Orderly.{Open, none_open}
 use Rattle.gos_plan.proofs.JointLemmas.{IsIn, listed, contained}
+use Rattle.gos_plan.proofs.ContactLemmas.{turned_some}
 use Rattle.gos_realises.specs.realises.Regular.{Pass, is_open}
 use Rattle.gos_realises.proofs.realises.InputLemmas.{passed}
 use Rattle.gos_supplies.specs.turns.Rests.{AllShut, Rests}
-use Rattle.gos_supplies.proofs.turns.RestLemmas.{passes_are, Neat, neat_first, stays_neat, told_asker, IsPortThere, open_ports, not_open}
+use Rattle.gos_supplies.proofs.turns.RestLemmas.{passes_are, Neat, neat_first, stays_neat, told_asker, IsPortThere, open_ports}
 use Rattle.gos_joining.specs.webs.Webs.{joint}
 use Rattle.gos_joining.specs.webs.Cutting.{lies_at}
 use Rattle.gos_joining.proofs.webs.CutLemmas.{asks_there}
@@ -33,16 +36,6 @@ use Rattle.gos_sharing.proofs.behind.LagLemmas.{lead, served_there}
 use Rattle.gos_sharing.proofs.behind.HeldLemmas.{LineAt, Held}
 use Rattle.gos_sharing.proofs.behind.RegularLemmas.{told_part, held_on, held_first}
 
-up_down : (b : Bool) → b ≡ true → b ≡ false → ⊥
-up_down b up down = let clash : true ≡ false = sym up ∙ down in cc clash
-
-contact_is : (o : Option Contact) (d : Contact) → turned_if o ≡ Some d → (k : Contact) × (o ≡ Some k)
-contact_is None d e = absurd (cc e)
-contact_is (Some k) d e = (k, refl)
-
-no_value : (v : ℕ) (h : Option ℕ) → h ≡ Some v → h ≡ None → ⊥
-no_value v h some none = let clash : Some v ≡ None = sym some ∙ none in cc clash
-
 module _ (i : ℕ) (t : Type') (c : ℕ) (r p : Plan) (is : IsBehind i t c r p) (literals : All LiteralFits p.parts) where
   module _ (past own : List Pass) (o mine : Open) (s : Tokens) (h : Held i t c r p is past own o mine s) (shut : AllShut past) where
     came : Came p own (seen i t c r p is s)
@@ -52,18 +45,18 @@ module _ (i : ℕ) (t : Type') (c : ℕ) (r p : Plan) (is : IsBehind i t c r p) 
     not_served : ServedOpen t (λ j. is_open own (ResultEnd j)) → ⊥
     not_served (j, k, at_j, serves, up) =
         let line : LineAt i t c r p is past own o s j Serve = subst (LineAt i t c r p is past own o s j) serves (h.lines j k at_j) in
-        up_down (is_open past (ResultEnd j)) (line.after up) (shut (ResultEnd j))
+        true_is_not_false (is_open past (ResultEnd j)) (line.after up) (shut (ResultEnd j))
 
     not_at : (e : End) → IsPortEnd e → (d : Contact) → contact_at p e ≡ Some d → is_open own e ≡ true → ⊥
     not_at (PartEnd n l) port d there up = port
-    not_at (ImportEnd n l) port d there up = up_down (is_open past (ImportEnd n l)) (sym (h.imports n l) ∙ up) (shut (ImportEnd n l))
+    not_at (ImportEnd n l) port d there up = true_is_not_false (is_open past (ImportEnd n l)) (sym (h.imports n l) ∙ up) (shut (ImportEnd n l))
     not_at (ResultEnd j) port d there up =
-        let (k, at_k) = contact_is (slice_get (contacts_of p.outcome) j) d there in
+        let (k, at_k) = turned_some (slice_get (contacts_of p.outcome) j) d there in
         let at_j : slice_get (contacts_of t) j ≡ Some k = ap (λ (u : Type'). slice_get (contacts_of u) j) (sym is.frame.also_outcome) ∙ at_k in
         not_served (served_there p.imports t (is_open own) h.inside j k at_j up)
 
     own_shut : AllShut own
-    own_shut e = not_open (is_open own e) never
+    own_shut e = false_from_ne_true (is_open own e) never
       where
         of_port : (is_open [] e ≡ true) ⊎ IsPortThere p e → is_open own e ≡ true → ⊥
         of_port (inl first) up = cc first
@@ -89,8 +82,8 @@ module _ (i : ℕ) (t : Type') (c : ℕ) (r p : Plan) (is : IsBehind i t c r p) 
       outer_empty way j k at_j = by_held (s.in_place way (asker i t c j k.role)) refl
         where
           not_led : (role : Role) → lead role (is_open past (ResultEnd j)) (is_open own (ResultEnd j)) ≡ true → ⊥
-          not_led Serve up = up_down (is_open past (ResultEnd j)) up (shut (ResultEnd j))
-          not_led Ask up = up_down (is_open own (ResultEnd j)) up (own_shut (ResultEnd j))
+          not_led Serve up = true_is_not_false (is_open past (ResultEnd j)) up (shut (ResultEnd j))
+          not_led Ask up = true_is_not_false (is_open own (ResultEnd j)) up (own_shut (ResultEnd j))
 
           by_held : (x : Option ℕ) → s.in_place way (asker i t c j k.role) ≡ x → x ≡ None
           by_held None none = refl

@@ -14,17 +14,19 @@ use Rattle.gos_plan.specs.TokenBits as bits
 use Rattle.gos_plan.specs.Orderly.{Open, after_taken, after_put, ComesWell, ComesInOrder}
 use Rattle.gos_plan.proofs.TurnLemmas.{token_state}
 use Rattle.gos_plan.proofs.HeldLemmas as held
+use Rattle.gos_plan.proofs.ContactLemmas.{turned_put, turned_taken}
 use Rattle.gos_realises.specs.realises.Regular.{Pass, pass, way_in, way_out, is_request, is_open, KeepsTurns}
 use Rattle.gos_realises.proofs.realises.InputLemmas.{InputTurns, in_there, out_there}
+use Rattle.gos_realises.proofs.realises.PassLemmas.{open_itself, open_otherwise}
 use Rattle.gos_joining.proofs.renumbered.TurnLemmas.{EachKeeps}
 use Rattle.gos_sharing.specs.behind.Behind.{IsBehind}
 use Rattle.gos_sharing.proofs.behind.EndLemmas.{asker, result_contact, result_is}
 use Rattle.gos_sharing.proofs.behind.LyingLemmas.{result_place}
 use Rattle.gos_sharing.proofs.behind.SeenLemmas.{seen, outer_put, asker_one}
-use Rattle.gos_sharing.proofs.behind.LagLemmas.{lead, follow, TurnAt, turn_at, at_turn, line_put, line_taken, both_lead, put_outside, outside_finds, taken_outside, open_this, open_other, ports_of_turns, turns_of_ports}
+use Rattle.gos_sharing.proofs.behind.LagLemmas.{lead, follow, TurnAt, turn_at, at_turn, line_put, line_taken, both_lead, put_outside, outside_finds, taken_outside, ports_of_turns, turns_of_ports}
 use Rattle.gos_sharing.proofs.behind.HeldLemmas.{LineAt, Held, outside_moves, lines_moved, result_apart, not_import}
 use Rattle.gos_sharing.proofs.behind.JointLemmas.{put_other, taken_other, put_this, taken_this, place_other, lies_in, emptied, joint_well, put_outer, taken_outer}
-use Rattle.gos_sharing.proofs.behind.OuterLemmas.{turned_put, turned_taken, Next, small_on}
+use Rattle.gos_sharing.proofs.behind.OuterLemmas.{Next, small_on}
 
 module _ (i : ℕ) (t : Type') (c : ℕ) (r p : Plan) (is : IsBehind i t c r p) (literals : All LiteralFits p.parts) where
   abbrev before : Tokens → Tokens
@@ -52,10 +54,10 @@ module _ (i : ℕ) (t : Type') (c : ℕ) (r p : Plan) (is : IsBehind i t c r p) 
         small = small;
         outside = outside;
         inside = h.inside;
-        imports = λ n l. h.imports n l ∙ sym (open_other (ResultEnd j) (ImportEnd n l) way past (not_import i t c r p is j n l));
+        imports = λ n l. h.imports n l ∙ sym (open_otherwise (ResultEnd j) (ImportEnd n l) way past (not_import i t c r p is j n l));
         lines =
             lines_moved i t c r p is past own (pass (ResultEnd j) way ∷ past) own o m s (with_token r (ResultEnd j) way held s) j k at_j
-            (λ l apart. (open_other (ResultEnd j) (ResultEnd l) way past (result_apart i t c r p is j l apart), refl))
+            (λ l apart. (open_otherwise (ResultEnd j) (ResultEnd l) way past (result_apart i t c r p is j l apart), refl))
             (λ l role apart. (
               others (asker i t c l role) (λ e. apart (asker_one i t c l j role k.role e)),
               λ w. place_other r (ResultEnd j) (asker i t c j k.role) named (asker i t c l role) (λ e. apart (asker_one i t c l j role k.role e)) way w held s,
@@ -148,7 +150,7 @@ module _ (i : ℕ) (t : Type') (c : ℕ) (r p : Plan) (is : IsBehind i t c r p) 
 
           -- what is open outside now
           now : is_open (pass (ResultEnd j) way ∷ past) (ResultEnd j) ≡ is_request way
-          now = open_this (ResultEnd j) way past
+          now = open_itself (ResultEnd j) way past
 
           sides : (lead k.role (is_request way) (is_open own (ResultEnd j)) ≡ true) × (follow k.role (is_request way) (is_open own (ResultEnd j)) ≡ false)
           sides = put_outside k.role (is_open past (ResultEnd j)) (is_open own (ResultEnd j)) old.after (turn_at past (ResultEnd j) way turn.0)
@@ -241,7 +243,7 @@ module _ (i : ℕ) (t : Type') (c : ℕ) (r p : Plan) (is : IsBehind i t c r p) 
           up = old.opening ∙ there.0
 
           now : is_open (pass (ResultEnd j) way ∷ past) (ResultEnd j) ≡ is_request way
-          now = open_this (ResultEnd j) way past
+          now = open_itself (ResultEnd j) way past
 
           line : LineAt i t c r p is (pass (ResultEnd j) way ∷ past) own m (with_token r (ResultEnd j) way None s) j k.role
           line =

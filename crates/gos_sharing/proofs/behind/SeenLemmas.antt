@@ -14,9 +14,11 @@ use Rattle.gos_plan.specs.Tokens.{Tokens, Element, Fire, Out, In, places_of, sam
 use Rattle.gos_plan.specs.Orderly.{Open, named_by, handshake_at, with_open, after_taken, after_put, after_puts, ComesWell, AllComeWell, ComesInOrder}
 use Rattle.gos_plan.proofs.JointLemmas.{same_itself, same_is, joined}
 use Rattle.gos_plan.proofs.HeldLemmas.{takes_of}
+use Rattle.gos_plan.proofs.ElementLemmas.{firing_part}
 use Rattle.gos_realises.specs.realises.Regular.{count}
 use Rattle.gos_joining.specs.webs.Cutting.{lies_at, cut_tokens}
-use Rattle.gos_joining.proofs.webs.CutLemmas.{part_there, asker_asks, place_filled, token_lost, state_put, state_lost}
+use Rattle.gos_joining.proofs.webs.CutLemmas.{asker_asks, place_filled, token_lost, state_put, state_lost}
+use Rattle.gos_supplies.proofs.turns.StandLemmas.{opened_apart}
 use Rattle.gos_sharing.specs.sharing.Sharing.{caller_end}
 use Rattle.gos_sharing.specs.buffers.Buffering.{end_behind}
 use Rattle.gos_sharing.specs.behind.Behind.{IsBehind}
@@ -37,16 +39,6 @@ other_place x d way w held s apart = by_test (same_end d x) refl
     by_test : (b : Bool) → same_end d x ≡ b → (if same_way w way && same_end d x then held else s.in_place w d) ≡ s.in_place w d
     by_test true h = absurd (apart (same_is d x h))
     by_test false h = let no : same_way w way && same_end d x ≡ false = grind (arith, h) in ap (λ (b : Bool). if b then held else s.in_place w d) no
-
-pub other_open : (x d : End) (b : Bool) (o : Open) → (d ≡ x → ⊥) → with_open x b o d ≡ o d
-other_open x d b o apart = by_test (same_end d x) refl
-  where
-    by_test : (a : Bool) → same_end d x ≡ a → (if same_end d x then b else o d) ≡ o d
-    by_test true h = absurd (apart (same_is d x h))
-    by_test false h = ap (λ (a : Bool). if a then b else o d) h
-
-pub this_open : (x : End) (b : Bool) (o : Open) → with_open x b o x ≡ b
-this_open x b o = ap (λ (a : Bool). if a then b else o x) (same_itself x)
 
 pub this_place : (x : End) (way : Direction) (held : Option ℕ) (s : Tokens) → (with_place way x held s).in_place way x ≡ held
 this_place x Request held s = ap (λ (a : Bool). if a then held else s.in_place Request x) (same_itself x)
@@ -128,7 +120,7 @@ module _ (i : ℕ) (t : Type') (c : ℕ) (r p : Plan) (is : IsBehind i t c r p) 
   pub frame_open : (e : End) → owned e → (b : Bool) (o : Open) (j : ℕ) (role : Role) → with_open (handshake_at r (behind e)) b o (asker i t c j role) ≡ o (asker i t c j role)
   frame_open e own b o j role =
       let (named, also) = names e own in
-      other_open (handshake_at r (behind e)) (asker i t c j role) b o (λ same. not_asker i t c r p is.frame (handshake_at p e) j role also (sym named ∙ sym same))
+      opened_apart (handshake_at r (behind e)) (asker i t c j role) b o (λ same. not_asker i t c r p is.frame (handshake_at p e) j role also (sym named ∙ sym same))
 
   pub outer_frame : (j l : ℕ) (k : Contact) (role : Role) → slice_get (contacts_of t) j ≡ Some k → (j ≡ l → ⊥) → (way w : Direction) (held : Option ℕ) (s : Tokens)
       → (with_token r (ResultEnd j) way held s).in_place w (asker i t c l role) ≡ s.in_place w (asker i t c l role)
@@ -157,7 +149,7 @@ module _ (i : ℕ) (t : Type') (c : ℕ) (r p : Plan) (is : IsBehind i t c r p) 
 
   pub outer_opens : (own o : Open) → Opens o own → (j : ℕ) (role : Role) (b : Bool) → Opens (with_open (asker i t c j role) b o) own
   outer_opens own o opens j role b e here =
-      other_open (asker i t c j role) (behind e) b o (λ same. not_asker i t c r p is.frame e j role here same) ∙ opens e here
+      opened_apart (asker i t c j role) (behind e) b o (λ same. not_asker i t c r p is.frame e j role here same) ∙ opens e here
 
   pub comes_well : (own o : Open) → Opens o own → (e : End) → owned e → (way : Direction) (s : Tokens) → ComesWell p e way own (seen s) → ComesWell r (behind e) way o s
   comes_well own o opens e here Request s well = let (named, also) = names e here in ap o named ∙ (opens (handshake_at p e) also ∙ well)
@@ -255,7 +247,7 @@ module _ (i : ℕ) (t : Type') (c : ℕ) (r p : Plan) (is : IsBehind i t c r p) 
       now = comes v row (token_so (end_of n slot) low s (way_of slot) ∙ held) by_own
 
       part : (k : Part) × (slice_get p.parts n ≡ Some k)
-      part = part_there (slice_get p.parts n) ((seen s).state n) slot row by_own
+      part = firing_part (slice_get p.parts n) ((seen s).state n) slot row by_own
 
       same : with_state n (row.next v) (with_token p (end_of n row.takes) (way_of row.takes) None (seen s)) ≡ seen (between v row)
       same =

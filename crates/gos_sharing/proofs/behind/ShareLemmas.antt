@@ -15,7 +15,9 @@ use Rattle.gos_plan.specs.TokenBits as bits
 use Rattle.gos_plan.specs.Orderly.{Open, after_taken, after_put, ComesWell, ComesInOrder, AllWelcome}
 use Rattle.gos_plan.proofs.TurnLemmas.{token_state}
 use Rattle.gos_plan.proofs.HeldLemmas as held
+use Rattle.gos_plan.proofs.ContactLemmas.{turned_bits, turned_put, turned_taken}
 use Rattle.gos_realises.specs.realises.Regular.{count, Pass, pass, way_in, way_out, is_request, is_open, KeepsTurns}
+use Rattle.gos_realises.proofs.realises.PassLemmas.{open_itself, open_otherwise}
 use Rattle.gos_joining.proofs.renumbered.TurnLemmas.{EachKeeps}
 use Rattle.gos_sharing.specs.sharing.Sharing.{source_end, caller_end, IsForCaller}
 use Rattle.gos_sharing.specs.behind.Behind.{IsBehind}
@@ -24,15 +26,11 @@ use Rattle.gos_sharing.proofs.behind.EndLemmas.{asker, caller_contact, inner_con
 use Rattle.gos_sharing.proofs.behind.LyingLemmas.{caller_place}
 use Rattle.gos_sharing.proofs.behind.SeenLemmas.{seen, token_so, put_so, caller_put, share_put, Opens, Untouched, asker_one, comes_well, put_opens, taken_opens, put_untouched, taken_untouched}
 use Rattle.gos_sharing.proofs.behind.StepLemmas.{RegularFrom, Stepped, stepped}
-use Rattle.gos_sharing.proofs.behind.LagLemmas.{lead, follow, TurnAt, turn_at, at_turn, line_put, line_taken, both_lead, put_inside, inside_finds, taken_inside, open_this, open_other, told_end, ports_of_turns, turns_of_ports, served_there}
+use Rattle.gos_sharing.proofs.behind.LagLemmas.{lead, follow, TurnAt, turn_at, at_turn, line_put, line_taken, both_lead, put_inside, inside_finds, taken_inside, told_end, ports_of_turns, turns_of_ports, served_there}
 use Rattle.gos_sharing.proofs.behind.HandingLemmas.{Hands, inward, outward, Handed, hands_on, source_way, lies_where, Where, at_source, at_caller, caller_number}
 use Rattle.gos_sharing.proofs.behind.HeldLemmas.{LineAt, Held, inside_moves, lines_moved, result_apart, not_import}
 use Rattle.gos_sharing.proofs.behind.JointLemmas.{put_other, taken_other, put_this, taken_this, place_other, lies_in, emptied, joint_well, put_outer, taken_outer}
-use Rattle.gos_sharing.proofs.behind.OuterLemmas.{turned_put, turned_taken, Next, small_on}
-
-turned_bits : (k : Contact) (way : Direction) → bits_of (turned_contact k) way ≡ bits_of k way
-turned_bits k Request = refl
-turned_bits k Answer = refl
+use Rattle.gos_sharing.proofs.behind.OuterLemmas.{Next, small_on}
 
 module _ (i : ℕ) (t : Type') (c : ℕ) (r p : Plan) (is : IsBehind i t c r p) (literals : All LiteralFits p.parts) where
   abbrev before : Tokens → Tokens
@@ -58,10 +56,10 @@ module _ (i : ℕ) (t : Type') (c : ℕ) (r p : Plan) (is : IsBehind i t c r p) 
         small = small;
         outside = h.outside;
         inside = inside;
-        imports = λ n l. open_other (ResultEnd j) (ImportEnd n l) way own (not_import i t c r p is j n l) ∙ h.imports n l;
+        imports = λ n l. open_otherwise (ResultEnd j) (ImportEnd n l) way own (not_import i t c r p is j n l) ∙ h.imports n l;
         lines =
             lines_moved i t c r p is past own past (pass (ResultEnd j) way ∷ own) o m s w j k at_j
-            (λ l apart. (refl, open_other (ResultEnd j) (ResultEnd l) way own (result_apart i t c r p is j l apart))) kept now h.lines;
+            (λ l apart. (refl, open_otherwise (ResultEnd j) (ResultEnd l) way own (result_apart i t c r p is j l apart))) kept now h.lines;
         branch = λ l d at_l role up. ap (λ (q : State). q.number) state;
         rests = ap (λ (q : State). q.phase) state;
       }
@@ -185,7 +183,7 @@ module _ (i : ℕ) (t : Type') (c : ℕ) (r p : Plan) (is : IsBehind i t c r p) 
       up = old.opening ∙ there.0
 
       now : is_open (pass (ResultEnd j) way ∷ own) (ResultEnd j) ≡ is_request way
-      now = open_this (ResultEnd j) way own
+      now = open_itself (ResultEnd j) way own
 
       line : LineAt i t c r p is past (pass (ResultEnd j) way ∷ own) m w j k.role
       line =
@@ -226,7 +224,7 @@ module _ (i : ℕ) (t : Type') (c : ℕ) (r p : Plan) (is : IsBehind i t c r p) 
     where
       by_role : (role : Role) → k.role ≡ role → KeepsTurns p own (pass (ResultEnd j) (way_put role)) → (s.state i).number ≡ c
       by_role Serve same keeps = h.branch j k at_j same keeps.0
-      by_role Ask same keeps = of_other (served_there p.imports t (is_open (pass (ResultEnd j) Request ∷ own)) (ports_of_turns p p.imports t refl is.frame.also_outcome own (pass (ResultEnd j) Request) keeps) j k at_j (open_this (ResultEnd j) Request own))
+      by_role Ask same keeps = of_other (served_there p.imports t (is_open (pass (ResultEnd j) Request ∷ own)) (ports_of_turns p p.imports t refl is.frame.also_outcome own (pass (ResultEnd j) Request) keeps) j k at_j (open_itself (ResultEnd j) Request own))
         where
           of_other : ServedOpen t (λ l. is_open (pass (ResultEnd j) Request ∷ own) (ResultEnd l)) → (s.state i).number ≡ c
           of_other (l, d, at_l, role, up) = by_end (told_end (ResultEnd j) (ResultEnd l))
@@ -236,7 +234,7 @@ module _ (i : ℕ) (t : Type') (c : ℕ) (r p : Plan) (is : IsBehind i t c r p) 
                   let number : j ≡ l = cc e in
                   let one : k ≡ d = same_Some k d (sym at_j ∙ (ap (slice_get (contacts_of t)) number ∙ at_l)) in
                   let clash : Ask ≡ Serve = sym same ∙ (ap (λ (x : Contact). x.role) one ∙ role) in absurd (cc clash)
-              by_end (inr apart) = h.branch l d at_l role (sym (open_other (ResultEnd j) (ResultEnd l) Request own apart) ∙ up)
+              by_end (inr apart) = h.branch l d at_l role (sym (open_otherwise (ResultEnd j) (ResultEnd l) Request own apart) ∙ up)
 
   -- of its source
   hands_outward : (past own : List Pass) (o mine : Open) (s w : Tokens) → Held i t c r p is past own o mine s → (slot : Slot) → Does r (Fire i slot) s w
@@ -339,7 +337,7 @@ module _ (i : ℕ) (t : Type') (c : ℕ) (r p : Plan) (is : IsBehind i t c r p) 
           )
 
       now : is_open (pass (ResultEnd j) way ∷ own) (ResultEnd j) ≡ is_request way
-      now = open_this (ResultEnd j) way own
+      now = open_itself (ResultEnd j) way own
 
       sides : (lead k.role (is_open past (ResultEnd j)) (is_request way) ≡ true) × (follow k.role (is_open past (ResultEnd j)) (is_request way) ≡ false)
       sides = put_inside k.role (is_open past (ResultEnd j)) (is_open own (ResultEnd j)) old.after (turn_at own (ResultEnd j) way turn.0)

@@ -6,7 +6,7 @@ use Rattle.gos_plan.specs.Kinds.{serves}
 use Rattle.gos_plan.specs.Plans.{PartEnd, ResultEnd, Joint, IsRight}
 use Rattle.gos_plan.specs.TokenBits.{LiteralFits}
 use Rattle.gos_plan.specs.SmallPlans.{same_plan}
-use Rattle.gos_plan.proofs.JointLemmas.{IsIn, contained}
+use Rattle.gos_plan.proofs.JointLemmas.{IsIn, contained, same_result}
 use Rattle.gos_realises.specs.realises.Functions.{SameIsRealised}
 use Rattle.gos_joining.specs.webs.Webs.{joint}
 use Rattle.gos_sharing.specs.behind.SmallBehind.{shared_same, SharedIs, FirstIsBehind, FirstIsRegular, SecondIsNot, reversed_same, ReversedIsNot}
@@ -41,9 +41,6 @@ result_part j k h e = cc e
 part_result : (j k h : ℕ) → PartEnd k h ≡ ResultEnd j → ⊥
 part_result j k h e = cc e
 
-result_result : (j k : ℕ) → ResultEnd j ≡ ResultEnd k → j ≡ k
-result_result j k e = cc e
-
 part_part : (k h g : ℕ) → PartEnd k h ≡ PartEnd k g → h ≡ g
 part_part k h g e = cc e
 
@@ -60,5 +57,5 @@ pub reversed_is_not : ReversedIsNot
 reversed_is_not is =
     not_among (joint (ResultEnd 1) (PartEnd 0 3)) (joint (PartEnd 0 1) (PartEnd 0 0)) (joint (ResultEnd 0) (PartEnd 0 2)) (joint (PartEnd 0 3) (ResultEnd 1))
     (λ e. result_part 1 0 1 (ap (λ (x : Joint). x.asking) e))
-    (λ e. let same = result_result 1 0 (ap (λ (x : Joint). x.asking) e) in omega (arith, same)) (λ e. result_part 1 0 3 (ap (λ (x : Joint). x.asking) e))
+    (λ e. let same = same_result 1 0 (ap (λ (x : Joint). x.asking) e) in omega (arith, same)) (λ e. result_part 1 0 3 (ap (λ (x : Joint). x.asking) e))
     (contained reversed_same.joints (joint (ResultEnd 1) (PartEnd 0 3)) ((is.joints (ResultEnd 1) (PartEnd 0 3)).1 (inr (1, serves 0 0, refl, refl))))

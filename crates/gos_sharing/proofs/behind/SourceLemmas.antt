@@ -1,17 +1,16 @@
 -- Before the Share has taken a token of its caller, what is joined to its source does nothing that is seen.
-use Rattle.std.specs.Prelude.{◌≡◌, ◌≢◌, ℕ, zero, suc, ◌+◌, ◌-◌, ◌*◌, ◌<◌, Bool, true, false, List, [], ◌∷◌, ◌++◌, ◌⊎◌, length, Option, Some, None, slice_get, nat_eq, if◌then◌else◌}
-use Rattle.std.proofs.Common.{refl, sym, ◌∙◌, ap, subst, arith, inl, inr, length-append}
+use Rattle.std.specs.Prelude.{◌≡◌, ◌≢◌, ℕ, zero, suc, ◌+◌, ◌-◌, ◌*◌, ◌<◌, Bool, true, false, List, [], ◌∷◌, ◌⊎◌, length, Option, Some, None, slice_get, nat_eq, if◌then◌else◌}
+use Rattle.std.proofs.Common.{refl, sym, ◌∙◌, ap, subst, arith, inl, inr}
 use Rattle.std.proofs.lemmas.Option.{slice_get_within, same_Some}
-use Rattle.std.proofs.lemmas.List.{length-map}
 use Rattle.gos_types.specs.declared.shakes.Role.{Role}
 use Rattle.gos_types.specs.declared.shakes.Role.TheVariants.{Serve, Ask}
-use Rattle.gos_types.specs.Types.{Type', IsGround}
+use Rattle.gos_types.specs.Types.{Type'}
 use Rattle.gos_types.specs.Handshakes.{turned}
 use Rattle.gos_types.specs.Events.{Direction, Request, Answer}
 use Rattle.gos_model.specs.Typing.{Imported}
-use Rattle.gos_plan.specs.Kinds.{Share, Contact, contacts_of, turned_contact, part_contacts}
+use Rattle.gos_plan.specs.Kinds.{Share, Contact, contacts_of, part_contacts}
 use Rattle.gos_plan.specs.Firing.{Phase, Rest, State, Slot, Token, Row, rows, shared_rows, share_rows, firing}
-use Rattle.gos_plan.specs.Plans.{End, PartEnd, ImportEnd, ResultEnd, Plan, contact_at, contacts_of_part, contacts_of_import, turned_if}
+use Rattle.gos_plan.specs.Plans.{End, PartEnd, ImportEnd, ResultEnd, Plan, contact_at, contacts_of_part, contacts_of_import}
 use Rattle.gos_plan.specs.Tokens.{Tokens, Element, Fire, Out, In, IsPortEnd, Passes, places_of, token_at, with_token, with_state, with_puts, end_of, way_of, shake_of, way_taken, way_put, firing_of, fired, Does, Runs, IsIdle}
 use Rattle.gos_plan.specs.Orderly.{Open, none_open}
 use Rattle.gos_plan.proofs.JointLemmas.{joined}
@@ -19,25 +18,29 @@ use Rattle.gos_plan.proofs.HeldLemmas.{nothing_there}
 use Rattle.gos_plan.proofs.RowLemmas.{EachRow, row_with, role_taking}
 use Rattle.gos_plan.proofs.AskingLemmas.{RoleIs, each_append, row_roles}
 use Rattle.gos_plan.proofs.TurnLemmas.{fired_state, token_state, way_to_take}
+use Rattle.gos_plan.proofs.ContactLemmas.{turned_of}
+use Rattle.gos_plan.proofs.ElementLemmas.{firing_part}
 use Rattle.gos_realises.specs.realises.Regular.{count, Pass, pass, way_in, way_out, is_open, is_request, KeepsTurnsOf, KeepsTurns, InputsKeepTurns, IsRegular}
 use Rattle.gos_realises.specs.realises.Realises.{AllGround}
 use Rattle.gos_realises.proofs.realises.RingLemmas.{after}
-use Rattle.gos_realises.proofs.realises.InputLemmas.{InputTurns, first_turn, later_turns, in_there, out_there, import_serves}
+use Rattle.gos_realises.proofs.realises.InputLemmas.{InputTurns, first_turn, later_turns, in_there, out_there, import_serves, one_ground}
 use Rattle.gos_realises.proofs.realises.GroundTurnLemmas.{some_there, there_some}
+use Rattle.gos_realises.proofs.realises.CountLemmas.{share_count}
+use Rattle.gos_realises.proofs.realises.PassLemmas.{open_itself, open_otherwise}
 use Rattle.gos_joining.proofs.renumbered.TurnLemmas.{EachKeeps, of_import, of_result}
 use Rattle.gos_joining.specs.webs.Cutting.{Cut, StandsIn, cut_tokens, out_if}
-use Rattle.gos_joining.proofs.webs.CutLemmas.{name_of, outside_name, port_outside, token_lost, state_lost, fire_cut, taken_out, part_there}
+use Rattle.gos_joining.proofs.webs.CutLemmas.{name_of, outside_name, port_outside, token_lost, state_lost, fire_cut, taken_out}
 use Rattle.gos_joining.proofs.webs.IdleLemmas.{idle_is_cut}
 use Rattle.gos_sharing.specs.sharing.Sharing.{source_end, caller_end, IsForCaller}
 use Rattle.gos_sharing.proofs.buffers.GroundLemmas.{next_rests}
-use Rattle.gos_sharing.proofs.buffers.BranchLemmas.{stands, one_of_two}
+use Rattle.gos_sharing.proofs.buffers.BranchLemmas.{one_of_two, place_stands}
 use Rattle.gos_sharing.specs.behind.Behind.{IsBehind}
 use Rattle.gos_sharing.specs.behind.Source.{IsBefore, HasItsImports, SourcesAreLoyal, GroundSourcesAreLoyal, BehindIsLoyal}
 use Rattle.gos_sharing.proofs.behind.BetweenLemmas.{ServedOpen, positive}
 use Rattle.gos_sharing.proofs.behind.EndLemmas.{Owned, asker, server, share, not_share}
 use Rattle.gos_sharing.proofs.behind.LyingLemmas.{lying, share_outside, is_cut, From, of_inner, of_asker, of_server, from_joint}
 use Rattle.gos_sharing.proofs.behind.StepLemmas.{RegularFrom, stepped, from_idle}
-use Rattle.gos_sharing.proofs.behind.LagLemmas.{open_this, open_other, told_end, ports_of_turns, served_there}
+use Rattle.gos_sharing.proofs.behind.LagLemmas.{told_end, ports_of_turns, served_there}
 
 -- where a Share takes a token: at its source, or at a caller
 abbrev Located : ℕ → Row → Type 0
@@ -59,33 +62,17 @@ all_rows t p b = tt
 located : (t : Type') (q : State) (slot : Slot) (r : Row) → firing (Share t) q slot ≡ Some r → (r.takes ≡ slot) × Located (count t) r
 located t q slot r fires = row_with (Located (count t)) slot (rows (Share t) q.phase q.number) r (all_rows t q.phase q.number) fires
 
-share_size : (t : Type') → length (part_contacts (Share t)) ≡ count t + (count t + count t)
-share_size t =
-    let one = length-append (Rattle.gos_plan.specs.Kinds.other_side (contacts_of t)) (contacts_of t ++ contacts_of t) in
-    let other = length-append (contacts_of t) (contacts_of t) in
-    let turned_size = length-map (contacts_of t) turned_contact in
-    omega (arith, one, other, turned_size)
-
 beyond_callers : (n b j : ℕ) → n + suc (suc b) * n + j < n + (n + n) → ⊥
 beyond_callers n b j low = omega (arith, low)
 
-ground_at : (is : List Imported) → AllGround is → (n : ℕ) (x : Imported) → slice_get is n ≡ Some x → IsGround x.ty
-ground_at [] ground n x e = absurd (cc e)
-ground_at (y ∷ ys) ground zero x e = let same : y ≡ x = cc e in subst (λ (z : Imported). IsGround z.ty) same ground.0
-ground_at (y ∷ ys) ground (suc n) x e = ground_at ys ground.1 n x e
-
 -- A regular plan that nothing came to puts nothing out.
-turned_is : (o : Option Contact) (k : Contact) → turned_if o ≡ Some k → (d : Contact) × (o ≡ Some d) × (k ≡ turned_contact d)
-turned_is None k e = absurd (cc e)
-turned_is (Some d) k e = let same : turned_contact d ≡ k = cc e in (d, refl, sym same)
-
 asks_back : (role : Role) → way_taken (turned role) ≡ Request → role ≡ Ask
 asks_back Serve e = absurd (cc e)
 asks_back Ask e = refl
 
 module _ (p : Plan) (o : Open) (s : Tokens) (going : RegularFrom p [] o s) where
   no_result : (j : ℕ) (d : Contact) → slice_get (contacts_of p.outcome) j ≡ Some d → d.role ≡ Ask → KeepsTurns p [] (pass (ResultEnd j) Request) → ⊥
-  no_result j d at_d role keeps = of_served (served_there p.imports p.outcome (is_open (pass (ResultEnd j) Request ∷ [])) (ports_of_turns p p.imports p.outcome refl refl [] (pass (ResultEnd j) Request) keeps) j d at_d (open_this (ResultEnd j) Request []))
+  no_result j d at_d role keeps = of_served (served_there p.imports p.outcome (is_open (pass (ResultEnd j) Request ∷ [])) (ports_of_turns p p.imports p.outcome refl refl [] (pass (ResultEnd j) Request) keeps) j d at_d (open_itself (ResultEnd j) Request []))
     where
       of_served : ServedOpen p.outcome (of_result (is_open (pass (ResultEnd j) Request ∷ []))) → ⊥
       of_served (l, k, at_l, serves, up) = elim (told_end (ResultEnd j) (ResultEnd l)) [
@@ -93,7 +80,7 @@ module _ (p : Plan) (o : Open) (s : Tokens) (going : RegularFrom p [] o s) where
             (let number : j ≡ l = cc same in
             let one : d ≡ k = same_Some d k (sym at_d ∙ (ap (slice_get (contacts_of p.outcome)) number ∙ at_l)) in
             let clash : Ask ≡ Serve = sym role ∙ (ap (λ (y : Contact). y.role) one ∙ serves) in cc clash)
-        | inr apart ↦ (let clash : false ≡ true = sym (open_other (ResultEnd j) (ResultEnd l) Request [] apart) ∙ up in cc clash)
+        | inr apart ↦ (let clash : false ≡ true = sym (open_otherwise (ResultEnd j) (ResultEnd l) Request [] apart) ∙ up in cc clash)
       ]
 
   no_import : (n h : ℕ) (k : Contact) → contact_at p (ImportEnd n h) ≡ Some k → KeepsTurns p [] (pass (ImportEnd n h) Request) → ⊥
@@ -106,10 +93,10 @@ module _ (p : Plan) (o : Open) (s : Tokens) (going : RegularFrom p [] o s) where
       of_import_there None none there = cc there
       of_import_there (Some x) at_n there =
           let zeros : n ≡ 0 + n = omega arith in
-          let up : is_open (pass (ImportEnd n h) Request ∷ []) (ImportEnd (0 + n) h) ≡ true = ap (λ (m : ℕ). is_open (pass (ImportEnd n h) Request ∷ []) (ImportEnd m h)) (sym zeros) ∙ open_this (ImportEnd n h) Request [] in
+          let up : is_open (pass (ImportEnd n h) Request ∷ []) (ImportEnd (0 + n) h) ≡ true = ap (λ (m : ℕ). is_open (pass (ImportEnd n h) Request ∷ []) (ImportEnd m h)) (sym zeros) ∙ open_itself (ImportEnd n h) Request [] in
           let busy = there_some (count x.ty) (of_import (is_open (pass (ImportEnd n h) Request ∷ [])) (0 + n)) h (slice_get_within (contacts_of x.ty) h k there) up in
           let (l, low, also) = some_there (count p.outcome) (of_result (is_open (pass (ImportEnd n h) Request ∷ []))) ((each.0 n x at_n).1 busy) in
-          let clash : false ≡ true = sym (open_other (ImportEnd n h) (ResultEnd l) Request [] (λ e. cc e)) ∙ also in cc clash
+          let clash : false ≡ true = sym (open_otherwise (ImportEnd n h) (ResultEnd l) Request [] (λ e. cc e)) ∙ also in cc clash
 
   silent : (e : End) (v : ℕ) (w : Tokens) → Does p (Out e v) s w → ⊥
   silent e v w does = of_contact (out_there p e v s w does)
@@ -123,7 +110,7 @@ module _ (p : Plan) (o : Open) (s : Tokens) (going : RegularFrom p [] o s) where
       at_end (ImportEnd n h) k port there Answer is turns = let clash : false ≡ true = turns.0 in cc clash
       at_end (ResultEnd j) k port there Answer is turns = let clash : false ≡ true = turns.0 in cc clash
       at_end (ResultEnd j) k port there Request is turns =
-          let (d, at_d, same) = turned_is (slice_get (contacts_of p.outcome) j) k there in
+          let (d, at_d, same) = turned_of (slice_get (contacts_of p.outcome) j) k there in
           no_result j d at_d (asks_back d.role (ap (λ (y : Contact). way_taken y.role) (sym same) ∙ is)) turns
 
       of_contact : (k : Contact) × (contact_at p e ≡ Some k) → ⊥
@@ -163,14 +150,14 @@ module _ (f : Cut) (i : ℕ) (t : Type') (c : ℕ) (r p : Plan) (is : IsBefore f
               ∙ (joined r (PartEnd i (shake_of slot)) a is.cut.whole_right named).is_here
 
           small : shake_of slot < count t + (count t + count t)
-          small = let bound = slice_get_within (part_contacts (Share t)) (shake_of slot) (joined r (PartEnd i (shake_of slot)) a is.cut.whole_right named).here there in let size = share_size t in omega (arith, bound, size)
+          small = let bound = slice_get_within (part_contacts (Share t)) (shake_of slot) (joined r (PartEnd i (shake_of slot)) a is.cut.whole_right named).here there in let size = share_count t in omega (arith, bound, size)
 
           of_either : (b : ℕ) → shake_of slot ≡ count t + b * count t + j → (b ≡ c) ⊎ (b ≡ 1 - c) → IsForCaller t c (s.state i).number (shake_of slot)
           of_either b same (inl own) =
               let here : shake_of slot ≡ count t + c * count t + j = same ∙ ap (λ y. count t + y * count t + j) own in inl (omega (arith, here), omega (arith, here, low))
           of_either b same (inr other) =
               let here : shake_of slot ≡ count t + (1 - c) * count t + j = same ∙ ap (λ y. count t + y * count t + j) other in
-              absurd (is.alone j low (subst (λ (n : ℕ). StandsIn r (PartEnd i n)) here (stands r (PartEnd i (shake_of slot)) a named)))
+              absurd (is.alone j low (subst (λ (n : ℕ). StandsIn r (PartEnd i n)) here (place_stands r (PartEnd i (shake_of slot)) a named)))
 
           by_two : (b : ℕ) → shake_of slot ≡ count t + b * count t + j → IsForCaller t c (s.state i).number (shake_of slot)
           by_two zero same = of_either 0 same (one_of_two c 0 is.caller (omega arith))
@@ -212,7 +199,7 @@ module _ (f : Cut) (i : ℕ) (t : Type') (c : ℕ) (r p : Plan) (is : IsBefore f
       by_place : (o : Option End) → places_of r (end_of i slot) ≡ o → ⊥
       by_place None none = nothing_there r (end_of i slot) (way_of slot) does.0 s does.2 none
       by_place (Some a) named =
-          let stood = is.joined h low (stands r (PartEnd i h) a named) in
+          let stood = is.joined h low (place_stands r (PartEnd i h) a named) in
           let port = is.cut.ports (ResultEnd h) tt stood in
           let leads_out : f.inner (source_end i h) ≡ Some (ResultEnd h) = ap f.inner (sym (is.source h stood)) ∙ port.1 in
           let runs = taken_out f r p is.cut (source_end i h) (outside_name f (source_end i h) is.outside) (way_of slot) does.0 s ways does.2 in
@@ -244,7 +231,7 @@ module _ (f : Cut) (i : ℕ) (t : Type') (c : ℕ) (r p : Plan) (is : IsBefore f
 
   part_lost : (n : ℕ) → n ≢ i → f.number n ≡ None → (slot : Slot) (s w : Tokens) → Does r (Fire n slot) s w → within w ≡ within s
   part_lost n apart out slot s w (v, row, lies, by, leads) =
-      let (k, there) = part_there (slice_get r.parts n) (s.state n) slot row by in
+      let (k, there) = firing_part (slice_get r.parts n) (s.state n) slot row by in
       ap within leads
       ∙ (puts_lost n apart out (row.puts v) (with_state n (row.next v) (with_token r (end_of n row.takes) (way_of row.takes) None s))
       ∙ (state_lost f r p is.cut n k out (row.next v) (with_token r (end_of n row.takes) (way_of row.takes) None s)
@@ -259,7 +246,7 @@ module _ (f : Cut) (i : ℕ) (t : Type') (c : ℕ) (r p : Plan) (is : IsBefore f
   asked_then past s w (Fire n slot) asked does m g k at_g serves up = asked m g k at_g serves up
   asked_then past s w (Out e v) asked does m g k at_g serves up = elim (told_end e (ImportEnd m g)) [
     | inl same ↦ of_contact same (out_there r e v s w does)
-    | inr apart ↦ asked m g k at_g serves (sym (open_other e (ImportEnd m g) (way_out (contact_at r e)) past apart) ∙ up)
+    | inr apart ↦ asked m g k at_g serves (sym (open_otherwise e (ImportEnd m g) (way_out (contact_at r e)) past apart) ∙ up)
   ]
     where
       of_contact : e ≡ ImportEnd m g → (d : Contact) × (contact_at r e ≡ Some d) → StandsIn r (ImportEnd m g)
@@ -270,21 +257,21 @@ module _ (f : Cut) (i : ℕ) (t : Type') (c : ℕ) (r p : Plan) (is : IsBefore f
         where
           by_place : token_at r s e (way_taken d.role) ≡ Some v → (o : Option End) → places_of r e ≡ o → StandsIn r e
           by_place lies None none = absurd (nothing_there r e (way_taken d.role) v s lies none)
-          by_place lies (Some a) named = stands r e a named
+          by_place lies (Some a) named = place_stands r e a named
   asked_then past s w (In e v) asked does m g k at_g serves up = elim (told_end e (ImportEnd m g)) [
     | inl same ↦
         (let ways : way_in (contact_at r e) ≡ Answer = ap way_in (ap (contact_at r) same ∙ at_g) ∙ ap way_put serves in
         let shut : is_open (pass e (way_in (contact_at r e)) ∷ past) (ImportEnd m g) ≡ false =
-        ap (is_open (pass e (way_in (contact_at r e)) ∷ past)) (sym same) ∙ (open_this e (way_in (contact_at r e)) past ∙ ap is_request ways) in
+        ap (is_open (pass e (way_in (contact_at r e)) ∷ past)) (sym same) ∙ (open_itself e (way_in (contact_at r e)) past ∙ ap is_request ways) in
         let clash : true ≡ false = sym up ∙ shut in absurd (cc clash))
-    | inr apart ↦ asked m g k at_g serves (sym (open_other e (ImportEnd m g) (way_in (contact_at r e)) past apart) ∙ up)
+    | inr apart ↦ asked m g k at_g serves (sym (open_otherwise e (ImportEnd m g) (way_in (contact_at r e)) past apart) ∙ up)
   ]
 
   -- ports that are not the region's
   still_closed : (past : List Pass) (s : Tokens) → Asleep past s → (e : End) (way : Direction) → f.inner e ≡ None → (n h : ℕ) → StandsIn p (ImportEnd n h)
       → is_open (pass e way ∷ past) (f.outer (ImportEnd n h)) ≡ false
   still_closed past s asleep e way none n h stood =
-      open_other e (f.outer (ImportEnd n h)) way past
+      open_otherwise e (f.outer (ImportEnd n h)) way past
       (λ same. let clash : None ≡ Some (ImportEnd n h) = sym none ∙ (ap f.inner same ∙ (is.cut.ports (ImportEnd n h) tt stood).1) in cc clash)
       ∙ asleep.closed n h stood
 
@@ -361,7 +348,7 @@ module _ (f : Cut) (i : ℕ) (t : Type') (c : ℕ) (r p : Plan) (is : IsBefore f
                   let apart : ImportEnd m l ≡ ImportEnd m g → ⊥ =
                   (λ same. let one : k ≡ d = same_Some k d (sym at_l ∙ (ap (contact_at r) same ∙ there_g)) in
                   let clash : Ask ≡ Serve = sym role ∙ (ap (λ (y : Contact). y.role) one ∙ serves) in cc clash) in
-                  let was : is_open past (ImportEnd m g) ≡ true = sym (open_other (ImportEnd m l) (ImportEnd m g) Request past apart) ∙ up in
+                  let was : is_open past (ImportEnd m g) ≡ true = sym (open_otherwise (ImportEnd m l) (ImportEnd m g) Request past apart) ∙ up in
                   let (a, b, own, at_a) = has n h m l g k stood at_m at_l role (asked m g d there_g serves was) in
                   let closed : is_open past (ImportEnd m g) ≡ false = ap (is_open past) (sym at_a) ∙ asleep.closed a b own in
                   let clash : true ≡ false = sym was ∙ closed in cc clash
@@ -375,7 +362,7 @@ module _ (f : Cut) (i : ℕ) (t : Type') (c : ℕ) (r p : Plan) (is : IsBefore f
                   let keeps_x : KeepsTurnsOf x.ty (of_import_ends (pass (ImportEnd m l) Request ∷ past) m) =
                   subst (λ (a : ℕ). KeepsTurnsOf x.ty (of_import_ends (pass (ImportEnd m l) Request ∷ past) a)) zeros (all.0 m x at_x).0 in
                   let busy = there_some (count x.ty) (of_import_ends (pass (ImportEnd m l) Request ∷ past) m) l (slice_get_within (contacts_of x.ty) l k at_k)
-                  (open_this (ImportEnd m l) Request past) in
+                  (open_itself (ImportEnd m l) Request past) in
                   of_served role x at_x (positive x.ty (of_import_ends (pass (ImportEnd m l) Request ∷ past) m) keeps_x busy)
 
               by_role : (role : Role) → k.role ≡ role → KeepsTurns r past (pass (ImportEnd m l) (way_put k.role)) → ⊥
@@ -466,7 +453,7 @@ ground_serve f r p ground n h m l g x stood at_m at_l role joined = of_slice (sl
         → (k : ℕ) × (j : ℕ) × StandsIn p (ImportEnd k j) × (f.outer (ImportEnd k j) ≡ ImportEnd m g)
     of_slice None none at_x = absurd (cc at_x)
     of_slice (Some y) at_y at_x =
-        let serves = import_serves y.ty (ground_at r.imports ground m y at_y) l x at_x in
+        let serves = import_serves y.ty (one_ground r.imports ground m y at_y) l x at_x in
         let clash : Serve ≡ Ask = serves ∙ role in absurd (cc clash)
 
 pub ground_sources_are_loyal : GroundSourcesAreLoyal

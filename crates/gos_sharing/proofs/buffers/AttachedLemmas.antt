@@ -3,7 +3,7 @@
 use Rattle.std.specs.Prelude.{◌+◌, ◌-◌, ◌<◌, ◌≤◌, None, nat_lt, slice_get, length, map}
 use Rattle.std.proofs.Common.{◌≡◌, ℕ, zero, suc, Bool, true, false, List, [], ◌∷◌, ◌++◌, Option, Some, Contains, inl, inr, refl, sym, ◌∙◌, ap, subst, arith}
 use Rattle.std.proofs.lemmas.Bool.Decides.{nat_tests}
-use Rattle.std.proofs.lemmas.Option.{slice_get_within}
+use Rattle.std.proofs.lemmas.Option.{slice_get_within, none-some}
 use Rattle.gos_types.specs.Types.{Type', Var}
 use Rattle.gos_model.specs.Typing.{Imported}
 use Rattle.gos_plan.specs.Kinds.{Contact, asks, serves, Part, contacts_of}
@@ -14,7 +14,6 @@ use Rattle.gos_realises.specs.realises.Wirings.{lone, link}
 use Rattle.gos_realises.proofs.realises.LeftLemmas.{left_list, left_all, imports_left, left_at}
 use Rattle.gos_joining.specs.webs.Webs.{joint}
 use Rattle.gos_joining.proofs.webs.MovedLemmas.{listed}
-use Rattle.gos_sharing.proofs.buffers.BufferedLemmas.{no_some}
 use Rattle.gos_sharing.proofs.buffers.HousedLemmas.{not_both}
 use Rattle.gos_sharing.proofs.buffers.DrivenLemmas.{IsPlain, before_end, past_end}
 
@@ -64,12 +63,12 @@ module _ (a : Attached) where
   plain_origin (PartEnd i h) k there plain = by_part (slice_get a.plan.parts i) refl
     where
       by_part : (o : Option Part) → slice_get a.plan.parts i ≡ o → origin (wiring_of a) (PartEnd i h) ≡ place 0 (PartEnd i h)
-      by_part None e = absurd (no_some k (sym (ap (λ x. slice_get (contacts_of_part x) h) e) ∙ there))
+      by_part None e = absurd (none-some k (sym (ap (λ x. slice_get (contacts_of_part x) h) e) ∙ there))
       by_part (Some x) e = part_first i h (slice_get_within a.plan.parts i x e)
   plain_origin (ImportEnd i h) k there plain = by_import (slice_get a.plan.imports i) refl
     where
       by_import : (o : Option Imported) → slice_get a.plan.imports i ≡ o → origin (wiring_of a) (ImportEnd i h) ≡ place 0 (ImportEnd i h)
-      by_import None e = absurd (no_some k (sym (ap (λ x. slice_get (contacts_of_import x) h) e) ∙ there))
+      by_import None e = absurd (none-some k (sym (ap (λ x. slice_get (contacts_of_import x) h) e) ∙ there))
       by_import (Some x) e = at_import i h x e
   plain_origin (ResultEnd h) k there plain = absurd plain
 
@@ -126,7 +125,7 @@ module _ (x : Joined) where
   stands (PartEnd i h) k there = by_order (nat_lt i (length plan.parts)) refl
     where
       within : (j : ℕ) → i ≡ length plan.parts + j → (o : Option Part) → slice_get others_parts j ≡ o → j < length others_parts
-      within j is None none = absurd (no_some k (sym (other_contact i j h is ∙ ap (λ y. slice_get (contacts_of_part y) h) none) ∙ there))
+      within j is None none = absurd (none-some k (sym (other_contact i j h is ∙ ap (λ y. slice_get (contacts_of_part y) h) none) ∙ there))
       within j is (Some y) at = slice_get_within others_parts j y at
 
       by_order : (b : Bool) → nat_lt i (length plan.parts) ≡ b → Stands x (PartEnd i h)
@@ -139,7 +138,7 @@ module _ (x : Joined) where
   stands (ImportEnd i h) k there = by_import (slice_get plan.imports i) refl
     where
       by_import : (o : Option Imported) → slice_get plan.imports i ≡ o → Stands x (ImportEnd i h)
-      by_import None e = absurd (no_some k (sym (ap (λ y. slice_get (contacts_of_import y) h) e) ∙ (import_contact i h ∙ there)))
+      by_import None e = absurd (none-some k (sym (ap (λ y. slice_get (contacts_of_import y) h) e) ∙ (import_contact i h ∙ there)))
       by_import (Some y) e = OfPlan tt (at_import x.base i h y e) (import_contact i h)
   stands (ResultEnd h) k there = OfResult h refl
 
@@ -147,7 +146,7 @@ module _ (x : Joined) where
   plain_contact (PartEnd i h) k there plain = by_part (slice_get plan.parts i) refl
     where
       by_part : (o : Option Part) → slice_get plan.parts i ≡ o → contact_at plan (PartEnd i h) ≡ contact_at x.whole (PartEnd i h)
-      by_part None e = absurd (no_some k (sym (ap (λ y. slice_get (contacts_of_part y) h) e) ∙ there))
+      by_part None e = absurd (none-some k (sym (ap (λ y. slice_get (contacts_of_part y) h) e) ∙ there))
       by_part (Some y) e = first_contact i h (slice_get_within plan.parts i y e)
   plain_contact (ImportEnd i h) k there plain = import_contact i h
   plain_contact (ResultEnd h) k there plain = absurd plain
@@ -162,7 +161,7 @@ module _ (x : Joined) where
       not_served : (h q v : ℕ) → turned_if (slice_get (contacts_of (Var x.width)) h) ≡ Some (serves q v) → ⊥
       not_served zero q v e = let same : asks 0 x.width ≡ serves q v = cc e in not_both 0 x.width q v same
       not_served (suc zero) q v e = let same : asks x.width 0 ≡ serves q v = cc e in not_both x.width 0 q v same
-      not_served (suc (suc h)) q v e = no_some (serves q v) e
+      not_served (suc (suc h)) q v e = none-some (serves q v) e
 
   -- a joint of the plan whose ends are plain
   pub plain_connects : (d e : End) → IsIn (joint d e) plan.joints → IsPlain d → Connects wiring x.whole d e

@@ -8,6 +8,7 @@ use Rattle.gos_types.specs.Types.{Type'}
 use Rattle.gos_types.specs.declared.shakes.Role.{Role}
 use Rattle.gos_types.specs.declared.shakes.Role.TheVariants.{Serve, Ask}
 use Rattle.gos_types.specs.Events.{Direction, Request, Answer}
+use Rattle.gos_types.proofs.RoleLemmas.{request_is_not_answer}
 use Rattle.gos_plan.specs.Kinds.{Contact, Part, asks, serves}
 use Rattle.gos_plan.specs.Plans.{End, PartEnd, Plan, contact_at, same_end}
 use Rattle.gos_plan.specs.Firing.{Rest, State, Token}
@@ -23,7 +24,7 @@ use Rattle.gos_sharing.proofs.sharing.SeenPlaceLemmas.{Plain, Through}
 use Rattle.gos_sharing.proofs.sharing.SeenTokenLemmas.{next, Owns, Seen, seen_at, asking_at, outside_at, follows, of_part, one_server, place_asking}
 use Rattle.gos_sharing.proofs.sharing.SeenFillLemmas.{ClearAt, token_filled, token_seen}
 use Rattle.gos_sharing.proofs.sharing.SeenFireLemmas.{contact_seen}
-use Rattle.gos_sharing.proofs.sharing.SeenKeptLemmas.{Kept, Side, side, PutsSo, two_ways, not_both_so, kept_taken, kept_put, still_open}
+use Rattle.gos_sharing.proofs.sharing.SeenKeptLemmas.{Kept, Side, side, PutsSo, not_both_so, kept_taken, kept_put, still_open}
 use Rattle.gos_sharing.proofs.sharing.SeenElementLemmas.{kept_state, clear_of_taken, clear_of_put, visible, puts_so}
 use Rattle.gos_sharing.proofs.buffers.BranchLemmas.{Branch, named_itself, open_before_put, open_before_taken}
 
@@ -47,7 +48,7 @@ pub record Beside (i : ℕ) (t : Type') (c : ℕ) (r q : Plan) (o u : Open) (s :
 
 -- roles
 pub puts_request : (role : Role) → way_taken role ≡ Answer → way_put role ≡ Request
-puts_request Serve e = absurd (two_ways e)
+puts_request Serve e = absurd (request_is_not_answer e)
 puts_request Ask e = refl
 
 pub asks_at : (r : Plan) (e : End) (x y : ℕ) → contact_at r e ≡ Some (asks x y) → PutsSo r e Request
@@ -92,7 +93,7 @@ none_before_taken s way w None a apart h = h
 none_before_taken s way w (Some d) a apart h = by_test (same_way w way) refl (same_end a d) refl h
   where
     by_test : (x : Bool) → same_way w way ≡ x → (y : Bool) → same_end a d ≡ y → (if x && y then None else s.in_place w a) ≡ None → s.in_place w a ≡ None
-    by_test true m true n k = absurd (apart (ap Some (sym (same_is a d n))) (Rattle.gos_sharing.proofs.sharing.SeenKeptLemmas.way_is w way m))
+    by_test true m true n k = absurd (apart (ap Some (sym (same_is a d n))) (Rattle.gos_plan.proofs.TokenBitsLemmas.same_way_is w way m))
     by_test true m false n k = k
     by_test false m y n k = k
 
@@ -114,7 +115,7 @@ well_too i t c r q is o u s e Answer beside apart puts well = by_place (places_o
     unplaced : places_of q e ≡ None → (f : Option Contact) → contact_at r e ≡ f → ComesWell r e Answer o s
     unplaced none (Some k) there =
         let up : u e ≡ true = subst (λ (p : Option End). u (named_by p e) ≡ true) none well.0 in
-        absurd (two_ways (sym (beside.asking e up k there) ∙ puts k there))
+        absurd (request_is_not_answer (sym (beside.asking e up k there) ∙ puts k there))
     unplaced none None there = of_place (places_of r e) refl
       where
         no_contact : (k : Contact) → contact_at r e ≡ Some k → ⊥
@@ -258,20 +259,20 @@ same_taken i t c r q is e Answer o u takes d h =
 linked_taken : (i : ℕ) (t : Type') (c : ℕ) (r q : Plan) → IsSeenThrough i t c r q → (e : End) (way : Direction) (o : Open) (s : Tokens) → (IsOfPart i e → ⊥) → TakesSo r e way
     → Linked i t c r q o s → Linked i t c r q (after_taken r e way o) (with_token r e way None s)
 linked_taken i t c r q is e Request o s apart takes linked a d asking onto up none also =
-    linked a d asking onto up (none_before_taken s Request Request (places_of r e) a (λ h w. into a h) none) (none_before_taken s Request Answer (places_of r e) a (λ h w. two_ways (sym w)) also)
+    linked a d asking onto up (none_before_taken s Request Request (places_of r e) a (λ h w. into a h) none) (none_before_taken s Request Answer (places_of r e) a (λ h w. request_is_not_answer (sym w)) also)
   where
     -- what e takes of a joint that leads into the Share is no request
     into : (x : End) → places_of r e ≡ Some a → ⊥
     into x h = by_side (side r e a is.right h)
       where
         by_side : Side r e a → ⊥
-        by_side (inl g) = two_ways (sym (takes (asks g.1.0 g.1.1) g.1.2))
+        by_side (inl g) = request_is_not_answer (sym (takes (asks g.1.0 g.1.1) g.1.2))
         by_side (inr g) =
             let w = follows i t c r q a d (asking_at i t c r q is a asking) onto in
             apart (of_part i w.0.shake e (one_server r a e (PartEnd i w.0.shake) is.right g.0 w.0.into))
 linked_taken i t c r q is e Answer o s apart takes linked a d asking onto up none also =
     still (same_end d (handshake_at r e)) refl
-    (linked a d asking onto was.1 (none_before_taken s Answer Request (places_of r e) a (λ h w. two_ways w) none)
+    (linked a d asking onto was.1 (none_before_taken s Answer Request (places_of r e) a (λ h w. request_is_not_answer w) none)
     (none_before_taken s Answer Answer (places_of r e) a (λ h w. other h) also))
   where
     named : handshake_at r e ≡ e

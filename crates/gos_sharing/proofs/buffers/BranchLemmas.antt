@@ -4,6 +4,7 @@ use Rattle.std.proofs.Common.{◌≡◌, ℕ, zero, suc, Bool, true, false, List
 use Rattle.gos_types.specs.Types.{Type'}
 use Rattle.gos_types.specs.declared.shakes.Role.TheVariants.{Serve, Ask}
 use Rattle.gos_types.specs.Events.{Direction, Request, Answer}
+use Rattle.gos_types.proofs.RoleLemmas.{request_is_not_answer}
 use Rattle.gos_realises.specs.realises.Regular.{count}
 use Rattle.gos_plan.specs.Kinds.{Contact, serves, Part, Share, part_contacts}
 use Rattle.gos_plan.specs.Plans.{End, PartEnd, Plan, contact_at, same_end, IsRight}
@@ -16,6 +17,7 @@ use Rattle.gos_plan.proofs.RowLemmas.{role_taking}
 use Rattle.gos_plan.proofs.AskingLemmas.{RoleIs, PutsInRole, row_roles}
 use Rattle.gos_plan.proofs.TurnLemmas.{token_state, fired_state}
 use Rattle.gos_plan.proofs.DecidedLemmas.{one_state}
+use Rattle.gos_plan.proofs.ContactLemmas.{part_contact}
 use Rattle.gos_joining.specs.webs.Webs.{joint}
 use Rattle.gos_joining.specs.webs.Cutting.{StandsIn}
 use Rattle.gos_joining.proofs.webs.MovedLemmas.{listed}
@@ -24,7 +26,7 @@ use Rattle.gos_sharing.proofs.sharing.SeenPlaceLemmas.{to_caller}
 use Rattle.gos_sharing.proofs.sharing.SeenTokenLemmas.{of_part}
 use Rattle.gos_sharing.proofs.sharing.SeenFireLemmas.{port_outside}
 use Rattle.gos_sharing.proofs.sharing.ShareRowLemmas.{served_there, asked_there, Pair, Passed, IsRequestPassed, IsAnswerPassed, share_passes}
-use Rattle.gos_sharing.proofs.sharing.SeenKeptLemmas.{Side, side, PutsSo, two_ways, fit_none, not_both_so, still_open}
+use Rattle.gos_sharing.proofs.sharing.SeenKeptLemmas.{Side, side, PutsSo, fit_none, not_both_so, still_open}
 use Rattle.gos_sharing.proofs.sharing.SeenElementLemmas.{puts_so, one_contact}
 use Rattle.gos_sharing.proofs.sharing.SeenRunLemmas.{name_of}
 use Rattle.gos_sharing.specs.buffers.Buffers.{IsBuffer, WorksForOne, BuffersAreLoyal}
@@ -41,7 +43,7 @@ named_itself r e right puts = by_place (places_of r e) refl
   where
     by_side : (d : End) → Side r e d → d ≡ e
     by_side d (inl g) = g.0
-    by_side d (inr g) = absurd (two_ways (sym (puts (serves g.1.0 g.1.1) g.1.2)))
+    by_side d (inr g) = absurd (request_is_not_answer (sym (puts (serves g.1.0 g.1.1) g.1.2)))
 
     by_place : (p : Option End) → places_of r e ≡ p → named_by p e ≡ e
     by_place None h = refl
@@ -122,9 +124,6 @@ branch_left i t c r o m s u leaves branch j lt up =
     let old = branch j lt (leaves.0 j up) in (ap (λ (x : State). x.number) leaves.1 ∙ old.0, old.1)
 
 -- a token that the Share may take is for caller c
-pub contact_of : (r : Plan) (i h : ℕ) (k : Part) → slice_get r.parts i ≡ Some k → contact_at r (PartEnd i h) ≡ slice_get (part_contacts k) h
-contact_of r i h k at_i = ap (λ x. slice_get (Rattle.gos_plan.specs.Plans.contacts_of_part x) h) at_i
-
 pub one_of_two : (c b : ℕ) → c < 2 → b < 2 → (b ≡ c) ⊎ (b ≡ 1 - c)
 one_of_two zero zero h k = inl refl
 one_of_two zero (suc zero) h k = inr refl
@@ -133,8 +132,8 @@ one_of_two (suc zero) (suc zero) h k = inl refl
 one_of_two (suc (suc c)) b h k = absurd (omega (arith, h))
 one_of_two c (suc (suc b)) h k = absurd (omega (arith, k))
 
-pub stands : (r : Plan) (e a : End) → places_of r e ≡ Some a → StandsIn r e
-stands r e a there =
+pub place_stands : (r : Plan) (e a : End) → places_of r e ≡ Some a → StandsIn r e
+place_stands r e a there =
     let f = found r.joints e a there in
     let t = f.stands in
     (f.joint, listed r.joints f.joint f.is_in, grind (arith, t))
@@ -143,7 +142,7 @@ stands r e a there =
 joined_contact : (i : ℕ) (t : Type') (c : ℕ) (r q : Plan) → IsSeenThrough i t c r q → (h : ℕ) (d : End) → places_of r (PartEnd i h) ≡ Some d
     → (k : Contact) × (slice_get (part_contacts (Share t)) h ≡ Some k)
 joined_contact i t c r q is h d there =
-    let at = joined r (PartEnd i h) d is.right there in (at.here, sym (contact_of r i h (Share t) is.share) ∙ at.is_here)
+    let at = joined r (PartEnd i h) d is.right there in (at.here, sym (part_contact r i h (Share t) is.share) ∙ at.is_here)
 
 pub caller_shake : (i : ℕ) (t : Type') (c : ℕ) (r q : Plan) → IsBuffer i t c r q → (h : ℕ) (d : End) → RoleIs (Share t) h Serve → places_of r (PartEnd i h) ≡ Some d → OfCaller t h
 caller_shake i t c r q is h d role there =
@@ -171,7 +170,7 @@ for_one i t c r q is slot o s u fit branch (v, row, lies, by, leads) = by_place 
             inl (omega (arith, here, lt), omega (arith, here, lt))
         choose (inr other) =
             let here : h ≡ count t + (1 - c) * count t + j = same ∙ ap (λ x. count t + x * count t + j) other in
-            absurd (is.alone j lt (subst (λ (n : ℕ). StandsIn r (PartEnd i n)) here (stands r (PartEnd i h) d there)))
+            absurd (is.alone j lt (subst (λ (n : ℕ). StandsIn r (PartEnd i n)) here (place_stands r (PartEnd i h) d there)))
 
     of_slot : (x : Slot) → RoleIs (Share t) (shake_of x) (role_taking x) → (d : End) → places_of r (end_of i x) ≡ Some d → s.in_place (way_of x) d ≡ Some v
         → IsForCaller t c (s.state i).number (shake_of x)

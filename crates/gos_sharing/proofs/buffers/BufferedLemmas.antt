@@ -1,8 +1,9 @@
 -- A plan behind a Share is a buffer, whose see-through plan is the plan itself with a loose part.
 use Rattle.std.specs.Prelude.{◌⊎◌, ◌+◌, ◌-◌, ◌*◌, ◌<◌, ◌≤◌, ◌&&◌, ◌||◌, None, IsTrue, All, nat_eq, slice_get, length, map}
-use Rattle.std.proofs.Common.{◌≡◌, ℕ, zero, suc, Bool, true, false, not, List, [], ◌∷◌, ◌++◌, Option, Some, Contains, inl, inr, refl, sym, ◌∙◌, ap, subst, arith}
+use Rattle.std.proofs.Common.{◌≡◌, ℕ, zero, suc, Bool, true, false, not, List, [], ◌∷◌, ◌++◌, Some, Contains, inl, inr, refl, sym, ◌∙◌, ap, subst, arith}
 use Rattle.std.proofs.lemmas.List.Elements.{All-push}
-use Rattle.std.proofs.lemmas.Option.{slice_get_within}
+use Rattle.std.proofs.lemmas.Option.{slice_get_within, none-some}
+use Rattle.std.proofs.lemmas.Bool.{false_from_ne_true}
 use Rattle.gos_types.specs.Types.{Type', IsGround}
 use Rattle.gos_types.specs.Handshakes.{turned}
 use Rattle.gos_types.specs.declared.shakes.Role.{Role}
@@ -11,8 +12,9 @@ use Rattle.gos_model.specs.Terms.{Term}
 use Rattle.gos_plan.specs.Kinds.{Contact, asks, serves, Part, Share, contacts_of, turned_contact, part_contacts}
 use Rattle.gos_plan.specs.Plans.{End, PartEnd, ImportEnd, ResultEnd, Joint, Plan, contact_at, contacts_of_part, turned_if, same_end, stands_in, is_free, Fits, AreRight, IsRight}
 use Rattle.gos_plan.specs.TokenBits.{LiteralFits}
-use Rattle.gos_plan.proofs.JointLemmas.{IsIn, same_itself, same_is, fits, contained}
+use Rattle.gos_plan.proofs.JointLemmas.{IsIn, same_itself, fits, contained, apart_is_not_same, same_part, same_shake}
 use Rattle.gos_plan.proofs.AskingLemmas.{source_at, first_caller_at, second_caller_at}
+use Rattle.gos_plan.proofs.ContactLemmas.{turned_of, as_serves, turned_asks}
 use Rattle.gos_realises.specs.realises.Regular.{count, IsRegular}
 use Rattle.gos_realises.specs.realises.Matched.{RealisesDone}
 use Rattle.gos_realises.specs.realises.Realises.{Suits}
@@ -133,40 +135,13 @@ callers_in i t c n (suc m) h le lt = by_test (nat_eq h n) refl (λ above. caller
     by_test true e rest = let same : h ≡ n = grind (arith, e) in inl (ap (λ x. joint (ResultEnd x) (caller_end i t c x)) same)
     by_test false e rest = inr (rest (later h n le e))
 
--- contacts
-pub no_some : {A : Type 0} (x : A) → None ≡ Some x → ⊥
-no_some x e = cc e
-
-turned_is : (f : Option Contact) (k : Contact) → turned_if f ≡ Some k → (d : Contact) × (f ≡ Some d) × (k ≡ turned_contact d)
-turned_is None k e = absurd (no_some k e)
-turned_is (Some d) k e = let same : turned_contact d ≡ k = cc e in (d, refl, sym same)
-
-pub serves_of : (k : Contact) → k.role ≡ Serve → k ≡ serves k.ask_bits k.answer_bits
-serves_of k role = λ n. record { role = role n; ask_bits = k.ask_bits; answer_bits = k.answer_bits }
-
-pub asks_of : (k : Contact) → k.role ≡ Serve → turned_contact k ≡ asks k.ask_bits k.answer_bits
-asks_of k role = λ n. record { role = turned (role n); ask_bits = k.ask_bits; answer_bits = k.answer_bits }
-
 role_clash : (q a x y : ℕ) (k : Contact) → k.role ≡ Serve → Some (serves x y) ≡ Some (turned_contact k) → ⊥
 role_clash q a x y k role e =
     let same : serves x y ≡ turned_contact k = cc e in
     let roles : Serve ≡ Ask = ap (λ (z : Contact). z.role) same ∙ ap turned role in cc roles
 
-pub false_not : (b : Bool) → (b ≡ true → ⊥) → b ≡ false
-false_not true h = absurd (h refl)
-false_not false h = refl
-
-pub differ : (d e : End) → (d ≡ e → ⊥) → same_end d e ≡ false
-differ d e apart = false_not (same_end d e) (λ h. apart (same_is d e h))
-
 pub neither : (a b : Bool) → a ≡ false → b ≡ false → (a || b) ≡ false
 neither a b h k = grind (arith, h, k)
-
-pub part_of : (k h i g : ℕ) → PartEnd k h ≡ PartEnd i g → k ≡ i
-part_of k h i g e = cc e
-
-pub shake_of : (k h i g : ℕ) → PartEnd k h ≡ PartEnd i g → h ≡ g
-shake_of k h i g e = cc e
 
 module _ (c : ℕ) (p : Plan) (two : c < 2) (right : IsRight p) (ground : IsGround p.outcome) where
   abbrev number : ℕ
@@ -180,13 +155,13 @@ module _ (c : ℕ) (p : Plan) (two : c < 2) (right : IsRight p) (ground : IsGrou
 
   -- the Share has a number of its own
   pub own_number : (h : ℕ) (k : Contact) → contact_at p (PartEnd number h) ≡ Some k → ⊥
-  own_number h k there = no_some k (sym (ap (λ x. slice_get (contacts_of_part x) h) (none_last p.parts)) ∙ there)
+  own_number h k there = none-some k (sym (ap (λ x. slice_get (contacts_of_part x) h) (none_last p.parts)) ∙ there)
 
   pub known_part : (j h : ℕ) (k : Contact) → contact_at p (PartEnd j h) ≡ Some k → j ≡ number → ⊥
   known_part j h k there e = own_number h k (subst (λ (n : ℕ). contact_at p (PartEnd n h) ≡ Some k) e there)
 
   pub result_shake : (h : ℕ) (k : Contact) → contact_at p (ResultEnd h) ≡ Some k → (d : Contact) × (slice_get (contacts_of p.outcome) h ≡ Some d) × (k ≡ turned_contact d)
-  result_shake h k there = turned_is (slice_get (contacts_of p.outcome) h) k there
+  result_shake h k there = turned_of (slice_get (contacts_of p.outcome) h) k there
 
   pub result_within : (h : ℕ) (k : Contact) → contact_at p (ResultEnd h) ≡ Some k → h < count p.outcome
   result_within h k there = let at = result_shake h k there in slice_get_within (contacts_of p.outcome) h at.0 at.1
@@ -217,11 +192,11 @@ module _ (c : ℕ) (p : Plan) (two : c < 2) (right : IsRight p) (ground : IsGrou
   same_behind : (e d : End) (k x : Contact) → contact_at p e ≡ Some k → contact_at p d ≡ Some x → same_end (end_behind number e) (end_behind number d) ≡ same_end e d
   same_behind (PartEnd j h) (PartEnd l g) k x there also = refl
   same_behind (PartEnd j h) (ImportEnd l g) k x there also = refl
-  same_behind (PartEnd j h) (ResultEnd g) k x there also = differ (PartEnd j h) (PartEnd number g) (λ e. known_part j h k there (part_of j h number g e))
+  same_behind (PartEnd j h) (ResultEnd g) k x there also = apart_is_not_same (PartEnd j h) (PartEnd number g) (λ e. known_part j h k there (same_part j h number g e))
   same_behind (ImportEnd j h) (PartEnd l g) k x there also = refl
   same_behind (ImportEnd j h) (ImportEnd l g) k x there also = refl
   same_behind (ImportEnd j h) (ResultEnd g) k x there also = refl
-  same_behind (ResultEnd h) (PartEnd l g) k x there also = differ (PartEnd number h) (PartEnd l g) (λ e. known_part l g x also (sym (part_of number h l g e)))
+  same_behind (ResultEnd h) (PartEnd l g) k x there also = apart_is_not_same (PartEnd number h) (PartEnd l g) (λ e. known_part l g x also (sym (same_part number h l g e)))
   same_behind (ResultEnd h) (ImportEnd l g) k x there also = refl
   same_behind (ResultEnd h) (ResultEnd g) k x there also = let e : nat_eq number number ≡ true = grind arith in rw e refl
 
@@ -272,7 +247,7 @@ module _ (c : ℕ) (p : Plan) (two : c < 2) (right : IsRight p) (ground : IsGrou
   pub caller_fits : (h : ℕ) → h < count p.outcome → Fits whole (joint (ResultEnd h) (caller_end number p.outcome c h))
   caller_fits h lt =
       let (k, there, role) = ground_serves p.outcome h ground lt in
-      (k.ask_bits, k.answer_bits, ap turned_if there ∙ ap Some (asks_of k role), caller_contact h k there ∙ ap Some (serves_of k role))
+      (k.ask_bits, k.answer_bits, ap turned_if there ∙ ap Some (turned_asks k role), caller_contact h k there ∙ ap Some (as_serves k role))
 
   -- from handshake n on, none of these joints has the ends
   abbrev NoneFrom : ℕ → List Joint → Type 0
@@ -283,15 +258,15 @@ module _ (c : ℕ) (p : Plan) (two : c < 2) (right : IsRight p) (ground : IsGrou
   one_more n before none j (inl e) h le = subst (λ (y : Joint). (stands_in (ResultEnd h) y ≡ false) × (stands_in (caller_end number p.outcome c h) y ≡ false)) (sym e) (first, second)
     where
       first : stands_in (ResultEnd h) (joint (ResultEnd n) (caller_end number p.outcome c n)) ≡ false
-      first = neither (nat_eq h n) false (false_not (nat_eq h n) (λ k. above h n le k)) refl
+      first = neither (nat_eq h n) false (false_from_ne_true (nat_eq h n) (λ k. above h n le k)) refl
 
       apart : PartEnd number (count p.outcome + c * count p.outcome + h) ≡ PartEnd number (count p.outcome + c * count p.outcome + n) → ⊥
       apart k =
-          let same = shake_of number (count p.outcome + c * count p.outcome + h) number (count p.outcome + c * count p.outcome + n) k in
+          let same = same_shake number (count p.outcome + c * count p.outcome + h) number (count p.outcome + c * count p.outcome + n) k in
           omega (arith, same, le)
 
       second : stands_in (caller_end number p.outcome c h) (joint (ResultEnd n) (caller_end number p.outcome c n)) ≡ false
-      second = differ (caller_end number p.outcome c h) (caller_end number p.outcome c n) apart
+      second = apart_is_not_same (caller_end number p.outcome c h) (caller_end number p.outcome c n) apart
 
   right_callers : (n m : ℕ) (before : List Joint) → n + m ≤ count p.outcome → NoneFrom n before → AreRight whole before (callers_joined number p.outcome c n m)
   right_callers n zero before le none = tt
@@ -311,11 +286,11 @@ module _ (c : ℕ) (p : Plan) (two : c < 2) (right : IsRight p) (ground : IsGrou
   result_not h (ResultEnd g) = refl
 
   pub caller_not : (h : ℕ) (e : End) (k : Contact) → contact_at p e ≡ Some k → caller_end number p.outcome c h ≡ end_behind number e → ⊥
-  caller_not h (PartEnd j g) k there e = known_part j g k there (sym (part_of number (count p.outcome + c * count p.outcome + h) j g e))
+  caller_not h (PartEnd j g) k there e = known_part j g k there (sym (same_part number (count p.outcome + c * count p.outcome + h) j g e))
   caller_not h (ImportEnd j g) k there e = cc e
   caller_not h (ResultEnd g) k there e =
       let lt = result_within g k there in
-      let same = shake_of number (count p.outcome + c * count p.outcome + h) number g e in
+      let same = same_shake number (count p.outcome + c * count p.outcome + h) number g e in
       omega (arith, same, lt)
 
   none_behind : NoneFrom 0 (Onto (map (joint_behind number) p.joints) [])
@@ -329,8 +304,8 @@ module _ (c : ℕ) (p : Plan) (two : c < 2) (right : IsRight p) (ground : IsGrou
           subst (λ (y : Joint). (stands_in (ResultEnd h) y ≡ false) × (stands_in (caller_end number p.outcome c h) y ≡ false)) (sym same) (
             neither (same_end (ResultEnd h) (end_behind number k.asking)) (same_end (ResultEnd h) (end_behind number k.serving)) (result_not h k.asking) (result_not h k.serving),
             neither (same_end (caller_end number p.outcome c h) (end_behind number k.asking)) (same_end (caller_end number p.outcome c h) (end_behind number k.serving))
-                (differ (caller_end number p.outcome c h) (end_behind number k.asking) (caller_not h k.asking (asks fit.0 fit.1) fit.2))
-                (differ (caller_end number p.outcome c h) (end_behind number k.serving) (caller_not h k.serving (serves fit.0 fit.1) fit.3)),
+                (apart_is_not_same (caller_end number p.outcome c h) (end_behind number k.asking) (caller_not h k.asking (asks fit.0 fit.1) fit.2))
+                (apart_is_not_same (caller_end number p.outcome c h) (end_behind number k.serving) (caller_not h k.serving (serves fit.0 fit.1) fit.3)),
           )
 
   pub whole_right : IsRight whole
@@ -434,9 +409,9 @@ module _ (c : ℕ) (p : Plan) (two : c < 2) (right : IsRight p) (ground : IsGrou
 
   -- the asker of the Share's handshake is the result
   pub source_behind : (j : ℕ) (d : End) (k : Contact) → contact_at p d ≡ Some k → source_end number j ≡ end_behind number d → d ≡ ResultEnd j
-  source_behind j (PartEnd l g) k there e = absurd (known_part l g k there (sym (part_of number j l g e)))
+  source_behind j (PartEnd l g) k there e = absurd (known_part l g k there (sym (same_part number j l g e)))
   source_behind j (ImportEnd l g) k there e = absurd (cc e)
-  source_behind j (ResultEnd g) k there e = ap ResultEnd (sym (shake_of number j number g e))
+  source_behind j (ResultEnd g) k there e = ap ResultEnd (sym (same_shake number j number g e))
 
   from_through : (j : ℕ) (a b : End) → j < count p.outcome → Contains whole.joints (joint a (caller_end number p.outcome c j)) → Contains whole.joints (joint (source_end number j) b)
       → IsIn (joint a b) p.joints
@@ -454,7 +429,7 @@ module _ (c : ℕ) (p : Plan) (two : c < 2) (right : IsRight p) (ground : IsGrou
           let fit = fits p [] p.joints (joint d e) right here in absurd (caller_not j e (serves fit.0 fit.1) fit.3 at_e)
       by_sides (inr (h, le, at_a, at_b)) (inr (g, ge, at_g, at_c)) = absurd (cc at_g)
       by_sides (inr (h, le, at_a, at_b)) (inl behind) =
-          let same = shake_of number (count p.outcome + c * count p.outcome + j) number (count p.outcome + c * count p.outcome + h) at_b in
+          let same = same_shake number (count p.outcome + c * count p.outcome + j) number (count p.outcome + c * count p.outcome + h) at_b in
           let e : h ≡ j = omega (arith, same) in
           with_server (at_a ∙ ap ResultEnd e) behind
 
@@ -498,15 +473,15 @@ module _ (c : ℕ) (p : Plan) (two : c < 2) (right : IsRight p) (ground : IsGrou
       here = at_end
 
       not_behind : (e : End) (x : Contact) → contact_at p e ≡ Some x → (caller_end number p.outcome (1 - c) j) ≡ end_behind number e → ⊥
-      not_behind (PartEnd l g) x there e = known_part l g x there (sym (part_of number (count p.outcome + (1 - c) * count p.outcome + j) l g e))
+      not_behind (PartEnd l g) x there e = known_part l g x there (sym (same_part number (count p.outcome + (1 - c) * count p.outcome + j) l g e))
       not_behind (ImportEnd l g) x there e = cc e
       not_behind (ResultEnd g) x there e =
           let within = result_within g x there in
-          let same = shake_of number (count p.outcome + (1 - c) * count p.outcome + j) number g e in
+          let same = same_shake number (count p.outcome + (1 - c) * count p.outcome + j) number g e in
           omega (arith, same, within)
 
       not_caller : (h : ℕ) → h < count p.outcome → (caller_end number p.outcome (1 - c) j) ≡ caller_end number p.outcome c h → ⊥
-      not_caller h le e = apart_callers (count p.outcome) c j h two lt le (shake_of number (count p.outcome + (1 - c) * count p.outcome + j) number (count p.outcome + c * count p.outcome + h) e)
+      not_caller h le e = apart_callers (count p.outcome) c j h two lt le (same_shake number (count p.outcome + (1 - c) * count p.outcome + j) number (count p.outcome + c * count p.outcome + h) e)
 
       either : (a b : End) → (stands_in (caller_end number p.outcome (1 - c) j) (joint a b)) ≡ true → ((caller_end number p.outcome (1 - c) j) ≡ a) ⊎ ((caller_end number p.outcome (1 - c) j) ≡ b)
       either a b t = either_end (caller_end number p.outcome (1 - c) j) a b t

@@ -12,7 +12,7 @@ use Rattle.gos_types.specs.declared.shakes.Role.{Role}
 use Rattle.gos_types.specs.declared.shakes.Role.TheVariants.{Serve}
 use Rattle.gos_plan.specs.Kinds.{Contact, asks, serves, Part, Share, contacts_of}
 use Rattle.gos_plan.specs.Plans.{End, PartEnd, ImportEnd, ResultEnd, Plan, contact_at, IsRight}
-use Rattle.gos_plan.proofs.JointLemmas.{IsIn, fits, contained}
+use Rattle.gos_plan.proofs.JointLemmas.{IsIn, fits, contained, same_part, same_shake}
 use Rattle.gos_realises.specs.realises.Regular.{count}
 use Rattle.gos_joining.specs.webs.Webs.{joint}
 use Rattle.gos_joining.specs.webs.Cutting.{StandsIn}
@@ -22,7 +22,7 @@ use Rattle.gos_sharing.proofs.sharing.SeenTokenLemmas.{either_end}
 use Rattle.gos_sharing.specs.buffers.Buffers.{IsBuffer}
 use Rattle.gos_sharing.specs.buffers.Buffering.{with_part, end_behind, buffered, ResultIsJoined}
 use Rattle.gos_sharing.proofs.buffers.GroundLemmas.{ground_serves}
-use Rattle.gos_sharing.proofs.buffers.BufferedLemmas.{part_of, shake_of, apart_callers, known_part, result_asks, result_within, server_outside, caller_not, Behind, OfCallers, of_whole, behind_in, caller_in, outside_behind, source_behind, stands_asking}
+use Rattle.gos_sharing.proofs.buffers.BufferedLemmas.{apart_callers, known_part, result_asks, result_within, server_outside, caller_not, Behind, OfCallers, of_whole, behind_in, caller_in, outside_behind, source_behind, stands_asking}
 
 -- an end that isn't the result's
 abbrev pub IsPlain : End → Type 0
@@ -203,7 +203,7 @@ module _
       by_kinds (inl here) other = absurd (in_plan here)
       by_kinds (inr (inr here)) other = absurd (own.serving first number a (caller_end number p.outcome c j) before_first here refl)
       by_kinds (inr (inl (at_a, at_b))) (inl here) =
-          let same = shake_of number (count p.outcome + c * count p.outcome + j) number (count p.outcome + c * count p.outcome + v) at_b in
+          let same = same_shake number (count p.outcome + c * count p.outcome + j) number (count p.outcome + c * count p.outcome + v) at_b in
           (at_a, source_plan (omega (arith, same)) here)
       by_kinds (inr (inl one)) (inr (inl (at_a, at_b))) = absurd (first_apart f (subst (λ (x : End). IsOfPart number x) at_a refl))
       by_kinds (inr (inl one)) (inr (inr here)) = absurd (own.asking first number (source_end number j) b before_first here refl)
@@ -258,12 +258,12 @@ module _
 
       by_asker : (d e : End) → IsIn (joint d e) p.joints → PartEnd number h ≡ end_behind number d → ⊥
       by_asker (PartEnd i g) e here at =
-          let fit = fits p [] p.joints (joint (PartEnd i g) e) right here in known_part c p two right ground i g (asks fit.0 fit.1) fit.2 (sym (part_of number h i g at))
+          let fit = fits p [] p.joints (joint (PartEnd i g) e) right here in known_part c p two right ground i g (asks fit.0 fit.1) fit.2 (sym (same_part number h i g at))
       by_asker (ImportEnd i g) e here at = cc at
       by_asker (ResultEnd g) e here at =
           let fit = fits p [] p.joints (joint (ResultEnd g) e) right here in
           let lt = result_within c p two right ground g (asks fit.0 fit.1) fit.2 in
-          let same = shake_of number h number g at in
+          let same = same_shake number h number g at in
           omega (arith, same, lt, low)
 
       by_kind : InPlan k.asking k.serving ⊎ Driving k.asking k.serving ⊎ Own first k.asking k.serving → h ≡ count p.outcome + c * count p.outcome + v
@@ -275,7 +275,7 @@ module _
       by_kind (inr (inl (at_a, at_b))) =
           elim either [
             | inl one ↦ absurd (first_apart f (subst (λ (x : End). IsOfPart number x) (one ∙ at_a) refl))
-            | inr one ↦ shake_of number h number (count p.outcome + c * count p.outcome + v) (one ∙ at_b)
+            | inr one ↦ same_shake number h number (count p.outcome + c * count p.outcome + v) (one ∙ at_b)
           ]
       by_kind (inr (inr here)) =
           elim either [

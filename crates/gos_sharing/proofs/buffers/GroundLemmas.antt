@@ -1,7 +1,7 @@
 -- The Share of a ground type: its handshakes, the tokens that it takes, and the branch that it is left at.
-use Rattle.std.specs.Prelude.{◌+◌, ◌*◌, ◌<◌, None, slice_get}
+use Rattle.std.specs.Prelude.{◌+◌, ◌*◌, ◌<◌, slice_get}
 use Rattle.std.proofs.Common.{◌≡◌, ℕ, zero, suc, List, [], ◌∷◌, Some, inl, inr, refl, sym, ◌∙◌, ap, subst, arith}
-use Rattle.std.proofs.lemmas.Option.{slice_get_within}
+use Rattle.std.proofs.lemmas.Option.{slice_get_within, none-some}
 use Rattle.gos_types.specs.Types.{Type', Com, Exp, Var, Pair, Fun, IsGround}
 use Rattle.gos_types.specs.declared.shakes.Role.{Role}
 use Rattle.gos_types.specs.declared.shakes.Role.TheVariants.{Serve, Ask}
@@ -71,9 +71,6 @@ next_rests t c two x slot row v by for =
 abbrev pub OfCaller : Type' → ℕ → Type 0
 OfCaller t h = (b : ℕ) × (j : ℕ) × (b < 2) × (j < count t) × (h ≡ count t + b * count t + j)
 
-no_contact : (k : Contact) → None ≡ Some k → ⊥
-no_contact k e = cc e
-
 asks_or_serves : (k : Contact) (q a : ℕ) → Some (asks q a) ≡ Some k → k.role ≡ Serve → ⊥
 asks_or_serves k q a there role = cc (there, role)
 
@@ -84,18 +81,18 @@ pub source_asks : (t : Type') (h : ℕ) (k : Contact) → IsGround t → slice_g
 source_asks Com zero k g there role = omega arith
 source_asks Com (suc zero) k g there role = absurd (serves_or_asks k 0 0 there role)
 source_asks Com (suc (suc zero)) k g there role = absurd (serves_or_asks k 0 0 there role)
-source_asks Com (suc (suc (suc h))) k g there role = absurd (no_contact k there)
+source_asks Com (suc (suc (suc h))) k g there role = absurd (none-some k there)
 source_asks (Exp w) zero k g there role = omega arith
 source_asks (Exp w) (suc zero) k g there role = absurd (serves_or_asks k 0 w there role)
 source_asks (Exp w) (suc (suc zero)) k g there role = absurd (serves_or_asks k 0 w there role)
-source_asks (Exp w) (suc (suc (suc h))) k g there role = absurd (no_contact k there)
+source_asks (Exp w) (suc (suc (suc h))) k g there role = absurd (none-some k there)
 source_asks (Var w) zero k g there role = omega arith
 source_asks (Var w) (suc zero) k g there role = omega arith
 source_asks (Var w) (suc (suc zero)) k g there role = absurd (serves_or_asks k 0 w there role)
 source_asks (Var w) (suc (suc (suc zero))) k g there role = absurd (serves_or_asks k w 0 there role)
 source_asks (Var w) (suc (suc (suc (suc zero)))) k g there role = absurd (serves_or_asks k 0 w there role)
 source_asks (Var w) (suc (suc (suc (suc (suc zero))))) k g there role = absurd (serves_or_asks k w 0 there role)
-source_asks (Var w) (suc (suc (suc (suc (suc (suc h)))))) k g there role = absurd (no_contact k there)
+source_asks (Var w) (suc (suc (suc (suc (suc (suc h)))))) k g there role = absurd (none-some k there)
 source_asks (Pair a b) h k g there role = absurd g
 source_asks (Fun a b) h k g there role = absurd g
 
@@ -103,18 +100,18 @@ pub callers_serve : (t : Type') (h : ℕ) (k : Contact) → IsGround t → slice
 callers_serve Com zero k g there role = absurd (asks_or_serves k 0 0 there role)
 callers_serve Com (suc zero) k g there role = (0, 0, omega arith, omega arith, refl)
 callers_serve Com (suc (suc zero)) k g there role = (1, 0, omega arith, omega arith, refl)
-callers_serve Com (suc (suc (suc h))) k g there role = absurd (no_contact k there)
+callers_serve Com (suc (suc (suc h))) k g there role = absurd (none-some k there)
 callers_serve (Exp w) zero k g there role = absurd (asks_or_serves k 0 w there role)
 callers_serve (Exp w) (suc zero) k g there role = (0, 0, omega arith, omega arith, refl)
 callers_serve (Exp w) (suc (suc zero)) k g there role = (1, 0, omega arith, omega arith, refl)
-callers_serve (Exp w) (suc (suc (suc h))) k g there role = absurd (no_contact k there)
+callers_serve (Exp w) (suc (suc (suc h))) k g there role = absurd (none-some k there)
 callers_serve (Var w) zero k g there role = absurd (asks_or_serves k 0 w there role)
 callers_serve (Var w) (suc zero) k g there role = absurd (asks_or_serves k w 0 there role)
 callers_serve (Var w) (suc (suc zero)) k g there role = (0, 0, omega arith, omega arith, refl)
 callers_serve (Var w) (suc (suc (suc zero))) k g there role = (0, 1, omega arith, omega arith, refl)
 callers_serve (Var w) (suc (suc (suc (suc zero)))) k g there role = (1, 0, omega arith, omega arith, refl)
 callers_serve (Var w) (suc (suc (suc (suc (suc zero))))) k g there role = (1, 1, omega arith, omega arith, refl)
-callers_serve (Var w) (suc (suc (suc (suc (suc (suc h)))))) k g there role = absurd (no_contact k there)
+callers_serve (Var w) (suc (suc (suc (suc (suc (suc h)))))) k g there role = absurd (none-some k there)
 callers_serve (Pair a b) h k g there role = absurd g
 callers_serve (Fun a b) h k g there role = absurd g
 

@@ -3,14 +3,14 @@ use Rattle.std.specs.Prelude.{◌⊎◌, ◌+◌, ◌*◌, ◌<◌, ◌≤◌, �
 use Rattle.std.proofs.Common.{◌≡◌, ℕ, zero, suc, Bool, true, false, List, [], ◌∷◌, ◌++◌, Option, Some, Contains, inl, inr, refl, sym, ◌∙◌, ap, subst, arith}
 use Rattle.std.proofs.lemmas.Bool.Decides.{nat_tests}
 use Rattle.std.proofs.lemmas.List.{length-append}
-use Rattle.std.proofs.lemmas.Option.{slice_get_past}
+use Rattle.std.proofs.lemmas.Option.{slice_get_past, none-some}
 use Rattle.gos_types.specs.Types.{Type', IsGround}
 use Rattle.gos_model.specs.Typing.{Imported}
 use Rattle.gos_plan.specs.Kinds.{Contact, asks, serves, Part, Share, contacts_of, turned_contact}
 use Rattle.gos_plan.specs.Plans.{End, PartEnd, ImportEnd, ResultEnd, Joint, Plan, contact_at, contacts_of_part, contacts_of_import, turned_if, stands_in, is_free, IsRight}
 use Rattle.gos_plan.specs.Joining.{Place, place, Link, Wiring, is_joined, origin, JoinedWithin, Linked, Path, IsJoining}
 use Rattle.gos_plan.specs.Orderly.{handshake_at}
-use Rattle.gos_plan.proofs.JointLemmas.{IsIn, fits, contained}
+use Rattle.gos_plan.proofs.JointLemmas.{IsIn, fits, contained, apart_is_not_same, same_shake}
 use Rattle.gos_plan.proofs.AskingLemmas.{source_at}
 use Rattle.gos_realises.specs.realises.Regular.{count}
 use Rattle.gos_realises.specs.realises.Links.{LinkFits, StandsIn, LinksFit}
@@ -20,14 +20,14 @@ use Rattle.gos_joining.proofs.webs.MovedLemmas.{listed}
 use Rattle.gos_sharing.specs.sharing.Sharing.{source_end, caller_end, IsOfPart}
 use Rattle.gos_sharing.specs.buffers.Buffering.{end_behind, buffered, lone_share, sources_linked, buffering, BufferedIsJoined}
 use Rattle.gos_sharing.proofs.buffers.GroundLemmas.{ground_serves}
-use Rattle.gos_sharing.proofs.buffers.BufferedLemmas.{no_some, neither, differ, shake_of, later, free_of, in_callers, callers_in, known_part, result_within, server_outside, Behind, OfCallers, of_whole, behind_in, caller_in, whole_right}
+use Rattle.gos_sharing.proofs.buffers.BufferedLemmas.{neither, later, free_of, in_callers, callers_in, known_part, result_within, server_outside, Behind, OfCallers, of_whole, behind_in, caller_in, whole_right}
 use Rattle.gos_sharing.proofs.buffers.KeptLemmas.{joint_keeps, link_keeps}
 use Rattle.gos_sharing.proofs.buffers.HousedLemmas.{one_handshake, housed_joining}
 use Rattle.gos_sharing.proofs.buffers.AttachedLemmas.{Attached, plan_imports, part_first, part_later, at_import, at_result, plain_origin, one_step}
 
 -- the links
 link_at : (n m k : ℕ) (l : Link) → slice_get (sources_linked n m) k ≡ Some l → (k < m) × (l ≡ link 0 (ResultEnd (n + k)) 1 (source_end 0 (n + k)))
-link_at n zero k l is = absurd (no_some l is)
+link_at n zero k l is = absurd (none-some l is)
 link_at n (suc m) zero l is =
     let same : link 0 (ResultEnd n) 1 (source_end 0 n) ≡ l = cc is in
     let e : n ≡ n + 0 = omega arith in
@@ -125,7 +125,7 @@ module _ (c : ℕ) (p : Plan) (two : c < 2) (right : IsRight p) (ground : IsGrou
       let (h, lt, le, e) = in_callers 0 p.outcome c 0 (count p.outcome) j (contained share.joints j (subst (λ (x : Plan). Contains x.joints j) (sym same) has)) in
       subst (λ (x : Joint). handshake_at whole (home_in number 1 x.asking) ≡ handshake_at whole (home_in number 1 x.serving)) (sym e)
       (given (ResultEnd h) (caller_end number p.outcome c h) (caller_in c p two right ground h (omega (arith, lt))))
-  of_plan (suc (suc k)) q is j has = absurd (no_some q is)
+  of_plan (suc (suc k)) q is j has = absurd (none-some q is)
 
   within : (a b : Place) → JoinedWithin wiring a b → handshake_at whole (home_at number a) ≡ handshake_at whole (home_at number b)
   within = joint_keeps End (λ k e. handshake_at whole (home_in number k e)) wiring of_plan
@@ -154,11 +154,11 @@ module _ (c : ℕ) (p : Plan) (two : c < 2) (right : IsRight p) (ground : IsGrou
       by_order false t false u =
           let low : number ≤ i = grind (arith, nat_tests, t) in
           let none = slice_get_past (p.parts ++ (Share p.outcome ∷ [])) i (one_longer p.parts (Share p.outcome) i (later i number low u)) in
-          absurd (no_some k (sym (ap (λ x. slice_get (contacts_of_part x) h) none) ∙ there))
+          absurd (none-some k (sym (ap (λ x. slice_get (contacts_of_part x) h) none) ∙ there))
   origins (ImportEnd i h) k there = by_import (slice_get p.imports i) refl
     where
       by_import : (o : Option Imported) → slice_get p.imports i ≡ o → home_at number (origin wiring (ImportEnd i h)) ≡ ImportEnd i h
-      by_import None e = absurd (no_some k (sym (ap (λ x. slice_get (contacts_of_import x) h) e) ∙ there))
+      by_import None e = absurd (none-some k (sym (ap (λ x. slice_get (contacts_of_import x) h) e) ∙ there))
       by_import (Some x) e = ap (home_at number) (at_import base i h x e)
   origins (ResultEnd h) k there = ap (home_at number) (at_result base h)
 
@@ -253,7 +253,7 @@ source_free t c h lt = free_of (source_end 0 h) (lone_share t c).joints none
     none j here =
         let (g, within, le, e) = in_callers 0 t c 0 (count t) j here in
         subst (λ (x : Joint). stands_in (source_end 0 h) x ≡ false) (sym e)
-        (differ (source_end 0 h) (caller_end 0 t c g) (λ same. let n = shake_of 0 h 0 (count t + c * count t + g) same in omega (arith, n, lt)))
+        (apart_is_not_same (source_end 0 h) (caller_end 0 t c g) (λ same. let n = same_shake 0 h 0 (count t + c * count t + g) same in omega (arith, n, lt)))
 
 abbrev the_link : ℕ → Link
 the_link h = link 0 (ResultEnd h) 1 (source_end 0 h)
@@ -285,7 +285,7 @@ links_fit c p two right ground = record { right = rights; each = each; once = on
     rights : (k : ℕ) (x : Plan) → slice_get (buffering p.outcome c p).plans k ≡ Some x → IsRight x
     rights zero x is = let same : p ≡ x = cc is in subst IsRight same right
     rights (suc zero) x is = let same : lone_share p.outcome c ≡ x = cc is in subst IsRight same (lone_right p.outcome c two ground)
-    rights (suc (suc k)) x is = absurd (no_some x is)
+    rights (suc (suc k)) x is = absurd (none-some x is)
 
     each : (k : ℕ) (l : Link) → slice_get (sources_linked 0 (count p.outcome)) k ≡ Some l → LinkFits (buffering p.outcome c p) l
     each k l is =

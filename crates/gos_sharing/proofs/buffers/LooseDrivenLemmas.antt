@@ -2,9 +2,11 @@
 use Rattle.std.specs.Prelude.{◌↔◌, ◌⊎◌, ◌+◌, ◌-◌, ◌<◌, ◌≤◌, None, nat_eq, nat_lt, slice_get, length}
 use Rattle.std.proofs.Common.{◌≡◌, ℕ, suc, Bool, true, false, List, [], ◌∷◌, ◌++◌, Option, Some, Contains, inl, inr, refl, sym, ◌∙◌, ap, subst, arith, if◌then◌else◌}
 use Rattle.std.proofs.lemmas.Bool.Decides.{nat_tests}
-use Rattle.std.proofs.lemmas.Option.{slice_get_past}
+use Rattle.std.proofs.lemmas.Option.{slice_get_past, none-some}
 use Rattle.std.proofs.lemmas.List.{length-append}
+use Rattle.std.proofs.lemmas.Bool.{lt-ltb, le-ltb}
 use Rattle.gos_model.specs.Terms.{Term}
+use Rattle.gos_model.proofs.NumberLemmas.{nat_eq_itself, nat_eq_above}
 use Rattle.gos_plan.specs.Kinds.{Contact, asks, serves, Part}
 use Rattle.gos_plan.specs.Plans.{End, PartEnd, ImportEnd, ResultEnd, Plan, contact_at, contacts_of_part, IsRight}
 use Rattle.gos_plan.specs.Tokens.{places_of}
@@ -12,13 +14,12 @@ use Rattle.gos_plan.proofs.JointLemmas.{IsIn, found, fits, contained}
 use Rattle.gos_realises.specs.realises.Regular.{IsRegular}
 use Rattle.gos_realises.specs.realises.Matched.{RealisesDone}
 use Rattle.gos_realises.specs.realises.Renumbered.{moved, moved_if, IsRenumbered}
-use Rattle.gos_realises.proofs.realises.RenumberLemmas.{renumbering_keeps}
+use Rattle.gos_realises.proofs.realises.RenumberLemmas.{renumbering_keeps, moved_twice}
 use Rattle.gos_joining.specs.webs.Webs.{joint}
 use Rattle.gos_joining.proofs.webs.MovedLemmas.{listed}
 use Rattle.gos_sharing.proofs.sharing.SeenTokenLemmas.{either_end, place_asking, place_serving}
 use Rattle.gos_sharing.specs.buffers.Buffering.{with_part}
 use Rattle.gos_sharing.proofs.buffers.LoosePartLemmas.{with_part_right, loose_part_is_free}
-use Rattle.gos_sharing.proofs.buffers.BufferedLemmas.{no_some}
 use Rattle.gos_sharing.proofs.buffers.DrivenLemmas.{IsPlain, DrivenJoint, IsDriven, before_end, past_end, one_longer}
 
 -- Number n goes behind the m numbers after it, which come one forward; and back.
@@ -28,41 +29,29 @@ forth n m i = if nat_lt i n then i else if nat_eq i n then n + m else if nat_lt 
 abbrev pub back : ℕ → ℕ → ℕ → ℕ
 back n m i = if nat_lt i n then i else if nat_lt i (n + m) then suc i else if nat_eq i (n + m) then n else i
 
-less : (i n : ℕ) → i < n → nat_lt i n ≡ true
-less i n l = grind (arith, nat_tests)
-
-not_less : (i n : ℕ) → n ≤ i → nat_lt i n ≡ false
-not_less i n l = grind (arith, nat_tests)
-
-not_same : (i n : ℕ) → n < i → nat_eq i n ≡ false
-not_same i n l = grind (arith, nat_tests)
-
-same_self : (n : ℕ) → nat_eq n n ≡ true
-same_self n = grind (arith, nat_tests)
-
 forth_low : (n m i : ℕ) → i < n → forth n m i ≡ i
-forth_low n m i l = rw (less i n l) refl
+forth_low n m i l = rw (lt-ltb i n l) refl
 
 forth_at : (n m : ℕ) → forth n m n ≡ n + m
-forth_at n m = rw (not_less n n (omega arith), same_self n) refl
+forth_at n m = rw (le-ltb n n (omega arith), nat_eq_itself n) refl
 
 pub forth_mid : (n m i : ℕ) → n < i → i ≤ n + m → forth n m i ≡ i - 1
-forth_mid n m i l k = rw (not_less i n (omega (arith, l)), not_same i n l, not_less (n + m) i k) refl
+forth_mid n m i l k = rw (le-ltb i n (omega (arith, l)), nat_eq_above i n l, le-ltb (n + m) i k) refl
 
 forth_high : (n m i : ℕ) → n + m < i → forth n m i ≡ i
-forth_high n m i l = rw (not_less i n (omega (arith, l)), not_same i n (omega (arith, l)), less (n + m) i l) refl
+forth_high n m i l = rw (le-ltb i n (omega (arith, l)), nat_eq_above i n (omega (arith, l)), lt-ltb (n + m) i l) refl
 
 back_low : (n m i : ℕ) → i < n → back n m i ≡ i
-back_low n m i l = rw (less i n l) refl
+back_low n m i l = rw (lt-ltb i n l) refl
 
 pub back_mid : (n m i : ℕ) → n ≤ i → i < n + m → back n m i ≡ suc i
-back_mid n m i l k = rw (not_less i n l, less i (n + m) k) refl
+back_mid n m i l k = rw (le-ltb i n l, lt-ltb i (n + m) k) refl
 
 back_at : (n m : ℕ) → back n m (n + m) ≡ n
-back_at n m = rw (not_less (n + m) n (omega arith), not_less (n + m) (n + m) (omega arith), same_self (n + m)) refl
+back_at n m = rw (le-ltb (n + m) n (omega arith), le-ltb (n + m) (n + m) (omega arith), nat_eq_itself (n + m)) refl
 
 back_high : (n m i : ℕ) → n + m < i → back n m i ≡ i
-back_high n m i l = rw (not_less i n (omega (arith, l)), not_less i (n + m) (omega (arith, l)), not_same i (n + m) l) refl
+back_high n m i l = rw (le-ltb i n (omega (arith, l)), le-ltb i (n + m) (omega (arith, l)), nat_eq_above i (n + m) l) refl
 
 -- below, at, among the next, or beyond
 by_place : (P : ℕ → Type 0) (n m i : ℕ) → (i < n → P i) → (i ≡ n → P i) → (n < i → i ≤ n + m → P i) → (n + m < i → P i) → P i
@@ -140,11 +129,6 @@ moved_parts xs ds k i =
         ∙ (slice_get_past ((xs ++ ds) ++ (k ∷ [])) i (omega (arith, l, one, both)) ∙ sym (slice_get_past ((xs ++ (k ∷ [])) ++ ds) i (omega (arith, l, other, longer))))
 
 -- places, where joints are moved
-pub moved_back : (f g : ℕ → ℕ) → ((i : ℕ) → g (f i) ≡ i) → (e : End) → moved g (moved f e) ≡ e
-moved_back f g back (PartEnd i h) = ap (λ j. PartEnd j h) (back i)
-moved_back f g back (ImportEnd i h) = refl
-moved_back f g back (ResultEnd h) = refl
-
 abbrev JointsMoved : (ℕ → ℕ) → Plan → Plan → Type 0
 JointsMoved f p q = (a b : End) → Contains p.joints (joint a b) ↔ Contains q.joints (joint (moved f a) (moved f b))
 
@@ -163,12 +147,12 @@ moved_places f g returns comes p q right also_right same e = by_place (places_of
     of_joint : (x y : End) → IsIn (joint x y) q.joints → (moved f e ≡ x) ⊎ (moved f e ≡ y) → places_of p e ≡ Some (moved g x)
     of_joint x y here side =
         let moved_in : Contains q.joints (joint (moved f (moved g x)) (moved f (moved g y))) =
-        subst (λ (a : End). Contains q.joints (joint a (moved f (moved g y)))) (sym (moved_back g f comes x))
-        (subst (λ (b : End). Contains q.joints (joint x b)) (sym (moved_back g f comes y)) (listed q.joints (joint x y) here)) in
+        subst (λ (a : End). Contains q.joints (joint a (moved f (moved g y)))) (sym (moved_twice g f comes x))
+        (subst (λ (b : End). Contains q.joints (joint x b)) (sym (moved_twice g f comes y)) (listed q.joints (joint x y) here)) in
         let there = contained p.joints (joint (moved g x) (moved g y)) ((same (moved g x) (moved g y)).1 moved_in) in
         elim side [
-          | inl at ↦ ap (places_of p) (sym (moved_back f g returns e) ∙ ap (moved g) at) ∙ place_asking p (moved g x) (moved g y) right there
-          | inr at ↦ ap (places_of p) (sym (moved_back f g returns e) ∙ ap (moved g) at) ∙ place_serving p (moved g x) (moved g y) right there
+          | inl at ↦ ap (places_of p) (sym (moved_twice f g returns e) ∙ ap (moved g) at) ∙ place_asking p (moved g x) (moved g y) right there
+          | inr at ↦ ap (places_of p) (sym (moved_twice f g returns e) ∙ ap (moved g) at) ∙ place_serving p (moved g x) (moved g y) right there
         ]
 
     none_there : places_of p e ≡ None → (o : Option End) → places_of q (moved f e) ≡ o → o ≡ None
@@ -212,7 +196,7 @@ module _
       by_test true e = grind (arith, nat_tests, e)
       by_test false e =
           let none = slice_get_past p.parts i (grind (arith, nat_tests, e)) in
-          absurd (no_some c (sym (ap (λ x. slice_get (contacts_of_part x) h) none) ∙ there))
+          absurd (none-some c (sym (ap (λ x. slice_get (contacts_of_part x) h) none) ∙ there))
 
   own_stays : (e : End) (c : Contact) → contact_at p e ≡ Some c → moved onto e ≡ e
   own_stays (PartEnd i h) c there = ap (λ j. PartEnd j h) (forth_low number (length ds) i (known_low i h c there))
@@ -222,7 +206,7 @@ module _
   -- and so does what is moved onto one of them
   own_before : (e d : End) (c : Contact) → contact_at p d ≡ Some c → moved onto e ≡ d → e ≡ d
   own_before e d c there at =
-      sym (moved_back onto from (returns number (length ds)) e) ∙ (ap (moved from) (at ∙ sym (own_stays d c there)) ∙ moved_back onto from (returns number (length ds)) d)
+      sym (moved_twice onto from (returns number (length ds)) e) ∙ (ap (moved from) (at ∙ sym (own_stays d c there)) ∙ moved_twice onto from (returns number (length ds)) d)
 
   first_moves : moved onto (PartEnd (suc number) f) ≡ PartEnd number f
   first_moves =
@@ -269,8 +253,8 @@ module _
   off a b (inr (inl (at_a, here))) =
       let fit = fits p [] p.joints (joint (ResultEnd v) (moved onto b)) right here in
       inr (inl (
-        sym (moved_back onto from (returns number (length ds)) a)
-            ∙ (ap (moved from) (at_a ∙ sym first_moves) ∙ moved_back onto from (returns number (length ds)) (PartEnd (suc number) f)),
+        sym (moved_twice onto from (returns number (length ds)) a)
+            ∙ (ap (moved from) (at_a ∙ sym first_moves) ∙ moved_twice onto from (returns number (length ds)) (PartEnd (suc number) f)),
         subst (λ (x : End). IsIn (joint (ResultEnd v) x) p.joints) (sym (own_before b (moved onto b) (serves fit.0 fit.1) fit.3 refl)) here,
       ))
   off a b (inr (inr here)) = inr (inr ((later number a b).1 here))

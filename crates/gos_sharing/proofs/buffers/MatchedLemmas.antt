@@ -4,7 +4,6 @@
 -- is matched by no move. Where what is seen is idle, nothing waits at the Share.
 use Rattle.std.specs.Prelude.{◌⊎◌, ◌+◌, ◌*◌, ◌-◌, ◌<◌, ◌≢◌, ◌&&◌, None, nat_eq, slice_get}
 use Rattle.std.proofs.Common.{◌≡◌, ℕ, Bool, true, false, List, [], ◌∷◌, ◌++◌, Option, Some, Contains, inl, inr, refl, sym, ◌∙◌, ap, subst, arith, if◌then◌else◌}
-use Rattle.std.proofs.lemmas.List.{append_assoc}
 use Rattle.gos_types.specs.Types.{Type'}
 use Rattle.gos_types.specs.Handshakes.{turned}
 use Rattle.gos_types.specs.declared.shakes.Role.{Role}
@@ -19,10 +18,11 @@ use Rattle.gos_plan.specs.Plans.{End, PartEnd, ImportEnd, ResultEnd, Plan, conta
 use Rattle.gos_plan.specs.Firing.{Rest, State, at, Slot, Req, Ans, Token, put, Row}
 use Rattle.gos_plan.specs.Tokens.{Tokens, Element, Fire, Out, In, places_of, same_way, with_held, token_at, end_of, way_of, shake_of, way_taken, way_put, firing_of, with_token, with_state, with_puts, Passes, Does, IsIdle}
 use Rattle.gos_plan.specs.Orderly.{Open, none_open, ComesInOrder, AllWelcome, OrderlyFrom, IsOrderly}
-use Rattle.gos_plan.proofs.JointLemmas.{IsIn, same_is, found, fits, contained, stands_there}
+use Rattle.gos_plan.proofs.JointLemmas.{IsIn, same_is, fits, contained, stands_there}
 use Rattle.gos_plan.proofs.RowLemmas.{role_taking}
 use Rattle.gos_plan.proofs.AskingLemmas.{RoleIs, row_roles, source_at}
 use Rattle.gos_plan.proofs.DecidedLemmas.{one_state}
+use Rattle.gos_plan.proofs.ContactLemmas.{part_contact}
 use Rattle.gos_realises.specs.realises.Regular.{count, way_in, way_out}
 use Rattle.gos_realises.specs.realises.Matched.{port_if, event_number, label_at, shows, all_shown, asks_on, GoesOn, Agrees, IsMatched, program_of}
 use Rattle.gos_joining.specs.webs.Webs.{joint}
@@ -40,10 +40,12 @@ use Rattle.gos_sharing.proofs.sharing.SeenElementLemmas.{fire_too, out_too, in_t
 use Rattle.gos_sharing.proofs.sharing.SeenRunLemmas.{share_kept, runs_are_seen}
 use Rattle.gos_sharing.proofs.sharing.SeenQuietLemmas.{quiet_here}
 use Rattle.gos_sharing.specs.buffers.Buffers.{IsBuffer, BufferedRealises}
-use Rattle.gos_sharing.proofs.buffers.BranchLemmas.{Branch, one_of_two, contact_of, caller_shake, source_shake, stands, for_one, share_leaves, fire_leaves, out_leaves, in_leaves, branch_step, works_for_one}
+use Rattle.gos_sharing.proofs.buffers.BranchLemmas.{Branch, one_of_two, caller_shake, source_shake, for_one, share_leaves, fire_leaves, out_leaves, in_leaves, branch_step, works_for_one, place_stands}
 use Rattle.gos_sharing.proofs.buffers.GroundLemmas.{OfCaller, ground_serves}
 use Rattle.gos_sharing.proofs.buffers.RegularLemmas.{same_number, outside_share, same_state, same_row, beside_first, orderly_from_idle}
 use Rattle.gos_realises.proofs.realises.IdleLemmas.{idle_welcome}
+use Rattle.gos_realises.proofs.realises.MatchedLemmas.{matched_agrees, shown_then}
+use Rattle.gos_joining.proofs.webs.CutLemmas.{asker_asks}
 
 -- nothing lies where there is no joint
 abbrev pub Nowhere : Plan → Tokens → Type 0
@@ -58,14 +60,9 @@ unplaced s way w (Some d) held e apart h = by_test (same_way w way) (same_end e 
     by_test true false k = h
     by_test false y k = h
 
-names_ask : (p : Plan) (d e : End) → places_of p d ≡ Some e → asks_in p.joints e ≡ true
-names_ask p d e there =
-    let f = found p.joints d e there in
-    asks_so p.joints e f.joint.serving (subst (λ (x : End). IsIn (joint x f.joint.serving) p.joints) f.named f.is_in)
-
 nowhere_token : (p : Plan) (d : End) (way : Direction) (held : Option ℕ) (s : Tokens) → Nowhere p s → Nowhere p (with_token p d way held s)
 nowhere_token p d way held s nowhere w e out =
-    unplaced s way w (places_of p d) held e (λ h. let clash : true ≡ false = sym (names_ask p d e h) ∙ out in cc clash) (nowhere w e out)
+    unplaced s way w (places_of p d) held e (λ h. let clash : true ≡ false = sym (asker_asks p d e h) ∙ out in cc clash) (nowhere w e out)
 
 nowhere_puts : (p : Plan) (k : ℕ) (xs : List Token) (s : Tokens) → Nowhere p s → Nowhere p (with_puts p k xs s)
 nowhere_puts p k [] s nowhere = nowhere
@@ -98,7 +95,7 @@ record Leading (i : ℕ) (t : Type') (c : ℕ) (r q : Plan) (j : ℕ) (a : End) 
   pub onto : next i t c r a ≡ Some (source_end i j)
 
 leading : (i : ℕ) (t : Type') (c : ℕ) (r q : Plan) → IsBuffer i t c r q → (j : ℕ) → j < count t → (a : End) → IsIn (joint a (caller_end i t c j)) r.joints → Leading i t c r q j a
-leading i t c r q is j lt a into = of_joint (is.goes_on j lt (stands r (caller_end i t c j) a (place_serving r a (caller_end i t c j) is.seen.right into)))
+leading i t c r q is j lt a into = of_joint (is.goes_on j lt (place_stands r (caller_end i t c j) a (place_serving r a (caller_end i t c j) is.seen.right into)))
   where
     contact : (k : Contact) × (slice_get (contacts_of t) j ≡ Some k) × (k.role ≡ Serve)
     contact = ground_serves t j is.ground lt
@@ -162,7 +159,7 @@ of_share i (ResultEnd h) = inl (λ of. of)
 
 role_by : (r : Plan) (i h : ℕ) (p : Part) (k : Contact) → slice_get r.parts i ≡ Some p → contact_at r (PartEnd i h) ≡ Some k → RoleIs p h k.role
 role_by r i h p k at_i there d also =
-    let both : Some k ≡ Some d = sym there ∙ (contact_of r i h p at_i ∙ also) in
+    let both : Some k ≡ Some d = sym there ∙ (part_contact r i h p at_i ∙ also) in
     let same : k ≡ d = cc both in ap (λ (x : Contact). x.role) (sym same)
 
 places_idle : (i : ℕ) (t : Type') (c : ℕ) (r q : Plan) → IsBuffer i t c r q → (o : Open) (s : Tokens) → Carried i t c r q o s
@@ -191,7 +188,7 @@ places_idle i t c r q is o s carried empty way e = by_asks (asks_in r.joints e) 
             of_seen a (leading i t c r q is j lt a (subst (λ (n : ℕ). IsIn (joint a (PartEnd i n)) r.joints) same into)).asks
         of_number b j lt e (inr other) =
             let same : h ≡ count t + (1 - c) * count t + j = e ∙ ap (λ x. count t + x * count t + j) other in
-            absurd (is.alone j lt (subst (λ (n : ℕ). StandsIn r (PartEnd i n)) same (stands r (PartEnd i h) a (place_serving r a (PartEnd i h) is.seen.right into))))
+            absurd (is.alone j lt (subst (λ (n : ℕ). StandsIn r (PartEnd i n)) same (place_stands r (PartEnd i h) a (place_serving r a (PartEnd i h) is.seen.right into))))
 
         of_caller : OfCaller t h → s.in_place way a ≡ None
         of_caller (b, j, two, lt, e) = of_number b j lt e (one_of_two c b is.seen.caller two)
@@ -235,10 +232,6 @@ agrees_too i t c r q is g o s d carried agrees = (
   λ idle. idle_too i t c r q is o s carried (agrees.1 idle),
 )
 
-first_agrees : (q : Plan) (g : Program) (ys : List Element) (s : Tokens) (d : Config) → IsMatched q g ys s d → Agrees q g s d
-first_agrees q g [] s d matched = matched
-first_agrees q g (y ∷ ys) s d matched = matched.0
-
 -- what is shown
 label_seen : (i : ℕ) (t : Type') (c : ℕ) (r q : Plan) → IsSeenThrough i t c r q → (e : End) (way : Direction) (v : ℕ) → label_at q e way v ≡ label_at r e way v
 label_seen i t c r q is (PartEnd k h) way v = refl
@@ -265,10 +258,6 @@ all_shown_seen i t c r q is (In e v ∷ xs) = λ n. shows_seen i t c r q is (In 
 protocol_begins : (is : Imports) (past xs ys : List Label) → KeepsAfter is past (xs ++ ys) → KeepsAfter is past xs
 protocol_begins is past [] ys h = tt
 protocol_begins is past (l ∷ xs) ys h = (h.0, protocol_begins is (l ∷ past) xs ys h.1)
-
-shown_together : (q : Plan) (xs ys : List Element) → all_shown q (xs ++ ys) ≡ all_shown q xs ++ all_shown q ys
-shown_together q [] ys = refl
-shown_together q (x ∷ xs) ys = ap (λ ls. shows q x ++ ls) (shown_together q xs ys) ∙ sym (append_assoc (shows q x) (all_shown q xs) (all_shown q ys))
 
 -- the Share's firing goes on for nobody
 no_request : (i : ℕ) (t : Type') (c : ℕ) (r q : Plan) (h : ℕ) (s w : Tokens) → Passed i t c r (Ans h) s w → (v : ℕ) (row : Row)
@@ -354,7 +343,7 @@ matched_too i t c r q is g (Fire k slot ∷ xs) o v s w d (m, u, does, comes, we
     by_part (nat_eq k i) refl matched (λ e now match. matched_too i t c r q is g xs m v u w e list now match)
   where
     agrees_by : (ys : List Element) → IsMatched q g ys (seen_tokens i t c r q s) d → Agrees r g s d
-    agrees_by ys match = agrees_too i t c r q is g o s d carried (first_agrees q g ys (seen_tokens i t c r q s) d match)
+    agrees_by ys match = agrees_too i t c r q is g o s d carried (matched_agrees q g ys (seen_tokens i t c r q s) d match)
 
     by_part : (b : Bool) → nat_eq k i ≡ b → IsMatched q g (if b then without i xs else Fire k slot ∷ without i xs) (seen_tokens i t c r q s) d
         → ((e : Config) → Carried i t c r q m u → IsMatched q g (without i xs) (seen_tokens i t c r q u) e → IsMatched r g xs u e) → IsMatched r g (Fire k slot ∷ xs) s d
@@ -424,7 +413,7 @@ buffered_realises i t c r q m is realises s w xs idle runs keeps = (matched_of o
     orderly : IsOrderly r xs s
     orderly =
         orderly_from_idle i t c r q is xs (λ zs. KeepsProtocol q.imports (all_shown q zs)) s w
-        (λ zs ys k. protocol_begins q.imports [] (all_shown q zs) (all_shown q ys) (subst (λ (ls : List Label). KeepsProtocol q.imports ls) (shown_together q zs ys) k))
+        (λ zs ys k. protocol_begins q.imports [] (all_shown q zs) (all_shown q ys) (subst (λ (ls : List Label). KeepsProtocol q.imports ls) (shown_then q zs ys) k))
         (λ zs v run k. (realises (seen_tokens i t c r q s) v zs idle_q run k).1) idle runs keeps_q
 
     matched_of : IsOrderly r xs s → IsMatched r (program_of r m) xs s Idle

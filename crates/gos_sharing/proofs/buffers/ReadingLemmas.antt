@@ -1,6 +1,7 @@
 -- A plan of a variable that is read: joined to a Deref it is driven at the handshake by which it is read.
 use Rattle.std.specs.Prelude.{◌↔◌, ◌⊎◌, ◌+◌, ◌-◌, ◌<◌, ◌||◌, ◌&&◌, nat_eq, slice_get, length}
 use Rattle.std.proofs.Common.{◌≡◌, ℕ, zero, suc, Bool, true, false, [], ◌∷◌, Some, Contains, inl, inr, refl, sym, ◌∙◌, ap, subst, arith}
+use Rattle.std.proofs.lemmas.Option.{none-some}
 use Rattle.gos_types.specs.Types.{Type', Exp, Var}
 use Rattle.gos_types.specs.Events.{Request}
 use Rattle.gos_plan.specs.Kinds as kinds
@@ -11,17 +12,17 @@ use Rattle.gos_plan.specs.Orderly.{handshake_at}
 use Rattle.gos_plan.proofs.JointLemmas.{contained}
 use Rattle.gos_realises.specs.realises.Renumbered.{moved}
 use Rattle.gos_realises.specs.realises.Wirings.{lone, link, reading}
+use Rattle.gos_realises.proofs.realises.RenumberLemmas.{moved_twice}
 use Rattle.gos_joining.specs.webs.Webs.{joint}
 use Rattle.gos_sharing.specs.sharing.Sharing.{IsOfPart}
 use Rattle.gos_sharing.proofs.sharing.SeenKeptLemmas.{PutsSo}
 use Rattle.gos_sharing.proofs.buffers.BranchLemmas.{named_itself}
 use Rattle.gos_sharing.proofs.buffers.BesideLemmas.{asks_at}
-use Rattle.gos_sharing.proofs.buffers.BufferedLemmas.{no_some}
 use Rattle.gos_sharing.proofs.buffers.KeptLemmas.{joint_keeps, link_keeps, path_keeps}
 use Rattle.gos_sharing.proofs.buffers.HousedLemmas.{one_handshake, not_both, joint_to, asker_apart}
 use Rattle.gos_sharing.proofs.buffers.DrivenLemmas.{IsPlain, DrivenJoint, IsDriven, IsOwn}
 use Rattle.gos_sharing.proofs.buffers.AttachedLemmas.{Attached, Joined, Stands, OfPlan, OfOther, OfResult, part_later, at_result, same_imports, result_contact, own_contact, other_contact, stands, plain_connects, result_connects, own_connects}
-use Rattle.gos_sharing.proofs.buffers.LooseDrivenLemmas.{forth, back, IsLater, forth_mid, back_mid, moved_back, returns}
+use Rattle.gos_sharing.proofs.buffers.LooseDrivenLemmas.{forth, back, IsLater, forth_mid, back_mid, returns}
 
 -- the Deref's own joint
 abbrev pub ReadOwn : ℕ → End → End → Type 0
@@ -45,13 +46,13 @@ first_back n m h some = ap (λ j. PartEnd j h) (back_mid n m n (omega arith) (om
 pub later_first : (n m h : ℕ) (e : End) → 0 < m → (e ≡ PartEnd (suc n) h) ↔ (moved (forth n m) e ≡ PartEnd n h)
 later_first n m h e some = (
   λ at. ap (moved (forth n m)) at ∙ next_first n m h some,
-  λ at. sym (moved_back (forth n m) (back n m) (returns n m) e) ∙ (ap (moved (back n m)) at ∙ first_back n m h some),
+  λ at. sym (moved_twice (forth n m) (back n m) (returns n m) e) ∙ (ap (moved (back n m)) at ∙ first_back n m h some),
 )
 
 pub later_result : (n m h : ℕ) (e : End) → (e ≡ ResultEnd h) ↔ (moved (forth n m) e ≡ ResultEnd h)
 later_result n m h e = (
   λ at. ap (moved (forth n m)) at,
-  λ at. sym (moved_back (forth n m) (back n m) (returns n m) e) ∙ ap (moved (back n m)) at,
+  λ at. sym (moved_twice (forth n m) (back n m) (returns n m) e) ∙ ap (moved (back n m)) at,
 )
 
 pub read_is_later : IsLater ReadOwn 1
@@ -134,7 +135,7 @@ module _ (w : ℕ) (p r : Plan) (right : IsRight p) (outcome : p.outcome ≡ Var
       let same : deref ≡ x = cc is in
       let e = lone_joint (kinds.Deref w) 1 (Exp w) j (subst (λ (y : Plan). Contains y.joints j) (sym same) has) in
       subst (λ (y : Joint). name_in p 1 y.asking ≡ name_in p 1 y.serving) (sym e) refl
-  of_joint (suc (suc k)) x is j has = absurd (no_some x is)
+  of_joint (suc (suc k)) x is j has = absurd (none-some x is)
 
   link_named : (l : Link) → Contains wiring.links l → name_at p l.one ≡ name_at p l.other
   link_named l (zero, inside, is) = subst (λ (x : Link). name_at p x.one ≡ name_at p x.other) is (ap (name 0) (named_itself p (ResultEnd 0) right reads))
@@ -162,7 +163,7 @@ module _ (w : ℕ) (p r : Plan) (right : IsRight p) (outcome : p.outcome ≡ Var
       let e : Some (serves 0 w) ≡ Some (asks q v) = sym (deref_contact 1) ∙ there in
       let same : serves 0 w ≡ asks q v = cc e in
       absurd (not_both q v 0 w (sym same))
-  deref_asks (suc (suc h)) q v there = absurd (no_some (asks q v) (sym (deref_contact (suc (suc h))) ∙ there))
+  deref_asks (suc (suc h)) q v there = absurd (none-some (asks q v) (sym (deref_contact (suc (suc h))) ∙ there))
 
   deref_serves : (h q v : ℕ) → contact_at r (PartEnd number h) ≡ Some (serves q v) → h ≡ 1
   deref_serves zero q v there =
@@ -170,18 +171,18 @@ module _ (w : ℕ) (p r : Plan) (right : IsRight p) (outcome : p.outcome ≡ Var
       let same : asks 0 w ≡ serves q v = cc e in
       absurd (not_both 0 w q v same)
   deref_serves (suc zero) q v there = refl
-  deref_serves (suc (suc h)) q v there = absurd (no_some (serves q v) (sym (deref_contact (suc (suc h))) ∙ there))
+  deref_serves (suc (suc h)) q v there = absurd (none-some (serves q v) (sym (deref_contact (suc (suc h))) ∙ there))
 
   result_asks : (h q v : ℕ) → contact_at r (ResultEnd h) ≡ Some (serves q v) → ⊥
   result_asks zero q v there =
       let e : Some (asks 0 w) ≡ Some (serves q v) = sym (own_contact joining 0) ∙ there in
       let same : asks 0 w ≡ serves q v = cc e in
       not_both 0 w q v same
-  result_asks (suc h) q v there = no_some (serves q v) (sym (own_contact joining (suc h)) ∙ there)
+  result_asks (suc h) q v there = none-some (serves q v) (sym (own_contact joining (suc h)) ∙ there)
 
   result_is : (h q v : ℕ) → contact_at r (ResultEnd h) ≡ Some (asks q v) → h ≡ 0
   result_is zero q v there = refl
-  result_is (suc h) q v there = absurd (no_some (asks q v) (sym (own_contact joining (suc h)) ∙ there))
+  result_is (suc h) q v there = absurd (none-some (asks q v) (sym (own_contact joining (suc h)) ∙ there))
 
   -- from a joint of the whole
   to_driven : (a b : End) → Connects wiring r a b → DrivenJoint 0 0 ReadOwn number p a b

@@ -20,7 +20,7 @@ use Rattle.gos_sharing.proofs.sharing.SeenKeptLemmas.{Kept, fit_none, both_none,
 use Rattle.gos_sharing.proofs.sharing.SeenRunLemmas.{seen_joint, name_of, share_kept}
 use Rattle.gos_sharing.specs.buffers.Buffers.{IsBuffer}
 use Rattle.gos_sharing.proofs.buffers.GroundLemmas.{OfCaller}
-use Rattle.gos_sharing.proofs.buffers.BranchLemmas.{caller_shake, source_shake, stands, for_one, caller_of, share_leaves, share_branch}
+use Rattle.gos_sharing.proofs.buffers.BranchLemmas.{caller_shake, source_shake, for_one, caller_of, share_leaves, share_branch, place_stands}
 use Rattle.gos_sharing.proofs.buffers.BesideLemmas.{Linked, Beside, none_before_put, none_before_taken, filled}
 
 -- both joints of a pair of handshakes are there, and are seen as one
@@ -67,7 +67,7 @@ request_line i t c r q is h g b pair for a there = at_caller (caller_shake i t c
 
     -- the number of the source's handshake
     with_number : (j : ℕ) → j < count t → h ≡ count t + c * count t + j → Line i t c r q h g
-    with_number j lt e = of_joint (is.goes_on j lt (subst (λ (n : ℕ). StandsIn r (PartEnd i n)) e (stands r (PartEnd i h) a there)))
+    with_number j lt e = of_joint (is.goes_on j lt (subst (λ (n : ℕ). StandsIn r (PartEnd i n)) e (place_stands r (PartEnd i h) a there)))
       where
         number : j ≡ g
         number =
@@ -178,13 +178,6 @@ answer_well i t c r q is h g v at o s x kept here = by_open (o (PartEnd i g)) re
     by_open false k = absurd (not_both_so v (s.in_place Answer (PartEnd i g)) (fit_none o s kept.fit (PartEnd i g) k Answer) here)
 
 -- what leads into the Share is still linked to what follows
-same_end_not : (d e : End) → (d ≡ e → ⊥) → same_end d e ≡ false
-same_end_not d e apart = by_test (same_end d e) refl
-  where
-    by_test : (b : Bool) → same_end d e ≡ b → b ≡ false
-    by_test true h = absurd (apart (same_is d e h))
-    by_test false h = refl
-
 linked_request : (i : ℕ) (t : Type') (c : ℕ) (r q : Plan) → IsSeenThrough i t c r q → (h g v : ℕ) → Pair i t c r h g → (x : State) (o : Open) (s : Tokens) → Linked i t c r q o s
     → Linked i t c r q (with_open (PartEnd i g) true o) (with_token r (PartEnd i g) Request (Some v) (with_state i x (with_token r (PartEnd i h) Request None s)))
 linked_request i t c r q is h g v pair x o s linked a d asking onto up none also = by_test (same_end d (PartEnd i g)) refl

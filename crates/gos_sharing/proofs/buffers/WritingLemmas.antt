@@ -1,6 +1,7 @@
 -- A plan of a variable that is written: joined to an Assign and a Lit it is driven at the handshake by which it is written.
 use Rattle.std.specs.Prelude.{◌⊎◌, ◌+◌, ◌-◌, ◌<◌, ◌||◌, ◌&&◌, nat_eq, slice_get, length}
 use Rattle.std.proofs.Common.{◌≡◌, ℕ, zero, suc, Bool, true, false, List, [], ◌∷◌, Some, Contains, inl, inr, refl, sym, ◌∙◌, ap, subst, arith}
+use Rattle.std.proofs.lemmas.Option.{none-some}
 use Rattle.gos_types.specs.Types.{Com, Exp, Var}
 use Rattle.gos_types.specs.Events.{Request}
 use Rattle.gos_plan.specs.Kinds as kinds
@@ -11,17 +12,17 @@ use Rattle.gos_plan.specs.Orderly.{handshake_at}
 use Rattle.gos_plan.proofs.JointLemmas.{contained}
 use Rattle.gos_realises.specs.realises.Renumbered.{moved}
 use Rattle.gos_realises.specs.realises.Wirings.{lone, link, writing}
+use Rattle.gos_realises.proofs.realises.RenumberLemmas.{moved_twice}
 use Rattle.gos_joining.specs.webs.Webs.{joint}
 use Rattle.gos_sharing.specs.sharing.Sharing.{IsOfPart}
 use Rattle.gos_sharing.proofs.sharing.SeenKeptLemmas.{PutsSo}
 use Rattle.gos_sharing.proofs.buffers.BranchLemmas.{named_itself}
 use Rattle.gos_sharing.proofs.buffers.BesideLemmas.{asks_at}
-use Rattle.gos_sharing.proofs.buffers.BufferedLemmas.{no_some}
 use Rattle.gos_sharing.proofs.buffers.KeptLemmas.{joint_keeps, link_keeps, path_keeps}
 use Rattle.gos_sharing.proofs.buffers.HousedLemmas.{one_handshake, not_both, joint_to, asker_apart}
 use Rattle.gos_sharing.proofs.buffers.DrivenLemmas.{IsPlain, DrivenJoint, IsDriven, IsOwn}
 use Rattle.gos_sharing.proofs.buffers.AttachedLemmas.{Attached, Joined, Stands, OfPlan, OfOther, OfResult, part_later, at_result, same_imports, result_contact, own_contact, other_contact, stands, plain_connects, result_connects, own_connects}
-use Rattle.gos_sharing.proofs.buffers.LooseDrivenLemmas.{forth, back, IsLater, forth_mid, back_mid, moved_back, returns}
+use Rattle.gos_sharing.proofs.buffers.LooseDrivenLemmas.{forth, back, IsLater, forth_mid, back_mid, returns}
 use Rattle.gos_sharing.proofs.buffers.ReadingLemmas.{later_first, later_result, Name, name, sides_differ, zero_one, one_side, lone_joint}
 
 -- the joints of the Assign and the Lit
@@ -57,7 +58,7 @@ write_is_later n a b = (onto, from)
     from : WriteOwn n (moved (forth n 2) a) (moved (forth n 2) b) → WriteOwn (suc n) a b
     from (inl own) = inl ((later_result n 2 0 a).1 own.0, (later_first n 2 2 b (omega arith)).1 own.1)
     from (inr own) =
-        inr ((later_first n 2 0 a (omega arith)).1 own.0, sym (moved_back (forth n 2) (back n 2) (returns n 2) b) ∙ (ap (moved (back n 2)) own.1 ∙ second_back n 0))
+        inr ((later_first n 2 0 a (omega arith)).1 own.0, sym (moved_twice (forth n 2) (back n 2) (returns n 2) b) ∙ (ap (moved (back n 2)) own.1 ∙ second_back n 0))
 
 -- sides
 zero_two : zero ≡ suc (suc zero) → ⊥
@@ -135,7 +136,7 @@ module _ (w k : ℕ) (p r : Plan) (right : IsRight p) (outcome : p.outcome ≡ V
       let same : lit ≡ x = cc is in
       let e = lone_joint (kinds.Lit w k) 0 (Exp w) j (subst (λ (y : Plan). Contains y.joints j) (sym same) has) in
       subst (λ (y : Joint). name_in p 2 y.asking ≡ name_in p 2 y.serving) (sym e) refl
-  of_joint (suc (suc (suc i))) x is j has = absurd (no_some x is)
+  of_joint (suc (suc (suc i))) x is j has = absurd (none-some x is)
 
   link_named : (l : Link) → Contains wiring.links l → name_at p l.one ≡ name_at p l.other
   link_named l (zero, inside, is) = subst (λ (x : Link). name_at p x.one ≡ name_at p x.other) is (ap (name 0) (named_itself p (ResultEnd 1) right writes))
@@ -177,7 +178,7 @@ module _ (w k : ℕ) (p r : Plan) (right : IsRight p) (outcome : p.outcome ≡ V
       let e : Some (serves 0 0) ≡ Some (asks q v) = sym (assign_contact 2) ∙ there in
       let same : serves 0 0 ≡ asks q v = cc e in
       absurd (not_both q v 0 0 (sym same))
-  assign_asks (suc (suc (suc h))) q v there = absurd (no_some (asks q v) (sym (assign_contact (suc (suc (suc h)))) ∙ there))
+  assign_asks (suc (suc (suc h))) q v there = absurd (none-some (asks q v) (sym (assign_contact (suc (suc (suc h)))) ∙ there))
 
   assign_serves : (h q v : ℕ) → contact_at r (PartEnd number h) ≡ Some (serves q v) → h ≡ 2
   assign_serves zero q v there =
@@ -189,29 +190,29 @@ module _ (w k : ℕ) (p r : Plan) (right : IsRight p) (outcome : p.outcome ≡ V
       let same : asks w 0 ≡ serves q v = cc e in
       absurd (not_both w 0 q v same)
   assign_serves (suc (suc zero)) q v there = refl
-  assign_serves (suc (suc (suc h))) q v there = absurd (no_some (serves q v) (sym (assign_contact (suc (suc (suc h)))) ∙ there))
+  assign_serves (suc (suc (suc h))) q v there = absurd (none-some (serves q v) (sym (assign_contact (suc (suc (suc h)))) ∙ there))
 
   lit_asks : (h q v : ℕ) → contact_at r (PartEnd (suc number) h) ≡ Some (asks q v) → ⊥
   lit_asks zero q v there =
       let e : Some (serves 0 w) ≡ Some (asks q v) = sym (lit_contact 0) ∙ there in
       let same : serves 0 w ≡ asks q v = cc e in
       not_both q v 0 w (sym same)
-  lit_asks (suc h) q v there = no_some (asks q v) (sym (lit_contact (suc h)) ∙ there)
+  lit_asks (suc h) q v there = none-some (asks q v) (sym (lit_contact (suc h)) ∙ there)
 
   lit_serves : (h q v : ℕ) → contact_at r (PartEnd (suc number) h) ≡ Some (serves q v) → h ≡ 0
   lit_serves zero q v there = refl
-  lit_serves (suc h) q v there = absurd (no_some (serves q v) (sym (lit_contact (suc h)) ∙ there))
+  lit_serves (suc h) q v there = absurd (none-some (serves q v) (sym (lit_contact (suc h)) ∙ there))
 
   result_asks : (h q v : ℕ) → contact_at r (ResultEnd h) ≡ Some (serves q v) → ⊥
   result_asks zero q v there =
       let e : Some (asks 0 0) ≡ Some (serves q v) = sym (own_contact joining 0) ∙ there in
       let same : asks 0 0 ≡ serves q v = cc e in
       not_both 0 0 q v same
-  result_asks (suc h) q v there = no_some (serves q v) (sym (own_contact joining (suc h)) ∙ there)
+  result_asks (suc h) q v there = none-some (serves q v) (sym (own_contact joining (suc h)) ∙ there)
 
   result_is : (h q v : ℕ) → contact_at r (ResultEnd h) ≡ Some (asks q v) → h ≡ 0
   result_is zero q v there = refl
-  result_is (suc h) q v there = absurd (no_some (asks q v) (sym (own_contact joining (suc h)) ∙ there))
+  result_is (suc h) q v there = absurd (none-some (asks q v) (sym (own_contact joining (suc h)) ∙ there))
 
   -- from a joint of the whole
   to_driven : (a b : End) → Connects wiring r a b → DrivenJoint 1 1 WriteOwn number p a b

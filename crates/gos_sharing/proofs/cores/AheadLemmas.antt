@@ -3,9 +3,9 @@ use Rattle.std.specs.Prelude.{ℕ, ◌+◌, ◌-◌, ◌<◌, ◌≤◌, Bool, t
 use Rattle.std.proofs.Common.{◌≡◌, ◌++◌, refl, sym, ◌∙◌, ap, arith}
 use Rattle.std.proofs.lemmas.Bool.Decides.{nat_tests}
 use Rattle.std.proofs.lemmas.Option.{slice_get_within}
-use Rattle.gos_realises.proofs.joined.OriginLemmas.{front_at, behind_at}
+use Rattle.gos_types.proofs.ListLemmas.{element_at, same_in_front}
+use Rattle.gos_realises.proofs.joined.OriginLemmas.{behind_at}
 use Rattle.gos_supplies.proofs.unjoined.FrontLemmas.{front, behind}
-use Rattle.gos_supplies.proofs.unjoined.SettledLemmas.{element_at}
 use Rattle.gos_sharing.specs.cores.Joined.{ahead, ahead_back}
 
 -- where the fronts agree
@@ -52,10 +52,10 @@ module _ {X : Type 0} (xs ys zs : List X) (to : ℕ → ℕ) (from : ℕ → Opt
         by_test : (b : Bool) → nat_lt i n ≡ b → (slice_get (ys ++ zs) (ahead n m to i) ≡ Some x) × (ahead_back n m all from (ahead n m to i) ≡ Some i)
         by_test true test =
             let low : i < n = grind (arith, nat_tests, test) in
-            let (there, number) = forth i x (sym (front_at xs zs i low) ∙ at) in
+            let (there, number) = forth i x (sym (same_in_front xs zs i low) ∙ at) in
             let lands : ahead n m to i ≡ to i = front n m to i low in
             let small : to i < m = slice_get_within ys (to i) x there in
-            let whole : slice_get (ys ++ zs) (to i) ≡ Some x = front_at ys zs (to i) small ∙ there in (
+            let whole : slice_get (ys ++ zs) (to i) ≡ Some x = same_in_front ys zs (to i) small ∙ there in (
               ap (slice_get (ys ++ zs)) lands ∙ whole,
               ap (ahead_back n m all from) lands ∙ (back_low n m all from (to i) (slice_get_within (ys ++ zs) (to i) x whole) small ∙ number),
             )
@@ -86,7 +86,7 @@ module _ {X : Type 0} (xs ys zs : List X) (to : ℕ → ℕ) (from : ℕ → Opt
             let small : i < m = grind (arith, nat_tests, other) in
             let (lands, (x, at)) = back i j (sym (back_low n m all from i within small) ∙ is) in
             let low : j < n = slice_get_within xs j x at in
-            (front n m to j low ∙ lands, (x, front_at xs zs j low ∙ at))
+            (front n m to j low ∙ lands, (x, same_in_front xs zs j low ∙ at))
         by_test true false test other =
             let within : i < all = grind (arith, nat_tests, test) in
             let large : m ≤ i = grind (arith, nat_tests, other) in

@@ -5,7 +5,7 @@ use Rattle.gos_types.specs.Events.{Direction, Request, Answer}
 use Rattle.gos_plan.specs.Kinds.{Contact}
 use Rattle.gos_plan.specs.Firing.{Token}
 use Rattle.gos_plan.specs.Plans.{End, Plan, IsRight, same_end}
-use Rattle.gos_plan.specs.Tokens.{Tokens, Element, Fire, Out, In, places_of, with_token, with_puts, end_of, way_of, way_taken, way_put, with_state, Passes, Does, Runs, IsIdle}
+use Rattle.gos_plan.specs.Tokens.{Tokens, Element, Fire, Out, In, places_of, with_token, with_puts, end_of, way_of, way_taken, way_put, with_state, Passes, Does, Runs}
 use Rattle.gos_plan.specs.Orderly.{Open, named_by, handshake_at, after_taken, after_put, after_puts, ComesInOrder, OrderlyFrom, none_open}
 use Rattle.gos_plan.proofs.JointLemmas.{same_is}
 use Rattle.gos_plan.proofs.HeldLemmas.{AllFit}
@@ -18,6 +18,7 @@ use Rattle.gos_supplies.proofs.turns.StandLemmas.{only_closes}
 use Rattle.gos_sharing.specs.cores.Clear.{AllAlong}
 use Rattle.gos_sharing.proofs.cores.AlongLemmas.{Always, all_along}
 use Rattle.gos_sharing.proofs.cores.TrimLemmas.{puts_filled, here_filled}
+use Rattle.gos_sharing.proofs.buffers.BranchLemmas.{none_fits}
 
 no_joint : (p : Plan) (a b : End) → Contains [] (joint a b) → Contains p.joints (joint a b)
 no_joint p a b (k, small, is) = absurd (omega (arith, small))
@@ -31,9 +32,6 @@ order_ends p (x ∷ xs) o u s t z (w, does, runs) (m, v, doing, comes, welcome, 
 fit_along : (p : Plan) (xs : List Element) (o u : Open) (s t : Tokens) → AllFit o s → OrderlyFrom p xs o s u t → AllFit u t
 fit_along p [] o u s t fit order = subst (λ (y : Open). AllFit y t) (sym order.0) (subst (AllFit o) (sym order.1) fit)
 fit_along p (x ∷ xs) o u s t fit (m, w, does, comes, welcome, rest) = fit_along p xs m u w t (held.step p x o m s w does comes fit) rest
-
-none_fits : (p : Plan) (s : Tokens) → IsIdle p s → AllFit none_open s
-none_fits p s idle a = (idle.0 Request a, idle.0 Answer a)
 
 module _ (p : Plan) (right : IsRight p) (a : End) (own : places_of p a ≡ Some a) where
   abbrev pub NoRequest : Tokens → Type 0

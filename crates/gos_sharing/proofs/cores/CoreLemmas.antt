@@ -3,11 +3,12 @@
 -- Numbers that the core does not have get later ones, as in SettledLemmas of gos_supplies, so that no two ends stand in one.
 use Rattle.std.specs.Prelude.{ℕ, Bool, true, not, ◌&&◌, ◌||◌, IsTrue, List, Option, Some, length, slice_get, Contains}
 use Rattle.std.proofs.Common.{◌≡◌, [], ◌∷◌, inl, inr, refl, sym, ◌∙◌, ap, subst}
+use Rattle.gos_types.proofs.BoolLemmas.{same_tests}
 use Rattle.gos_plan.specs.Kinds.{Contact, asks, serves, contacts_of}
 use Rattle.gos_plan.specs.Plans.{End, PartEnd, ImportEnd, ResultEnd, Joint, Plan, IsRight, AreRight, contact_at, contacts_of_part, contacts_of_import, turned_if, same_end, is_free}
 use Rattle.gos_plan.proofs.JointLemmas.{IsIn, same_itself, same_is, fits, contained}
 use Rattle.gos_joining.specs.webs.Webs.{joint}
-use Rattle.gos_joining.proofs.webs.MovedLemmas.{listed, same_bool}
+use Rattle.gos_joining.proofs.webs.MovedLemmas.{listed}
 use Rattle.gos_supplies.specs.unjoined.Beside.{Placing, placed}
 use Rattle.gos_supplies.proofs.unjoined.PlacedLemmas.{IsPlaced, end_in, part_if, import_if}
 use Rattle.gos_supplies.proofs.unjoined.SettledLemmas.{settled, settled_back, low, settled_get, settled_forth, settled_return, end_there}
@@ -76,7 +77,7 @@ module _ (f : Core) (r c : Plan) (is : IsCore f r c) where
   one_seat a b e = let both : Some a ≡ Some b = sym (in_seat a) ∙ (ap (end_in seats) e ∙ in_seat b) in cc both
 
   same_seat : (a b : End) → same_end (placed seats a) (placed seats b) ≡ same_end a b
-  same_seat a b = same_bool (same_end (placed seats a) (placed seats b)) (same_end a b) to from
+  same_seat a b = same_tests (same_end (placed seats a) (placed seats b)) (same_end a b) to from
     where
       to : same_end (placed seats a) (placed seats b) ≡ true → same_end a b ≡ true
       to t = subst (λ (x : End). same_end a x ≡ true) (one_seat a b (same_is (placed seats a) (placed seats b) t)) (same_itself a)

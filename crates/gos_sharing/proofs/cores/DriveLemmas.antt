@@ -2,6 +2,7 @@
 use Rattle.std.specs.Prelude.{ℕ, zero, suc, ◌<◌, ◌≤◌, ◌^◌, Bool, true, false, ◌&&◌, List, Option, Some, None, All, length, slice_get, nat_eq, nat_lt, if◌then◌else◌}
 use Rattle.std.proofs.Common.{◌≡◌, [], ◌∷◌, ◌++◌, refl, sym, ◌∙◌, ap, subst, arith}
 use Rattle.std.proofs.lemmas.Bool.Decides.{nat_tests}
+use Rattle.std.proofs.lemmas.Bool.{and_right}
 use Rattle.gos_types.specs.declared.shakes.Role.TheVariants.{Ask}
 use Rattle.gos_types.specs.Types.{Type', Var, IsDone}
 use Rattle.gos_model.specs.Typing.{Imported}
@@ -12,22 +13,23 @@ use Rattle.gos_plan.specs.Plans.{End, PartEnd, ImportEnd, ResultEnd, Plan, IsRig
 use Rattle.gos_plan.specs.Tokens.{Tokens, Element, Fire, Out, In, places_of, token_at, with_token, with_state, end_of, way_of, bits_of, way_taken, way_put, Passes, Does, Runs, IsIdle}
 use Rattle.gos_plan.specs.TokenBits.{LiteralFits}
 use Rattle.gos_plan.specs.Orderly.{Open, none_open}
-use Rattle.gos_plan.proofs.JointLemmas.{same_itself}
+use Rattle.gos_plan.proofs.JointLemmas.{same_itself, apart_is_not_same}
 use Rattle.gos_plan.proofs.TokenBitsLemmas.{all_stay_fit, idle_fits}
+use Rattle.gos_plan.proofs.TurnLemmas.{puts_state}
 use Rattle.gos_realises.specs.realises.Regular.{Pass, pass, way_in, way_out, is_request, is_open, KeepsTurnsOf, ComesInTurn, KeepsTurns, InputsKeepTurns, IsRegular}
 use Rattle.gos_realises.proofs.realises.InputLemmas.{first_turns, later_turns, in_there, out_there, runs_then}
 use Rattle.gos_realises.proofs.realises.RingLemmas.{after}
+use Rattle.gos_realises.proofs.realises.PassLemmas.{same_turn}
 use Rattle.gos_sharing.proofs.buffers.DrivenLemmas.{IsDriven}
-use Rattle.gos_supplies.proofs.turns.StandLemmas.{same_apart}
 use Rattle.gos_supplies.proofs.turns.RunLemmas.{Reached, at_first, next}
-use Rattle.gos_supplies.proofs.turns.GoesLemmas.{IsTurned, turn_same}
+use Rattle.gos_supplies.proofs.turns.GoesLemmas.{IsTurned}
 use Rattle.gos_supplies.proofs.turns.WholeLemmas.{first_turned}
 use Rattle.gos_supplies.proofs.turns.TurnedLemmas.{imp, res, to_each, in_import, in_result}
-use Rattle.gos_sharing.proofs.cores.DriverLemmas.{IsOther, Agree, and_false, held_state, puts_state, fire_inner, out_import, in_import_too, import_contact, result_agrees, state_other, other_agrees, driver_agrees, driver_token}
+use Rattle.gos_sharing.proofs.cores.DriverLemmas.{IsOther, Agree, held_state, fire_inner, out_import, in_import_too, import_contact, result_agrees, state_other, other_agrees, driver_agrees, driver_token}
 
 -- where one handshake of a variable alone is open turns are kept
 one_open : (v w : ℕ) (g : ℕ → Bool) → ((h : ℕ) → (h ≡ v → ⊥) → g h ≡ false) → KeepsTurnsOf (Var w) g
-one_open zero w g others = and_false (g 0) (g 1) (others 1 (λ e. omega (arith, e)))
+one_open zero w g others = and_right (g 0) (g 1) (others 1 (λ e. omega (arith, e)))
 one_open (suc v) w g others = let first = others 0 (λ e. omega (arith, e)) in λ i. first i && g 1
 
 module _ (v f : ℕ) (ds : List Part) (Own : ℕ → End → End → Type 0) (p x : Plan) (right : IsRight p) (driven : IsDriven v f ds Own p x) (w : ℕ) (outcome : p.outcome ≡ Var w)
@@ -187,7 +189,7 @@ module _ (v f : ℕ) (ds : List Part) (Own : ℕ → End → End → Type 0) (p 
           subst (KeepsTurnsOf y.ty) (λ i g. imports_then k g i) of_x
           in (
             subst (ComesInTurn so.own_past (ImportEnd k h)) ways
-                (turn_same past so.own_past (ImportEnd k h) (ImportEnd k h) (way_in (contact_at x (ImportEnd k h))) (so.imports k h) keeps.0),
+                (same_turn past so.own_past (ImportEnd k h) (ImportEnd k h) (way_in (contact_at x (ImportEnd k h))) (so.imports k h) keeps.0),
             in_import p so.own_past k h y c (way_in (contact_at p (ImportEnd k h))) so.turned at at_y (sym (ap way_in at_p)) of_p,
           )
 
@@ -240,7 +242,7 @@ module _ (v f : ℕ) (ds : List Part) (Own : ℕ → End → End → Type 0) (p 
 
       shut_then : (h : ℕ) → (h ≡ v → ⊥) → is_open (pass (ResultEnd v) Request ∷ so.own_past) (ResultEnd h) ≡ false
       shut_then h apart =
-          let other = same_apart (ResultEnd v) (ResultEnd h) (λ same. (let number : h ≡ v = cc same in apart number)) in
+          let other = apart_is_not_same (ResultEnd v) (ResultEnd h) (λ same. (let number : h ≡ v = cc same in apart number)) in
           (λ i. if other i then true else is_open so.own_past (ResultEnd h)) ∙ so.shut h apart
 
       keeps : KeepsTurns p so.own_past (pass (ResultEnd v) Request)
@@ -265,7 +267,7 @@ module _ (v f : ℕ) (ds : List Part) (Own : ℕ → End → End → Type 0) (p 
         turned = subst (λ (y : Direction). IsTurned p (pass (ResultEnd v) y ∷ so.own_past)) led n.outputs.0.1;
         imports = so.imports;
         shut = λ h apart.
-            (let other = same_apart (ResultEnd v) (ResultEnd h) (λ same. (let number : h ≡ v = cc same in apart number)) in
+            (let other = apart_is_not_same (ResultEnd v) (ResultEnd h) (λ same. (let number : h ≡ v = cc same in apart number)) in
             (λ i. if other i then false else is_open so.own_past (ResultEnd h)) ∙ so.shut h apart);
         busy = (let one = same_itself (ResultEnd v) in λ i. if one i then false else is_open so.own_past (ResultEnd v)) ∙ sym now;
       }

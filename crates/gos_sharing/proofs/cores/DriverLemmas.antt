@@ -4,6 +4,7 @@
 -- the driving part.
 use Rattle.std.specs.Prelude.{ℕ, ◌<◌, ◌≤◌, Bool, true, false, ◌&&◌, List, Option, Some, None, length, slice_get, nat_eq, if◌then◌else◌}
 use Rattle.std.proofs.Common.{◌≡◌, [], ◌∷◌, ◌⊎◌, inl, inr, refl, sym, ◌∙◌, ap, subst, arith}
+use Rattle.std.proofs.lemmas.Bool.{and_right}
 use Rattle.gos_types.specs.declared.shakes.Role.TheVariants.{Serve, Ask}
 use Rattle.gos_types.specs.Types.{Type', Var, IsDone}
 use Rattle.gos_types.specs.Handshakes.{turned}
@@ -13,19 +14,15 @@ use Rattle.gos_plan.specs.Kinds.{Part, Contact, asks, serves, contacts_of, turne
 use Rattle.gos_plan.specs.Firing.{State, Slot, Token}
 use Rattle.gos_plan.specs.Plans.{End, PartEnd, ImportEnd, ResultEnd, Joint, Plan, IsRight, contact_at, contacts_of_import, turned_if, same_end, stands_in}
 use Rattle.gos_plan.specs.Tokens.{Tokens, Element, Fire, Out, In, places_of, same_way, with_state, held_at, with_held, token_at, with_token, with_puts, end_of, way_of, way_taken, way_put, fired, firing_of, Passes, Does}
-use Rattle.gos_plan.proofs.JointLemmas.{IsIn, same_itself, Found, found, fits, has_place, stands_there, contained}
+use Rattle.gos_plan.proofs.JointLemmas.{IsIn, same_itself, Found, found, fits, has_place, stands_there, contained, apart_is_not_same, which_end}
 use Rattle.gos_plan.proofs.HeldLemmas.{nothing_there}
 use Rattle.gos_realises.proofs.realises.InputLemmas.{import_serves, result_asks}
 use Rattle.gos_joining.specs.webs.Webs.{joint}
-use Rattle.gos_joining.proofs.webs.CutLemmas.{which_end, stands_by}
+use Rattle.gos_joining.proofs.webs.CutLemmas.{stands_by}
 use Rattle.gos_joining.proofs.webs.MovedLemmas.{listed}
 use Rattle.gos_sharing.proofs.buffers.DrivenLemmas.{IsPlain, DrivenJoint, IsDriven, before_end}
 use Rattle.gos_supplies.proofs.unjoined.SettledLemmas.{end_there}
-use Rattle.gos_supplies.proofs.turns.StandLemmas.{same_apart, asks_own}
-
-pub and_false : (b q : Bool) → q ≡ false → (b && q) ≡ false
-and_false true q e = e
-and_false false q e = refl
+use Rattle.gos_supplies.proofs.turns.StandLemmas.{asks_own}
 
 -- an end of the first n parts, or of an import
 abbrev pub IsInner : ℕ → End → Type 0
@@ -60,18 +57,12 @@ names e (Some d) = same_end e d
 
 held_there : (way w : Direction) (o : Option End) (held : Option ℕ) (s : Tokens) (e : End)
     → (with_held way o held s).in_place w e ≡ (if same_way w way && names e o then held else s.in_place w e)
-held_there way w None held s e = let none = and_false (same_way w way) false refl in λ i. if sym none i then held else s.in_place w e
+held_there way w None held s e = let none = and_right (same_way w way) false refl in λ i. if sym none i then held else s.in_place w e
 held_there way w (Some d) held s e = refl
 
 pub held_state : (way : Direction) (o : Option End) (held : Option ℕ) (s : Tokens) (i : ℕ) → (with_held way o held s).state i ≡ s.state i
 held_state way None held s i = refl
 held_state way (Some d) held s i = refl
-
-pub puts_state : (p : Plan) (i : ℕ) (ts : List Token) (s : Tokens) (j : ℕ) → (with_puts p i ts s).state j ≡ s.state j
-puts_state p i [] s j = refl
-puts_state p i (t ∷ ts) s j =
-    puts_state p i ts (with_token p (end_of i t.slot) (way_of t.slot) (Some t.value) s) j
-    ∙ held_state (way_of t.slot) (places_of p (end_of i t.slot)) (Some t.value) s j
 
 -- the driven handshake v of the plan's result, at handshake f of the first driving part
 module _ (v f : ℕ) (ds : List Part) (Own : ℕ → End → End → Type 0) (p x : Plan) (right : IsRight p) (driven : IsDriven v f ds Own p x) (w : ℕ) (outcome : p.outcome ≡ Var w)
@@ -117,13 +108,13 @@ module _ (v f : ℕ) (ds : List Part) (Own : ℕ → End → End → Type 0) (p 
   same_inner d inner =
       record {
         inner = λ e also. refl;
-        driver_same = same_apart (ResultEnd v) d (λ same. inner_result size v d inner (sym same)) ∙ sym (same_apart driver d (λ same. inner_driver size f d inner (sym same)));
+        driver_same = apart_is_not_same (ResultEnd v) d (λ same. inner_result size v d inner (sym same)) ∙ sym (apart_is_not_same driver d (λ same. inner_driver size f d inner (sym same)));
       }
 
   same_driver : Same (Some driver) (Some (ResultEnd v))
   same_driver =
       record {
-        inner = λ e inner. same_apart e (ResultEnd v) (inner_result size v e inner) ∙ sym (same_apart e driver (inner_driver size f e inner));
+        inner = λ e inner. apart_is_not_same e (ResultEnd v) (inner_result size v e inner) ∙ sym (apart_is_not_same e driver (inner_driver size f e inner));
         driver_same = same_itself (ResultEnd v) ∙ sym (same_itself driver);
       }
 
@@ -133,8 +124,8 @@ module _ (v f : ℕ) (ds : List Part) (Own : ℕ → End → End → Type 0) (p 
   pub same_lost : (h : ℕ) → (h ≡ v → ⊥) → Same None (Some (ResultEnd h))
   same_lost h apart =
       record {
-        inner = λ e inner. same_apart e (ResultEnd h) (inner_result size h e inner);
-        driver_same = same_apart (ResultEnd v) (ResultEnd h) (result_apart h apart);
+        inner = λ e inner. apart_is_not_same e (ResultEnd h) (inner_result size h e inner);
+        driver_same = apart_is_not_same (ResultEnd v) (ResultEnd h) (result_apart h apart);
       }
 
   same_none : Same None None
@@ -145,8 +136,8 @@ module _ (v f : ℕ) (ds : List Part) (Own : ℕ → End → End → Type 0) (p 
   same_other (Some d) other =
       let here = other d refl in
       record {
-        inner = λ e inner. sym (same_apart e d (λ same. inner_other size f e inner (subst Other (sym same) here)));
-        driver_same = sym (same_apart driver d (λ same. other_driver size f d here (sym same)));
+        inner = λ e inner. sym (apart_is_not_same e d (λ same. inner_other size f e inner (subst Other (sym same) here)));
+        driver_same = sym (apart_is_not_same driver d (λ same. other_driver size f d here (sym same)));
       }
 
   -- the plan's joints ask at inner ends or at the result, and serve at inner ends

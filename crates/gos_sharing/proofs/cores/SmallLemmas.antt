@@ -7,8 +7,8 @@ use Rattle.gos_plan.specs.Firing.{Rest, at}
 use Rattle.gos_plan.specs.Plans.{End, PartEnd, ResultEnd, Joint, IsRight}
 use Rattle.gos_plan.specs.Tokens.{Tokens, In, with_token, Does}
 use Rattle.gos_plan.specs.SmallPlans.{skip_plan}
+use Rattle.gos_plan.proofs.SmallPlanLemmas.{skip_is_right}
 use Rattle.gos_joining.specs.webs.Webs.{joint}
-use Rattle.gos_joining.proofs.webs.SmallWebLemmas.{skip_is_right}
 use Rattle.gos_supplies.specs.unjoined.Beside.{Placing, placed, IsLoose, IsOwn, IsBeside}
 use Rattle.gos_sharing.specs.cores.Core.{core_end}
 use Rattle.gos_sharing.specs.cores.SmallCores.{first_alone, first_part, skip_and_others, other_skip, bare, SkipIsCore, BareIsCore, ReachedIsNotStill, OtherIsNoCore}

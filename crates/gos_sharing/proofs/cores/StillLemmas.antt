@@ -7,20 +7,21 @@ use Rattle.std.proofs.lemmas.Bool.Decides.{nat_tests}
 use Rattle.gos_types.specs.Types.{Type'}
 use Rattle.gos_model.specs.Typing.{Imported}
 use Rattle.gos_types.specs.Events.{Direction, Request, Answer}
+use Rattle.gos_types.proofs.ListLemmas.{some_is_not_none}
 use Rattle.gos_plan.specs.Kinds.{Part, contacts_of}
 use Rattle.gos_plan.specs.Plans.{End, PartEnd, ImportEnd, ResultEnd, Plan, contact_at, contacts_of_part, contacts_of_import, turned_if}
 use Rattle.gos_plan.specs.Tokens.{Tokens, places_of}
 use Rattle.gos_plan.specs.TokenBits.{LiteralFits}
 use Rattle.gos_plan.specs.Orderly.{Open, none_open}
 use Rattle.gos_plan.specs.Joining.{Place, place, Link, Wiring, origin, JoinedWithin, IsJoining}
-use Rattle.gos_plan.proofs.JointLemmas.{IsIn, stands_there, contained}
+use Rattle.gos_plan.proofs.JointLemmas.{IsIn, stands_there, contained, asking_stands}
 use Rattle.gos_realises.specs.realises.Regular.{Pass, IsRegular}
 use Rattle.gos_realises.specs.realises.Links.{LinksFit}
 use Rattle.gos_realises.proofs.realises.InputLemmas.{passed}
 use Rattle.gos_joining.specs.webs.Webs.{joint}
 use Rattle.gos_joining.proofs.webs.MovedLemmas.{listed}
 use Rattle.gos_realises.proofs.joined.ReachLemmas.{Paths, paths_then}
-use Rattle.gos_supplies.proofs.turns.StandLemmas.{asks_itself, open_by_fit}
+use Rattle.gos_supplies.proofs.turns.StandLemmas.{open_by_fit}
 use Rattle.gos_supplies.proofs.turns.RunLemmas.{Reached}
 use Rattle.gos_supplies.proofs.turns.TrailLemmas.{LinksArePorts, Segment, Trail, trail_rest, plan_at}
 use Rattle.gos_supplies.proofs.turns.FollowLemmas.{Family, open_at, lying, joint_trail, chain}
@@ -37,9 +38,6 @@ use Rattle.gos_sharing.proofs.cores.CoreLemmas.{seats, kept, live, within, live_
 use Rattle.gos_sharing.proofs.cores.RegularLemmas.{along}
 use Rattle.gos_sharing.proofs.cores.ClosedLemmas.{NoRequest, shut_along, no_answer}
 use Rattle.gos_sharing.proofs.cores.JoinedLemmas.{plain_links, large, middle, small, number_same}
-
-some_none : (v : ℕ) (o : Option ℕ) → o ≡ Some v → o ≡ None → ⊥
-some_none v o some none = let clash : Some v ≡ None = sym some ∙ none in cc clash
 
 zero_suc : (k n : ℕ) → k ≡ 0 → k ≡ suc n → ⊥
 zero_suc k n e h = omega (arith, e, h)
@@ -164,7 +162,7 @@ module _ (f : Core) (r c : Plan) (is : IsCore f r c) (ps : List Plan) (ls : List
         (along f r c is still m.first m.list m.idle m.inputs)) m.orderly refl
       where
         own : places_of r b.end ≡ Some b.end
-        own = stands_there r (joint b.end e) b.end is.right (contained r.joints (joint b.end e) out.0) (asks_itself (joint b.end e))
+        own = stands_there r (joint b.end e) b.end is.right (contained r.joints (joint b.end e) out.0) (asking_stands (joint b.end e))
 
         m : Reached r (F 0).opens (F 0).past (F 0).tokens
         m = so.reached 0 r refl
@@ -201,7 +199,7 @@ module _ (f : Core) (r c : Plan) (is : IsCore f r c) (ps : List Plan) (ls : List
             let before : n ≤ k = grind (arith, nat_tests, test) in
             let rest = trail_rest large_w fit ported (k - n) n k (origin large_w a) c0 b0 (omega (arith, before)) trail t0 in
             let (G, goes, now, same) = goes_on large_w x fit ported of_x regular literals passes (k - n) F o past u so c0 b0 e0 v rest seg lies in
-            some_none v (lying G Request b0) now (empty G o past u goes b0 e0 dead0 Request)
+            some_is_not_none v (lying G Request b0) now (empty G o past u goes b0 e0 dead0 Request)
 
         by_held : (F : Family) (o : Open) (past : List Pass) → Goes large_w x F o past u → (h : Option ℕ) → u.in_place Request a ≡ h → u.in_place Request a ≡ None
         by_held F o past so None none = none
@@ -214,7 +212,7 @@ module _ (f : Core) (r c : Plan) (is : IsCore f r c) (ps : List Plan) (ls : List
     joined_still s u xs a b way idle runs keeps dead = by_way way
       where
         own : places_of x a ≡ Some a
-        own = stands_there x (joint a b) a of_x.right (contained x.joints (joint a b) dead.0) (asks_itself (joint a b))
+        own = stands_there x (joint a b) a of_x.right (contained x.joints (joint a b) dead.0) (asking_stands (joint a b))
 
         by_way : (w : Direction) → u.in_place w a ≡ None
         by_way Request = no_request a b dead s u xs idle runs keeps

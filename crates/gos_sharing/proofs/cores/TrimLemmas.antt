@@ -2,28 +2,22 @@
 use Rattle.std.specs.Prelude.{ℕ, Bool, true, false, ◌&&◌, List, Option, Some, None, Contains, slice_get, if◌then◌else◌}
 use Rattle.std.proofs.Common.{◌≡◌, [], ◌∷◌, ◌⊎◌, inl, inr, refl, sym, ◌∙◌, ap, subst}
 use Rattle.gos_types.specs.Events.{Direction, Request, Answer}
+use Rattle.gos_types.proofs.ListLemmas.{some_is_not_none}
 use Rattle.gos_plan.specs.Kinds.{Contact}
 use Rattle.gos_plan.specs.Firing.{Slot, Token, Row}
 use Rattle.gos_plan.specs.Plans.{End, PartEnd, ImportEnd, ResultEnd, Joint, Plan, IsRight, contact_at, same_end}
 use Rattle.gos_plan.specs.Tokens.{Tokens, Element, Fire, Out, In, places_of, same_way, with_state, held_at, with_held, token_at, with_token, with_puts, end_of, way_of, way_taken, way_put, fired, Passes, Does, Runs}
 use Rattle.gos_plan.specs.Orderly.{Open, named_by, handshake_at, with_open, after_taken, after_put, after_puts, ComesWell, AllComeWell, ComesInOrder, AllWelcome, OrderlyFrom}
-use Rattle.gos_plan.proofs.JointLemmas.{IsIn, one_joint, same_itself, found, has_place, stands_there, contained}
+use Rattle.gos_plan.proofs.JointLemmas.{IsIn, one_joint, same_itself, found, has_place, stands_there, contained, asking_stands}
 use Rattle.gos_plan.proofs.HeldLemmas.{takes_of}
+use Rattle.gos_plan.proofs.TokenBitsLemmas.{same_way_itself}
 use Rattle.gos_joining.specs.webs.Webs.{joint}
 use Rattle.gos_joining.proofs.webs.MovedLemmas.{listed}
-use Rattle.gos_supplies.proofs.turns.StandLemmas.{asks_itself}
 use Rattle.gos_sharing.specs.cores.Clear.{AllAlong}
 
 -- the plan with these joints alone
 abbrev pub trimmed : Plan → List Joint → Plan
 trimmed r js = record r { joints = js }
-
-same_way_itself : (way : Direction) → same_way way way ≡ true
-same_way_itself Request = refl
-same_way_itself Answer = refl
-
-some_not_none : (v : ℕ) (o : Option ℕ) → o ≡ Some v → o ≡ None → ⊥
-some_not_none v o some none = let clash : None ≡ Some v = sym none ∙ some in cc clash
 
 module _ (r : Plan) (js : List Joint) (right : IsRight r) (within : (a b : End) → Contains js (joint a b) → Contains r.joints (joint a b)) where
   abbrev small : Plan
@@ -71,11 +65,11 @@ module _ (r : Plan) (js : List Joint) (right : IsRight r) (within : (a b : End) 
   told_joint a b is_in = by_place (places_of small a) refl
     where
       by_place : (o : Option End) → places_of small a ≡ o → Contains js (joint a b) ⊎ IsOut a b
-      by_place None none = inr (listed r.joints (joint a b) is_in, λ has. has_place js (joint a b) a (contained js (joint a b) has) (asks_itself (joint a b)) none)
+      by_place None none = inr (listed r.joints (joint a b) is_in, λ has. has_place js (joint a b) a (contained js (joint a b) has) (asking_stands (joint a b)) none)
       by_place (Some d) named =
           let f = found js a d named in
           let has = contained r.joints f.joint (within f.joint.asking f.joint.serving (listed js f.joint f.is_in)) in
-          let one : f.joint ≡ joint a b = one_joint r [] r.joints f.joint (joint a b) a right has is_in f.stands (asks_itself (joint a b)) in
+          let one : f.joint ≡ joint a b = one_joint r [] r.joints f.joint (joint a b) a right has is_in f.stands (asking_stands (joint a b)) in
           inl (listed js (joint a b) (subst (λ (j : Joint). IsIn j js) one f.is_in))
 
   -- tokens at live ends
@@ -90,13 +84,13 @@ module _ (r : Plan) (js : List Joint) (right : IsRight r) (within : (a b : End) 
     where
       by_sort : Live e ⊎ Left e → Live e
       by_sort (inl live) = live
-      by_sort (inr (a, b, named, out)) = absurd (some_not_none v (token_at r s e way) lies (ap (held_at s way) named ∙ clear a b way out))
+      by_sort (inr (a, b, named, out)) = absurd (some_is_not_none v (token_at r s e way) lies (ap (held_at s way) named ∙ clear a b way out))
 
   pub lies_small : (e : End) (s : Tokens) (way : Direction) (v : ℕ) → token_at small s e way ≡ Some v → Live e
   lies_small e s way v lies = by_place (places_of small e) refl
     where
       by_place : (o : Option End) → places_of small e ≡ o → Live e
-      by_place None none = absurd (some_not_none v (token_at small s e way) lies (ap (held_at s way) none))
+      by_place None none = absurd (some_is_not_none v (token_at small s e way) lies (ap (held_at s way) none))
       by_place (Some a) named = live_at e a named
 
   -- what is put stays until it is taken
@@ -126,7 +120,7 @@ module _ (r : Plan) (js : List Joint) (right : IsRight r) (within : (a b : End) 
       let lies : (with_token r e way (Some v) s).in_place way a ≡ Some v =
       ap (λ (o : Option End). (with_held way o (Some v) s).in_place way a) named ∙ (λ i. if one i && other i then Some v else s.in_place way a)
       in
-      some_not_none v ((with_token r e way (Some v) s).in_place way a) lies none
+      some_is_not_none v ((with_token r e way (Some v) s).in_place way a) lies none
 
   live_filled : (e : End) (way : Direction) (z : Tokens) → Clear z → ((a : End) → places_of r e ≡ Some a → Filled a way z) → Live e
   live_filled e way z clear filled = by_sort (sorted e)

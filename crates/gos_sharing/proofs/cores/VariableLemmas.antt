@@ -139,7 +139,7 @@ module _ (f : Core) (r c : Plan) (is : IsCore f r c) (still : IsStill f r c) (x 
             sym (so.alike.inner way a (asking_inner v h ds Own r x is.right driven_x w outcome own_ends driver_asks done a d in_r plain)) ∙ empty a d out
         by_sort (inr (drive, out)) = ap (t.in_place way) drive ∙ (sym (so.alike.driver_same way) ∙ empty (ResultEnd v) d out)
 
-apart_shakes : (n g h : ℕ) → (g ≡ h → ⊥) → PartEnd n g ≡ PartEnd n h → ⊥
+pub apart_shakes : (n g h : ℕ) → (g ≡ h → ⊥) → PartEnd n g ≡ PartEnd n h → ⊥
 apart_shakes n g h apart same = let shakes : g ≡ h = cc same in apart shakes
 
 apart_parts : (n g h : ℕ) → PartEnd (suc n) g ≡ PartEnd n h → ⊥

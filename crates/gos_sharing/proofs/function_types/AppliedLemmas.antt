@@ -5,11 +5,13 @@ use Rattle.std.proofs.lemmas.Option.{slice_get_within, same_Some}
 use Rattle.gos_types.specs.declared.shakes.Role.{Role}
 use Rattle.gos_types.specs.declared.shakes.Role.TheVariants.{Serve, Ask}
 use Rattle.gos_types.specs.Types.{Type', Fun}
+use Rattle.gos_types.proofs.ListLemmas.{element_at}
 use Rattle.gos_plan.specs.Kinds.{Share, Contact, asks, serves, contacts_of, turned_contact}
 use Rattle.gos_plan.specs.Plans.{End, PartEnd, ImportEnd, ResultEnd, Joint, Plan, IsRight, contact_at, contacts_of_part, contacts_of_import}
 use Rattle.gos_plan.specs.Orderly.{handshake_at}
 use Rattle.gos_plan.specs.Joining.{Place, place, Wiring, Path, Connects, origin, IsJoining}
 use Rattle.gos_plan.proofs.JointLemmas.{fits}
+use Rattle.gos_plan.proofs.ContactLemmas.{as_asks, as_serves}
 use Rattle.gos_realises.specs.realises.Regular.{count}
 use Rattle.gos_realises.specs.realises.Wirings.{applying}
 use Rattle.gos_realises.proofs.realises.GroundTurnLemmas.{count_fun}
@@ -28,7 +30,7 @@ use Rattle.gos_sharing.specs.function_types.Split.{Splitting, IsUsed, IsSplit}
 use Rattle.gos_sharing.proofs.function_types.NumberLemmas as numbered
 use Rattle.gos_sharing.proofs.function_types.SideLemmas.{first_stays, result_stays}
 use Rattle.gos_sharing.proofs.function_types.StandLemmas.{share_stands, part_side, import_side, first_origin, second_origin, stands_first, stands_second, low_or_more}
-use Rattle.gos_sharing.proofs.function_types.PlacedLemmas.{outer_step, there_is}
+use Rattle.gos_sharing.proofs.function_types.PlacedLemmas.{outer_step}
 use Rattle.gos_sharing.proofs.function_types.HomeLemmas as homes
 use Rattle.gos_sharing.proofs.function_types.FrameLemmas.{bare}
 use Rattle.gos_sharing.proofs.function_types.FrameLemmas as frames
@@ -46,12 +48,6 @@ joint_of r right d e o v at_d at_e same = by_joint (together r d e right apart s
     by_joint (inr here) =
         let fit = fits r [] r.joints (joint e d) right here in
         absurd (not_both o v fit.0 fit.1 (is_contact r d (asks o v) (serves fit.0 fit.1) at_d fit.3))
-
-as_serves : (k : Contact) → k.role ≡ Serve → k ≡ serves k.ask_bits k.answer_bits
-as_serves k same = λ i. record { role = same i; ask_bits = k.ask_bits; answer_bits = k.answer_bits }
-
-as_asks : (k : Contact) → k.role ≡ Ask → k ≡ asks k.ask_bits k.answer_bits
-as_asks k same = λ i. record { role = same i; ask_bits = k.ask_bits; answer_bits = k.answer_bits }
 
 module _ (a b : Type') (c : ℕ) (p q r z y x u : Plan) (of_r : IsBehind (length p.parts) (Fun a b) c r p) (of_z : IsBehind (length q.parts) a c z q)
     (of_y : IsJoining (applying a b p z) y) (of_x : IsJoining (applying a b r q) x) (of_u : IsBehind (suc (length p.parts + length q.parts)) b c u y)
@@ -195,12 +191,12 @@ module _ (a b : Type') (c : ℕ) (p q r z y x u : Plan) (of_r : IsBehind (length
 
     back_source : (e : End) (j : ℕ) → j < count t → old (end_behind I e) ≡ PartEnd P j → new (PartEnd P j) ≡ end_behind I e → Back e
     back_source e j low from to =
-        let (d, at_d) = there_is (contacts_of t) j low in
+        let (d, at_d) = element_at (contacts_of t) j low in
         (PartEnd P j, from, to, inr (refl, inl low), turned_contact d, share_source x P t j d wide at_d)
 
     back_caller : (e : End) (j : ℕ) → j < count t → old (end_behind I e) ≡ caller_end P t c j → new (caller_end P t c j) ≡ end_behind I e → Back e
     back_caller e j low from to =
-        let (d, at_d) = there_is (contacts_of t) j low in
+        let (d, at_d) = element_at (contacts_of t) j low in
         (caller_end P t c j, from, to, inr (refl, inr (j, low, refl)), d, share_caller x P t c of_r.frame.caller j d wide at_d)
 
     back_of : (e : End) → StandsIn y e → (k : Contact) → contact_at y e ≡ Some k → Back e

@@ -3,18 +3,19 @@ use Rattle.std.specs.Prelude.{◌≡◌, ℕ, zero, suc, ◌+◌, ◌-◌, ◌*�
 use Rattle.std.proofs.Common.{refl, sym, ◌∙◌, ap, subst, arith, inl, inr}
 use Rattle.std.proofs.lemmas.Option.{slice_get_within}
 use Rattle.gos_types.specs.Types.{Type'}
+use Rattle.gos_types.proofs.ListLemmas.{found_in_front, same_in_front}
 use Rattle.gos_model.specs.Typing.{Imported}
 use Rattle.gos_plan.specs.Kinds.{Share, Contact, asks, serves}
 use Rattle.gos_plan.specs.Plans.{End, PartEnd, ImportEnd, ResultEnd, Joint, Plan, contact_at, contacts_of_part, contacts_of_import}
 use Rattle.gos_plan.specs.Tokens.{IsPortEnd}
 use Rattle.gos_plan.specs.Joining.{Place, place, Link, Wiring, LeftImport, is_joined, left_among, all_left, all_parts, left_place, origin, IsJoining}
-use Rattle.gos_plan.proofs.JointLemmas.{fits, contained, one_joint}
+use Rattle.gos_plan.proofs.JointLemmas.{fits, contained, one_joint, which_end}
+use Rattle.gos_plan.proofs.ContactLemmas.{part_is_there}
 use Rattle.gos_realises.specs.realises.Regular.{count}
 use Rattle.gos_realises.proofs.realises.LeftLemmas.{left_list, left_all}
-use Rattle.gos_realises.proofs.joined.OriginLemmas.{front_at}
 use Rattle.gos_joining.specs.webs.Webs.{joint}
 use Rattle.gos_joining.specs.webs.Cutting.{Cut, StandsIn, IsInside, lies_at}
-use Rattle.gos_joining.proofs.webs.CutLemmas.{which_end, stands_by, part_at}
+use Rattle.gos_joining.proofs.webs.CutLemmas.{stands_by}
 use Rattle.gos_joining.proofs.unions.LinkLemmas.{joined_by}
 use Rattle.gos_sharing.specs.behind.Source.{IsBefore}
 use Rattle.gos_sharing.specs.function_types.Joined.{wiring, AllPortPlaces}
@@ -48,11 +49,6 @@ listed_list k i (y ∷ xs) zero x there =
 listed_list k i (y ∷ xs) (suc j) x there =
     listed_list k (suc i) xs j x there ∙ (let e : suc i + j ≡ i + suc j = omega arith in λ l. Some (record { plan = k; number = e l; import = x }))
 
-pub front_some : {A : Type 0} (xs ys : List A) (n : ℕ) (x : A) → slice_get xs n ≡ Some x → slice_get (xs ++ ys) n ≡ Some x
-front_some [] ys n x e = absurd (cc e)
-front_some (y ∷ xs) ys zero x e = e
-front_some (y ∷ xs) ys (suc n) x e = front_some xs ys n x e
-
 pub mapped_some : (ls : List LeftImport) (n : ℕ) (l : LeftImport) → slice_get ls n ≡ Some l → slice_get (map (λ y. y.import) ls) n ≡ Some l.import
 mapped_some [] n l e = absurd (cc e)
 mapped_some (y ∷ ys) zero l e = let same : y ≡ l = cc e in ap (λ z. Some z.import) same
@@ -68,7 +64,7 @@ module _ (f : Cut) (i : ℕ) (t : Type') (c : ℕ) (x p : Plan) (is : IsBefore f
     ports = results_are_ports ls kept
 
     low_x : (n : ℕ) → n < length x.parts → slice_get X.parts n ≡ slice_get x.parts n
-    low_x n low = ap (λ ks. slice_get ks n) joins.parts ∙ front_at x.parts (all_parts ps) n low
+    low_x n low = ap (λ ks. slice_get ks n) joins.parts ∙ same_in_front x.parts (all_parts ps) n low
 
     -- its imports stay
     none_joined : (n : ℕ) → is_joined ls 0 n ≡ false
@@ -91,7 +87,7 @@ module _ (f : Cut) (i : ℕ) (t : Type') (c : ℕ) (x p : Plan) (is : IsBefore f
     left_some n y there =
         let e : 0 + n ≡ n = omega arith in
         ap (λ l. slice_get l n) left_first
-        ∙ (front_some (left_list 0 0 x.imports) (left_among ls 1 ps) n (record { plan = 0; number = 0 + n; import = y }) (listed_list 0 0 x.imports n y there)
+        ∙ (found_in_front (left_list 0 0 x.imports) (left_among ls 1 ps) n (record { plan = 0; number = 0 + n; import = y }) (listed_list 0 0 x.imports n y there)
         ∙ (λ l. Some (record { plan = 0; number = e l; import = y })))
 
     import_some : (n : ℕ) (y : Imported) → slice_get x.imports n ≡ Some y → slice_get X.imports n ≡ Some y
@@ -109,7 +105,7 @@ module _ (f : Cut) (i : ℕ) (t : Type') (c : ℕ) (x p : Plan) (is : IsBefore f
     stays : (e : End) (k : Contact) → (IsResultEnd e → ⊥) → contact_at x e ≡ Some k → Stays e
     stays (ResultEnd h) k own there = absurd (own tt)
     stays (PartEnd n h) k own there =
-        let (part, at_part) = part_at (slice_get x.parts n) h k there in
+        let (part, at_part) = part_is_there (slice_get x.parts n) h k there in
         let low = slice_get_within x.parts n part at_part in
         (low_origin x ps ls giver skipped ty X ports joins n h low, λ d at_d. ap (λ y. slice_get (contacts_of_part y) h) (low_x n low) ∙ at_d)
     stays (ImportEnd n h) k own there =

@@ -8,11 +8,12 @@ use Rattle.gos_plan.specs.Kinds.{Contact, asks, serves}
 use Rattle.gos_plan.specs.Plans.{End, PartEnd, ImportEnd, ResultEnd, Joint, Plan, contact_at, contacts_of_part, contacts_of_import, turned_if}
 use Rattle.gos_plan.specs.Tokens.{IsPortEnd}
 use Rattle.gos_plan.specs.Joining.{Place, place, Link, Wiring, all_parts, all_left, left_in, left_among, left_place, part_place, origin, Path, Connects, IsJoining}
-use Rattle.gos_plan.proofs.JointLemmas.{fits, contained}
+use Rattle.gos_plan.proofs.JointLemmas.{fits, contained, which_end}
+use Rattle.gos_plan.proofs.ContactLemmas.{part_is_there}
 use Rattle.gos_realises.specs.realises.Regular.{count}
 use Rattle.gos_joining.specs.webs.Webs.{joint}
 use Rattle.gos_joining.specs.webs.Cutting.{StandsIn}
-use Rattle.gos_joining.proofs.webs.CutLemmas.{which_end, stands_by, part_at}
+use Rattle.gos_joining.proofs.webs.CutLemmas.{stands_by}
 use Rattle.gos_sharing.specs.function_types.Joined.{wiring, IsPortPlace, AllPortPlaces, JoinedIsSplit}
 use Rattle.gos_sharing.specs.function_types.Split.{Splitting, IsUsed, IsSplit}
 use Rattle.gos_sharing.proofs.function_types.MappedLemmas.{later_port, left_port, first_part, other_part, other_origin, place_at, IsCarried, port_stays, path_goes}
@@ -205,7 +206,7 @@ module _ (f : Splitting) (x u : Plan) (is : IsSplit f x u) (ps : List Plan) (ls 
         of_end (ImportEnd n l) stood_x named d at_d = let clash : ImportEnd n l ≡ PartEnd m h = sym (is.ports (ImportEnd n l) tt) ∙ named in absurd (cc clash)
         of_end (ResultEnd l) stood_x named d at_d = let clash : ResultEnd l ≡ PartEnd m h = sym (is.ports (ResultEnd l) tt) ∙ named in absurd (cc clash)
         of_end (PartEnd n l) stood_x named d at_d =
-            let (part, at_part) = part_at (slice_get x.parts n) l d at_d in
+            let (part, at_part) = part_is_there (slice_get x.parts n) l d at_d in
             let low = slice_get_within x.parts n part at_part in
             record {
               from = PartEnd n l;

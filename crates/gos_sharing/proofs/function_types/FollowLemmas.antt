@@ -1,6 +1,7 @@
 -- Lists of the plan with the Share are lists of the one with the two Shares, and matched where these are.
-use Rattle.std.specs.Prelude.{◌≡◌, ◌≢◌, ℕ, Bool, true, false, List, [], ◌∷◌, ◌++◌, ◌⊎◌, Option, Some, None, slice_get, nat_eq, if◌then◌else◌}
-use Rattle.std.proofs.Common.{refl, sym, ◌∙◌, ap, subst, arith, inl, inr}
+use Rattle.std.specs.Prelude.{◌≡◌, ℕ, Bool, true, false, List, [], ◌∷◌, ◌++◌, Option, Some, None, slice_get, nat_eq, if◌then◌else◌}
+use Rattle.std.proofs.Common.{refl, sym, ◌∙◌, ap, subst, inl, inr}
+use Rattle.std.proofs.lemmas.Bool.{cases_eq}
 use Rattle.gos_types.specs.Types.{Fun}
 use Rattle.gos_types.specs.Events.{Direction}
 use Rattle.gos_model.specs.Moves.{Program, Config, Idle}
@@ -10,36 +11,30 @@ use Rattle.gos_plan.specs.Firing.{Rest, State, at, Slot, firing}
 use Rattle.gos_plan.specs.Plans.{End, PartEnd, ImportEnd, ResultEnd, Plan, contact_at, contacts_of_part}
 use Rattle.gos_plan.specs.Tokens.{Tokens, Element, Fire, Out, In, IsPortEnd, Passes, places_of, token_at, with_token, end_of, way_of, shake_of, way_taken, firing_of, fired, Does, Runs, IsIdle, IsQuiet}
 use Rattle.gos_plan.specs.Orderly.{Open, none_open}
-use Rattle.gos_plan.proofs.JointLemmas.{found, fits, contained}
+use Rattle.gos_plan.proofs.JointLemmas.{found, fits, contained, which_end}
 use Rattle.gos_plan.proofs.HeldLemmas.{nothing_there}
 use Rattle.gos_plan.proofs.DecidedLemmas.{one_state}
 use Rattle.gos_plan.proofs.RowLemmas.{role_taking}
 use Rattle.gos_plan.proofs.AskingLemmas.{RoleIs, row_roles}
 use Rattle.gos_plan.proofs.TurnLemmas.{way_to_take}
+use Rattle.gos_plan.proofs.ElementLemmas.{firing_part}
 use Rattle.gos_realises.specs.realises.Regular.{Pass, InputsKeepTurns, OutputsKeepTurns, IsRegular}
 use Rattle.gos_realises.specs.realises.Matched.{all_shown, Agrees, IsMatched, program_of}
 use Rattle.gos_realises.proofs.realises.RingLemmas.{after}
 use Rattle.gos_realises.proofs.realises.InputLemmas.{InputTurns, first_turn, later_turns, protocol_keeps_turns}
 use Rattle.gos_joining.specs.webs.Webs.{joint}
 use Rattle.gos_joining.specs.webs.Cutting.{asks_in}
-use Rattle.gos_joining.proofs.webs.CutLemmas.{part_there, which_end, stands_by, asks_one, asks_there}
+use Rattle.gos_joining.proofs.webs.CutLemmas.{stands_by, asks_one, asks_there}
 use Rattle.gos_joining.proofs.webs.MovedLemmas.{listed}
 use Rattle.gos_sharing.specs.buffers.Buffers.{IsLoyal}
 use Rattle.gos_sharing.proofs.buffers.BranchLemmas.{none_fits}
 use Rattle.gos_realises.proofs.realises.IdleLemmas.{idle_welcome}
 use Rattle.gos_sharing.proofs.behind.StepLemmas.{Ordered, out_joined, from_idle}
-use Rattle.gos_sharing.proofs.behind.HandingLemmas.{slot_of}
+use Rattle.gos_sharing.proofs.behind.HandingLemmas.{slot_of, way_of_slot}
 use Rattle.gos_sharing.specs.function_types.Split.{Splitting, IsUsed, IsSplit, SplitIsRegular, SplitIsDone}
 use Rattle.gos_sharing.proofs.function_types.MovedLemmas.{token_so, part_state}
 use Rattle.gos_sharing.proofs.function_types.AlikeLemmas.{seen, Alike, Next, part_fires, port_out, port_in}
-use Rattle.gos_sharing.proofs.function_types.SwapLemmas.{end_so, way_so, share_fires, welcome}
-
-either_part : (n m : ℕ) → (n ≡ m) ⊎ (n ≢ m)
-either_part n m = by_test (nat_eq n m) refl
-  where
-    by_test : (b : Bool) → nat_eq n m ≡ b → (n ≡ m) ⊎ (n ≢ m)
-    by_test true t = inl (grind (arith, t))
-    by_test false t = inr (λ e. let yes : nat_eq n m ≡ true = grind (arith, e) in let clash : true ≡ false = sym yes ∙ t in cc clash)
+use Rattle.gos_sharing.proofs.function_types.SwapLemmas.{end_so, share_fires, welcome}
 
 module _ (f : Splitting) (x u : Plan) (is : IsSplit f x u) where
   abbrev before : Tokens → Tokens
@@ -47,7 +42,7 @@ module _ (f : Splitting) (x u : Plan) (is : IsSplit f x u) where
 
   -- each step
   step : (past : List Pass) (o mine : Open) (s w : Tokens) → Alike f x u is past o mine s → (z : Element) → Does x z s w → InputTurns x past z → Next f x u is past o s z w
-  step past o mine s w h (Fire n slot) does turn = elim (either_part n f.wide) [
+  step past o mine s w h (Fire n slot) does turn = elim (cases_eq n f.wide) [
     | inl same ↦
         subst (λ (m : ℕ). Next f x u is past o s (Fire m slot) w) (sym same)
         (share_fires f x u is past o mine s w h slot (subst (λ (m : ℕ). Does x (Fire m slot) s w) same does))
@@ -106,7 +101,7 @@ module _ (f : Splitting) (x u : Plan) (is : IsSplit f x u) where
       no_fire n slot w (v, row, lies, by, leads) = by_place (places_of u (end_of n slot)) refl
         where
           part : (k : Part) × (slice_get u.parts n ≡ Some k)
-          part = part_there (slice_get u.parts n) ((before s).state n) slot row by
+          part = firing_part (slice_get u.parts n) ((before s).state n) slot row by
 
           fires : firing part.0 ((before s).state n) slot ≡ Some row
           fires = ap (λ p. firing_of p ((before s).state n) slot) (sym part.1) ∙ by
@@ -122,9 +117,9 @@ module _ (f : Splitting) (x u : Plan) (is : IsSplit f x u) where
           of_end (PartEnd m g) owned named c at_x way lying =
               let own_slot = slot_of (way_of slot) g in
               let at_m : contact_at x (end_of m own_slot) ≡ Some c = ap (contact_at x) (end_so m (way_of slot) g) ∙ at_x in
-              let own_way : way_taken c.role ≡ way_of own_slot = way ∙ sym (way_so (way_of slot) g) in
+              let own_way : way_taken c.role ≡ way_of own_slot = way ∙ sym (way_of_slot (way_of slot) g) in
               let own_lies : token_at x s (end_of m own_slot) (way_of own_slot) ≡ Some v =
-              (λ l. token_at x s (end_so m (way_of slot) g l) (way_so (way_of slot) g l)) ∙ lying
+              (λ l. token_at x s (end_so m (way_of slot) g l) (way_of_slot (way_of slot) g l)) ∙ lying
               in
               let (own_row, own_fires) = welcome f x u is past o mine s h m own_slot c v at_m own_way own_lies in
               quiet.0 m own_slot (fired x m own_row v s) (v, own_row, own_lies, own_fires, refl)
@@ -179,7 +174,7 @@ module _ (f : Splitting) (x u : Plan) (is : IsSplit f x u) where
           let clash : None ≡ Some v = sym (idle.0 way (f.end e)) ∙ (shown ∙ lies) in absurd (cc clash)
 
       at_part : (n : ℕ) → (s.state n).phase ≡ Rest
-      at_part n = elim (either_part n f.wide) [
+      at_part n = elim (cases_eq n f.wide) [
         | inl same ↦ subst (λ (m : ℕ). (s.state m).phase ≡ Rest) (sym same) h.rests
         | inr own ↦ ap (λ (q : State). q.phase) (sym (part_state f x u is n own s)) ∙ idle.1 (f.part n)
       ]

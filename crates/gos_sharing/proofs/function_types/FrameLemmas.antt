@@ -1,11 +1,12 @@
 -- A plan behind a Share, applied to an argument, and the plan applied to the argument behind a Share, itself behind one: their parts and ports.
 -- Without their joints the one is split into the other.
-use Rattle.std.specs.Prelude.{◌≡◌, ◌≢◌, ℕ, zero, suc, ◌+◌, ◌<◌, ◌≤◌, [], ◌++◌, length, map, Some, slice_get, Contains}
+use Rattle.std.specs.Prelude.{◌≡◌, ◌≢◌, ℕ, zero, suc, ◌+◌, ◌<◌, ◌≤◌, [], ◌++◌, length, map, Some, slice_get}
 use Rattle.std.proofs.Common.{refl, sym, ◌∙◌, ap, arith, inl, inr}
 use Rattle.std.proofs.lemmas.Option.{slice_get_past}
 use Rattle.gos_types.specs.Types.{Type', Fun}
+use Rattle.gos_types.proofs.ListLemmas.{element_at, none_in_empty}
 use Rattle.gos_plan.specs.Kinds.{Share}
-use Rattle.gos_plan.specs.Plans.{End, PartEnd, ImportEnd, ResultEnd, Joint, Plan}
+use Rattle.gos_plan.specs.Plans.{End, PartEnd, ImportEnd, ResultEnd, Plan}
 use Rattle.gos_plan.specs.Tokens.{IsPortEnd}
 use Rattle.gos_plan.specs.Joining.{LeftImport, IsJoining}
 use Rattle.gos_realises.specs.realises.Wirings.{applying}
@@ -19,17 +20,13 @@ use Rattle.gos_sharing.proofs.function_types.NumberLemmas as numbered
 use Rattle.gos_sharing.proofs.function_types.SideLemmas.{first_part, second_part, lefts}
 use Rattle.gos_sharing.proofs.function_types.StandLemmas.{part_count, low_or_more}
 use Rattle.gos_sharing.proofs.function_types.HomeLemmas.{one_longer}
-use Rattle.gos_sharing.proofs.function_types.JoinedLemmas.{part_is}
 
 -- a plan without its joints
 abbrev pub bare : Plan → Plan
 bare p = record p { joints = [] }
 
-none_has : (j : Joint) → Contains [] j → ⊥
-none_has j (k, small, e) = omega (arith, small)
-
 none_stands : (p : Plan) (e : End) → StandsIn (bare p) e → ⊥
-none_stands p e (j, has, stood) = none_has j has
+none_stands p e (j, has, stood) = none_in_empty j has
 
 module _ (a b : Type') (c : ℕ) (p q r z y x u : Plan) (of_r : IsBehind (length p.parts) (Fun a b) c r p) (of_z : IsBehind (length q.parts) a c z q)
     (of_y : IsJoining (applying a b p z) y) (of_x : IsJoining (applying a b r q) x) (of_u : IsBehind (suc (length p.parts + length q.parts)) b c u y)
@@ -69,13 +66,13 @@ module _ (a b : Type') (c : ℕ) (p q r z y x u : Plan) (of_r : IsBehind (length
 
     of_function : (n : ℕ) → n < P → slice_get u.parts n ≡ slice_get x.parts n
     of_function n low =
-        let (k, there) = part_is p.parts n low in
+        let (k, there) = element_at p.parts n low in
         own_u n (omega (arith, low))
         ∙ (first_part a b p z y of_y n k there ∙ sym (first_part a b r q x of_x n k (own_part P t c r p of_r.frame n low ∙ there)))
 
     of_argument : (m : ℕ) → m < Q → slice_get u.parts (P + m) ≡ slice_get x.parts (suc P + m)
     of_argument m low =
-        let (k, there) = part_is q.parts m low in
+        let (k, there) = element_at q.parts m low in
         own_u (P + m) (omega (arith, low))
         ∙ (second_part a b p z y of_y m k (own_part Q a c z q of_z.frame m low ∙ there)
         ∙ sym (ap (λ (n : ℕ). slice_get x.parts (n + m)) (sym r_size) ∙ second_part a b r q x of_x m k there))
@@ -144,6 +141,6 @@ module _ (a b : Type') (c : ℕ) (p q r z y x u : Plan) (of_r : IsBehind (length
           outcome_caller = numbered.outcome_caller a b c P Q;
           used = λ e stood. absurd (none_stands x e stood);
           returns = numbered.comes_back a b c P Q;
-          joints = λ d e has. absurd (none_has (joint d e) has);
-          all = λ d e has. absurd (none_has (joint d e) has);
+          joints = λ d e has. absurd (none_in_empty (joint d e) has);
+          all = λ d e has. absurd (none_in_empty (joint d e) has);
         }

@@ -1,22 +1,25 @@
 -- What is joined to split plans is split.
-use Rattle.std.specs.Prelude.{◌≡◌, ◌≢◌, ℕ, zero, suc, ◌+◌, ◌-◌, ◌*◌, ◌<◌, Bool, true, false, List, [], ◌∷◌, ◌⊎◌, length, Some, slice_get, nat_lt, Contains, if◌then◌else◌}
+use Rattle.std.specs.Prelude.{◌≡◌, ◌≢◌, ℕ, zero, suc, ◌+◌, ◌-◌, ◌*◌, ◌<◌, Bool, true, false, List, ◌⊎◌, length, Some, slice_get, nat_lt, Contains, if◌then◌else◌}
 use Rattle.std.proofs.Common.{refl, sym, ◌∙◌, ap, subst, arith, inl, inr}
 use Rattle.std.proofs.lemmas.Bool.Decides.{nat_tests}
 use Rattle.std.proofs.lemmas.Option.{slice_get_within, same_Some}
 use Rattle.gos_types.specs.Types.{Type', Fun}
-use Rattle.gos_plan.specs.Kinds.{Part, Share, Contact, asks, serves, contacts_of, turned_contact, part_contacts}
+use Rattle.gos_types.proofs.ListLemmas.{element_at}
+use Rattle.gos_plan.specs.Kinds.{Share, Contact, asks, serves, contacts_of, turned_contact, part_contacts}
 use Rattle.gos_plan.specs.Plans.{End, PartEnd, ImportEnd, ResultEnd, Plan, contact_at, contacts_of_part, contacts_of_import, turned_if}
 use Rattle.gos_plan.specs.Joining.{Place, place, Link, Wiring, part_place, origin, Path, IsJoining}
 use Rattle.gos_plan.proofs.AskingLemmas.{source_at, first_caller_at, second_caller_at}
+use Rattle.gos_plan.proofs.ContactLemmas.{turned_contact_twice}
+use Rattle.gos_plan.proofs.JointLemmas.{which_end}
 use Rattle.gos_realises.specs.realises.Regular.{count}
 use Rattle.gos_realises.proofs.realises.GroundTurnLemmas.{count_fun}
-use Rattle.gos_realises.proofs.joined.StepLemmas.{role_twice}
 use Rattle.gos_realises.proofs.joined.ReachLemmas.{Step, paths_back}
 use Rattle.gos_joining.specs.webs.Cutting.{StandsIn}
-use Rattle.gos_joining.proofs.webs.CutLemmas.{which_end, stands_by}
+use Rattle.gos_joining.proofs.webs.CutLemmas.{stands_by}
 use Rattle.gos_joining.proofs.unions.PlaceLemmas.{fields_of, stands_alone}
+use Rattle.gos_supplies.proofs.turns.BetweenLemmas.{fun_first}
 use Rattle.gos_sharing.specs.sharing.Sharing.{source_end, caller_end}
-use Rattle.gos_sharing.proofs.behind.BetweenLemmas.{first_of_fun, second_of_fun}
+use Rattle.gos_sharing.proofs.behind.BetweenLemmas.{second_of_fun}
 use Rattle.gos_sharing.proofs.buffers.HousedLemmas.{not_both}
 use Rattle.gos_sharing.specs.function_types.Joined.{wiring, IsPortPlace, AllPortPlaces}
 use Rattle.gos_sharing.specs.function_types.Split.{Splitting, IsUsed, IsSplit}
@@ -35,19 +38,6 @@ share_caller r k t (suc zero) two j d there at_j =
     let e : count t + 1 * count t + j ≡ count t + count t + j = omega arith in
     ap (λ y. slice_get (contacts_of_part y) (count t + 1 * count t + j)) there ∙ (ap (slice_get (part_contacts (Share t))) e ∙ second_caller_at t j d at_j)
 share_caller r k t (suc (suc c)) two j d there at_j = absurd (omega (arith, two))
-
-there_is : (cs : List Contact) (h : ℕ) → h < length cs → (k : Contact) × (slice_get cs h ≡ Some k)
-there_is [] h low = absurd (omega (arith, low))
-there_is (x ∷ xs) zero low = (x, refl)
-there_is (x ∷ xs) (suc h) low = there_is xs h (omega (arith, low))
-
-pub part_is : (xs : List Part) (h : ℕ) → h < length xs → (k : Part) × (slice_get xs h ≡ Some k)
-part_is [] h low = absurd (omega (arith, low))
-part_is (x ∷ xs) zero low = (x, refl)
-part_is (x ∷ xs) (suc h) low = part_is xs h (omega (arith, low))
-
-twice_turned : (d : Contact) → turned_contact (turned_contact d) ≡ d
-twice_turned d = λ n. record { role = role_twice d.role n; ask_bits = d.ask_bits; answer_bits = d.answer_bits }
 
 -- a part's end of the first plan that stands in a joint stands in one of its plan
 module _ (x : Plan) (ps : List Plan) (ls : List Link) (giver skipped : ℕ) (ty : Type') (whole : Plan) (kept : AllPortPlaces ls) (joins : IsJoining (wiring x ps ls giver skipped ty) whole) where
@@ -112,13 +102,13 @@ module _ (f : Splitting) (x u : Plan) (is : IsSplit f x u) where
   source_stays : (j : ℕ) → j < count (Fun f.of f.to) → Stays (source_end f.wide j)
   source_stays j low k at_k = elim (by_size j) [
     | inl small ↦
-        (let (d, at_d) = there_is (contacts_of f.of) j small in
-        let mine = share_source x f.wide (Fun f.of f.to) j (turned_contact d) is.wide_share (first_of_fun f.of f.to j d at_d) in
-        let same : d ≡ k = sym (twice_turned d) ∙ same_Some (turned_contact (turned_contact d)) k (sym mine ∙ at_k) in
+        (let (d, at_d) = element_at (contacts_of f.of) j small in
+        let mine = share_source x f.wide (Fun f.of f.to) j (turned_contact d) is.wide_share (fun_first f.of f.to j d at_d) in
+        let same : d ≡ k = sym (turned_contact_twice d) ∙ same_Some (turned_contact (turned_contact d)) k (sym mine ∙ at_k) in
         ap (contact_at u) (is.argument_source j small) ∙ (share_caller u f.argument f.of f.caller is.chosen j d is.argument_share at_d ∙ ap Some same))
     | inr (l, sum) ↦
         (let small : l < count f.to = (let size = sizes in omega (arith, low, sum, size)) in
-        let (d, at_d) = there_is (contacts_of f.to) l small in
+        let (d, at_d) = element_at (contacts_of f.to) l small in
         let at_j : slice_get (contacts_of (Fun f.of f.to)) j ≡ Some d = ap (slice_get (contacts_of (Fun f.of f.to))) sum ∙ (second_of_fun f.of f.to l ∙ at_d) in
         let mine = share_source x f.wide (Fun f.of f.to) j d is.wide_share at_j in
         let same : turned_contact d ≡ k = same_Some (turned_contact d) k (sym mine ∙ at_k) in
@@ -129,13 +119,13 @@ module _ (f : Splitting) (x u : Plan) (is : IsSplit f x u) where
   caller_stays : (j : ℕ) → j < count (Fun f.of f.to) → Stays (caller_end f.wide (Fun f.of f.to) f.caller j)
   caller_stays j low k at_k = elim (by_size j) [
     | inl small ↦
-        (let (d, at_d) = there_is (contacts_of f.of) j small in
-        let mine = share_caller x f.wide (Fun f.of f.to) f.caller is.chosen j (turned_contact d) is.wide_share (first_of_fun f.of f.to j d at_d) in
+        (let (d, at_d) = element_at (contacts_of f.of) j small in
+        let mine = share_caller x f.wide (Fun f.of f.to) f.caller is.chosen j (turned_contact d) is.wide_share (fun_first f.of f.to j d at_d) in
         let same : turned_contact d ≡ k = same_Some (turned_contact d) k (sym mine ∙ at_k) in
         ap (contact_at u) (is.argument_caller j small) ∙ (share_source u f.argument f.of j d is.argument_share at_d ∙ ap Some same))
     | inr (l, sum) ↦
         (let small : l < count f.to = (let size = sizes in omega (arith, low, sum, size)) in
-        let (d, at_d) = there_is (contacts_of f.to) l small in
+        let (d, at_d) = element_at (contacts_of f.to) l small in
         let at_j : slice_get (contacts_of (Fun f.of f.to)) j ≡ Some d = ap (slice_get (contacts_of (Fun f.of f.to))) sum ∙ (second_of_fun f.of f.to l ∙ at_d) in
         let mine = share_caller x f.wide (Fun f.of f.to) f.caller is.chosen j d is.wide_share at_j in
         let same : d ≡ k = same_Some d k (sym mine ∙ at_k) in
@@ -168,11 +158,11 @@ module _ (f : Splitting) (x u : Plan) (is : IsSplit f x u) where
   wide_low = slice_get_within x.parts f.wide (Share (Fun f.of f.to)) is.wide_share
 
   pub part_low : (n : ℕ) → n ≢ f.wide → n < length x.parts → f.part n < length u.parts
-  part_low n own low = let (k, there) = part_is x.parts n low in slice_get_within u.parts (f.part n) k ((is.parts n own).0 ∙ there)
+  part_low n own low = let (k, there) = element_at x.parts n low in slice_get_within u.parts (f.part n) k ((is.parts n own).0 ∙ there)
 
   pub back_low : (m : ℕ) → m ≢ f.argument → m ≢ f.outcome → m < length u.parts → f.part_back m < length x.parts
   back_low m one other low =
-      let (k, there) = part_is u.parts m low in
+      let (k, there) = element_at u.parts m low in
       let (comes, own) = is.others m one other in
       slice_get_within x.parts (f.part_back m) k (sym (is.parts (f.part_back m) own).0 ∙ (ap (slice_get u.parts) comes ∙ there))
 

@@ -3,12 +3,14 @@ use Rattle.std.specs.Prelude.{◌≡◌, ℕ, zero, suc, ◌-◌, ◌<◌, ◌�
 use Rattle.std.proofs.Common.{refl, sym, ◌∙◌, ap, subst, arith, inl, inr}
 use Rattle.std.proofs.lemmas.Bool.Decides.{nat_tests}
 use Rattle.gos_types.specs.Types.{Type'}
+use Rattle.gos_types.proofs.ListLemmas.{same_in_front}
 use Rattle.gos_plan.specs.Kinds.{Part}
 use Rattle.gos_plan.specs.Plans.{End, PartEnd, Plan}
 use Rattle.gos_plan.specs.Tokens.{IsPortEnd}
 use Rattle.gos_plan.specs.Joining.{Place, place, Link, Wiring, LeftImport, left_place, part_place, origin, JoinedWithin, Linked, Path}
-use Rattle.gos_realises.proofs.joined.OriginLemmas.{front_at, behind_at}
-use Rattle.gos_realises.proofs.joined.ReachLemmas.{place_is, Step, Paths}
+use Rattle.gos_plan.proofs.WiringLemmas.{place_is}
+use Rattle.gos_realises.proofs.joined.OriginLemmas.{behind_at}
+use Rattle.gos_realises.proofs.joined.ReachLemmas.{Step, Paths}
 use Rattle.gos_joining.specs.webs.Webs.{joint}
 use Rattle.gos_joining.proofs.unions.PathLemmas.{path_walk, walks_paths}
 use Rattle.gos_joining.proofs.unions.WalkLemmas.{goes, mapped_walk}
@@ -33,7 +35,7 @@ left_port (Some l) h same = tt
 
 -- the parts of the first plan, and those behind them
 pub first_part : (p P : Plan) (ks : List Part) → P.parts ≡ p.parts ++ ks → (n : ℕ) → n < length p.parts → slice_get P.parts n ≡ slice_get p.parts n
-first_part p P ks parts n low = ap (λ xs. slice_get xs n) parts ∙ front_at p.parts ks n low
+first_part p P ks parts n low = ap (λ xs. slice_get xs n) parts ∙ same_in_front p.parts ks n low
 
 pub other_part : (p P : Plan) (ks : List Part) → P.parts ≡ p.parts ++ ks → (n : ℕ) → length p.parts ≤ n
     → slice_get P.parts n ≡ slice_get ks (n - length p.parts)

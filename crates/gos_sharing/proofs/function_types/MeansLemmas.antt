@@ -1,6 +1,5 @@
 -- Realising at each type: what is joined to split plans is split.
 use Rattle.std.specs.Prelude.{◌≡◌, ◌≢◌, ℕ, zero, suc, Bool, true, false, List, [], ◌∷◌, Some, All, Contains, slice_get, nat_eq}
-use Rattle.std.specs.List.{AllByRecursion}
 use Rattle.std.proofs.Common.{refl, sym, ◌∙◌, ap, subst, arith}
 use Rattle.std.proofs.lemmas.List.Elements.{All-contains, All-from_recursion}
 use Rattle.gos_types.specs.Types.{Type', Com, Exp, Var, Pair, Fun, IsDone}
@@ -17,6 +16,7 @@ use Rattle.gos_realises.specs.realises.Links.{IsJoined}
 use Rattle.gos_realises.specs.realises.Wirings.{lone, link, results_linked}
 use Rattle.gos_realises.specs.realises.Realises.{AllGround, NamesDiffer, HaveOtherNames, Suits, Means}
 use Rattle.gos_realises.proofs.joined.WholeLemmas.{applied_is_joined, sides_are_joined, variables_are_joined}
+use Rattle.gos_realises.proofs.realises.LiteralLemmas.{each_fits}
 use Rattle.gos_joining.specs.webs.Cutting.{Cut}
 use Rattle.gos_sharing.specs.buffers.Buffers.{IsLoyal}
 use Rattle.gos_sharing.specs.behind.Source.{IsBefore}
@@ -34,10 +34,6 @@ pub part_there : (xs : List Part) (k : ℕ) (x : Part) → slice_get xs k ≡ So
 part_there [] k x at = absurd (cc at)
 part_there (y ∷ xs) zero x at = (0, omega arith, cc at)
 part_there (y ∷ xs) (suc k) x at = let (n, within, is) = part_there xs k x at in (suc n, omega (arith, within), is)
-
-pub each_fits : (xs : List Part) → ((k : ℕ) (x : Part) → slice_get xs k ≡ Some x → LiteralFits x) → AllByRecursion LiteralFits xs
-each_fits [] each = tt
-each_fits (x ∷ xs) each = (each 0 x refl, each_fits xs (λ k y at. each (suc k) y at))
 
 -- the links join results
 pub no_links : AllResults []

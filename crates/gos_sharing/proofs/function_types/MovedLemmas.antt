@@ -1,16 +1,17 @@
 -- The ends, places, tokens and open handshakes of the plan with the Share, in the one with the two Shares.
-use Rattle.std.specs.Prelude.{◌≡◌, ◌≢◌, ℕ, Bool, true, false, ◌&&◌, ◌⊎◌, Option, Some, None, nat_eq}
+use Rattle.std.specs.Prelude.{◌≡◌, ◌≢◌, ℕ, Bool, true, false, ◌⊎◌, Option, Some, None, nat_eq}
 use Rattle.std.proofs.Common.{refl, sym, ◌∙◌, ap, subst, arith, inl, inr, if◌then◌else◌}
 use Rattle.gos_types.specs.Events.{Direction, Request, Answer}
+use Rattle.gos_types.proofs.BoolLemmas.{same_tests}
 use Rattle.gos_plan.specs.Firing.{Rest, State, at}
 use Rattle.gos_plan.specs.Plans.{End, Joint, Plan, same_end, stands_in}
 use Rattle.gos_plan.specs.Tokens.{Tokens, places_of, same_way, with_place, with_state, held_at, with_held, token_at, with_token}
 use Rattle.gos_plan.specs.Orderly.{Open, named_by, handshake_at, with_open, after_taken, after_put, ComesWell}
-use Rattle.gos_plan.proofs.JointLemmas.{IsIn, same_itself, same_is, found, has_place, stands_there, contained}
+use Rattle.gos_plan.proofs.JointLemmas.{IsIn, same_itself, same_is, found, has_place, stands_there, contained, which_end}
 use Rattle.gos_joining.specs.webs.Webs.{joint}
 use Rattle.gos_joining.specs.webs.Cutting.{asks_in}
-use Rattle.gos_joining.proofs.webs.CutLemmas.{which_end, stands_by, asks_one, asks_there, asker_asks}
-use Rattle.gos_joining.proofs.webs.MovedLemmas.{listed, same_bool}
+use Rattle.gos_joining.proofs.webs.CutLemmas.{stands_by, asks_one, asks_there, asker_asks, filled_so}
+use Rattle.gos_joining.proofs.webs.MovedLemmas.{listed}
 use Rattle.gos_sharing.specs.function_types.Split.{Splitting, IsUsed, IsSplit}
 
 -- the tokens of the plan with the two Shares, which are always at their one caller
@@ -21,12 +22,6 @@ split f u s =
       state = λ n. if nat_eq n f.argument then at Rest f.caller else if nat_eq n f.outcome then at Rest f.caller else s.state (f.part_back n);
     }
 
-filled_so : (w d l q : Bool) (held old : Option ℕ) → (q ≡ true → l ≡ d) → (q ≡ false → d ≡ false)
-    → (if w && d then held else if q then old else None) ≡ (if q then if w && l then held else old else None)
-filled_so w d l true held old same never = ap (λ (b : Bool). if w && b then held else old) (sym (same refl))
-filled_so true d l false held old same never = ap (λ (b : Bool). if b then held else None) (never refl)
-filled_so false d l false held old same never = refl
-
 module _ (f : Splitting) (x u : Plan) (is : IsSplit f x u) where
   abbrev used : End → Type 0
   used = IsUsed f
@@ -35,7 +30,7 @@ module _ (f : Splitting) (x u : Plan) (is : IsSplit f x u) where
   one_end d e own also same = sym (is.returns d own) ∙ (ap f.end_back same ∙ is.returns e also)
 
   pub same_moved : (d e : End) → used d → used e → same_end (f.end d) (f.end e) ≡ same_end d e
-  same_moved d e own also = same_bool (same_end (f.end d) (f.end e)) (same_end d e) to from
+  same_moved d e own also = same_tests (same_end (f.end d) (f.end e)) (same_end d e) to from
     where
       to : same_end (f.end d) (f.end e) ≡ true → same_end d e ≡ true
       to h = subst (λ (y : End). same_end d y ≡ true) (one_end d e own also (same_is (f.end d) (f.end e) h)) (same_itself d)

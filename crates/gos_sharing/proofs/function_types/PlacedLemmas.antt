@@ -1,26 +1,28 @@
 -- Joints of a plan behind a Share, applied to an argument, and of the plan applied to the argument behind a Share, itself behind one.
-use Rattle.std.specs.Prelude.{◌≡◌, ℕ, zero, suc, ◌+◌, ◌-◌, ◌*◌, ◌<◌, Bool, true, false, List, [], ◌∷◌, length, Some, slice_get, nat_lt, Contains, if◌then◌else◌}
+use Rattle.std.specs.Prelude.{◌≡◌, ℕ, ◌+◌, ◌-◌, ◌*◌, ◌<◌, Bool, true, false, [], length, Some, slice_get, nat_lt, Contains, if◌then◌else◌}
 use Rattle.std.proofs.Common.{refl, sym, ◌∙◌, ap, subst, arith, inl, inr}
 use Rattle.std.proofs.lemmas.Bool.Decides.{nat_tests}
 use Rattle.std.proofs.lemmas.Option.{slice_get_within, same_Some}
 use Rattle.gos_types.specs.declared.shakes.Role.{Role}
 use Rattle.gos_types.specs.declared.shakes.Role.TheVariants.{Serve, Ask}
 use Rattle.gos_types.specs.Types.{Type', Fun}
+use Rattle.gos_types.proofs.ListLemmas.{element_at}
 use Rattle.gos_plan.specs.Kinds.{Contact, asks, serves, contacts_of, turned_contact}
 use Rattle.gos_plan.specs.Plans.{End, PartEnd, ImportEnd, ResultEnd, Plan, contact_at}
 use Rattle.gos_plan.specs.Orderly.{named_by, handshake_at}
 use Rattle.gos_plan.specs.Joining.{Place, place, Wiring, origin, IsJoining}
 use Rattle.gos_plan.proofs.JointLemmas.{fits, contained}
+use Rattle.gos_plan.proofs.ContactLemmas.{turned_contact_twice}
 use Rattle.gos_realises.specs.realises.Regular.{count}
 use Rattle.gos_realises.specs.realises.Wirings.{applying}
 use Rattle.gos_realises.proofs.joined.ReachLemmas.{Step, Paths, paths_then, paths_back, step_back}
-use Rattle.gos_realises.proofs.joined.StepLemmas.{role_twice}
 use Rattle.gos_joining.specs.webs.Webs.{joint}
+use Rattle.gos_supplies.proofs.turns.BetweenLemmas.{fun_first}
 use Rattle.gos_sharing.specs.sharing.Sharing.{caller_end}
 use Rattle.gos_sharing.proofs.sharing.SeenTokenLemmas.{place_asking, place_serving}
 use Rattle.gos_sharing.specs.buffers.Buffering.{end_behind}
 use Rattle.gos_sharing.specs.behind.Behind.{outer_joint, IsBehind}
-use Rattle.gos_sharing.proofs.behind.BetweenLemmas.{first_of_fun, second_of_fun}
+use Rattle.gos_sharing.proofs.behind.BetweenLemmas.{second_of_fun}
 use Rattle.gos_sharing.proofs.behind.EndLemmas.{contact_behind, caller_contact, result_is}
 use Rattle.gos_sharing.proofs.function_types.BeforeLemmas.{IsResultEnd}
 use Rattle.gos_sharing.proofs.function_types.SideLemmas.{moved, first_stays, second_stays, result_stays, link_step, first_step, second_step}
@@ -29,14 +31,6 @@ not_result : (i : ℕ) (e : End) → IsResultEnd (end_behind i e) → ⊥
 not_result i (PartEnd n h) is = is
 not_result i (ImportEnd n h) is = is
 not_result i (ResultEnd h) is = is
-
-twice_turned : (d : Contact) → turned_contact (turned_contact d) ≡ d
-twice_turned d = λ n. record { role = role_twice d.role n; ask_bits = d.ask_bits; answer_bits = d.answer_bits }
-
-pub there_is : (cs : List Contact) (h : ℕ) → h < length cs → (k : Contact) × (slice_get cs h ≡ Some k)
-there_is [] h low = absurd (omega (arith, low))
-there_is (x ∷ xs) zero low = (x, refl)
-there_is (x ∷ xs) (suc h) low = there_is xs h (omega (arith, low))
 
 -- a joint gives its two ends one handshake
 pub one_handshake : (r : Plan) (a b : End) → Rattle.gos_plan.specs.Plans.IsRight r → Contains r.joints (joint a b) → handshake_at r a ≡ handshake_at r b
@@ -114,7 +108,7 @@ module _ (a b : Type') (c : ℕ) (p q r z y x : Plan) (of_r : IsBehind (length p
     lead_x (ImportEnd n h) k there = stays_there w x (ImportEnd (length r.imports + n) h) (place 1 (ImportEnd n h)) k (second_stays a b r q x of_x (ImportEnd n h) k (λ e. e) there)
     lead_x (ResultEnd j) k there =
         let (d, at_d, turned) = result_is Q a c z q of_z.frame j k there in
-        let at_t : slice_get (contacts_of (Fun a b)) j ≡ Some k = first_of_fun a b j d at_d ∙ ap Some (sym turned) in
+        let at_t : slice_get (contacts_of (Fun a b)) j ≡ Some k = fun_first a b j d at_d ∙ ap Some (sym turned) in
         let (at_o, at_c) = first_stays a b r q x of_x (caller_end P (Fun a b) c j) k (λ e. e) (caller_contact P (Fun a b) c r p of_r.frame j k at_t) in
         let first_two = paths_then w (place 0 (caller_end P (Fun a b) c j)) (place 0 (ResultEnd j)) (place 1 (ResultEnd j))
         (one_path w (place 0 (caller_end P (Fun a b) c j)) (place 0 (ResultEnd j)) (outer_step w P (Fun a b) c r p of_r 0 refl j k at_t))
@@ -155,9 +149,9 @@ module _ (a b : Type') (c : ℕ) (p q r z y x : Plan) (of_r : IsBehind (length p
         by_test : (t : Bool) → nat_lt j (count a) ≡ t → Leads v y (in_y (ResultEnd j)) (place 0 (ResultEnd j)) k
         by_test true test =
             let low : j < count a = grind (arith, nat_tests, test) in
-            let (d, at_d) = there_is (contacts_of a) j low in
-            let same : shake.0 ≡ turned_contact d = same_Some shake.0 (turned_contact d) (sym shake.1 ∙ first_of_fun a b j d at_d) in
-            let is_d : d ≡ k = sym (twice_turned d) ∙ (ap turned_contact (sym same) ∙ sym shake.2) in
+            let (d, at_d) = element_at (contacts_of a) j low in
+            let same : shake.0 ≡ turned_contact d = same_Some shake.0 (turned_contact d) (sym shake.1 ∙ fun_first a b j d at_d) in
+            let is_d : d ≡ k = sym (turned_contact_twice d) ∙ (ap turned_contact (sym same) ∙ sym shake.2) in
             let (at_o, at_c) = second_stays a b p z y of_y (caller_end Q a c j) d (λ e. e) (caller_contact Q a c z q of_z.frame j d at_d) in
             let all = paths_then v (place 1 (caller_end Q a c j)) (place 1 (ResultEnd j)) (place 0 (ResultEnd j))
             (one_path v (place 1 (caller_end Q a c j)) (place 1 (ResultEnd j)) (outer_step v Q a c z q of_z 1 refl j d at_d))

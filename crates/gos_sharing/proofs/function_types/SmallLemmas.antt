@@ -5,10 +5,9 @@ use Rattle.gos_types.specs.Types.{Com, Fun}
 use Rattle.gos_plan.specs.Kinds.{Part, Share}
 use Rattle.gos_plan.specs.Plans.{End, PartEnd, ImportEnd, ResultEnd, Joint, IsRight}
 use Rattle.gos_plan.specs.Tokens.{IsPortEnd}
-use Rattle.gos_plan.proofs.JointLemmas.{IsIn, contained}
+use Rattle.gos_plan.proofs.JointLemmas.{IsIn, contained, which_end}
 use Rattle.gos_joining.specs.webs.Webs.{joint}
 use Rattle.gos_joining.specs.webs.Cutting.{StandsIn}
-use Rattle.gos_joining.proofs.webs.CutLemmas.{which_end}
 use Rattle.gos_sharing.specs.sharing.Sharing.{source_end, caller_end}
 use Rattle.gos_sharing.specs.behind.SmallBehind.{shared_same, FirstIsBehind}
 use Rattle.gos_sharing.specs.function_types.Split.{IsUsed}

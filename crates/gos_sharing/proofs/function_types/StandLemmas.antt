@@ -6,24 +6,25 @@ use Rattle.std.proofs.lemmas.Option.{slice_get_within, same_Some}
 use Rattle.gos_types.specs.declared.shakes.Role.{Role}
 use Rattle.gos_types.specs.declared.shakes.Role.TheVariants.{Serve, Ask}
 use Rattle.gos_types.specs.Types.{Type'}
-use Rattle.gos_model.specs.Typing.{Imported}
+use Rattle.gos_types.proofs.ListLemmas.{element_at}
 use Rattle.gos_plan.specs.Kinds.{Contact, asks, serves, contacts_of}
 use Rattle.gos_plan.specs.Plans.{End, PartEnd, ImportEnd, ResultEnd, Joint, Plan, contact_at}
 use Rattle.gos_plan.specs.Joining.{Place, place, Link, Wiring, LeftImport, all_left, left_place, part_place, origin, Path, IsJoining, Connects}
-use Rattle.gos_plan.proofs.JointLemmas.{fits, contained}
+use Rattle.gos_plan.proofs.JointLemmas.{fits, contained, which_end}
+use Rattle.gos_plan.proofs.ContactLemmas.{part_is_there, import_is_there}
 use Rattle.gos_realises.specs.realises.Regular.{count}
 use Rattle.gos_realises.specs.realises.Wirings.{link, applying}
 use Rattle.gos_realises.proofs.realises.LeftLemmas.{left_list}
 use Rattle.gos_realises.proofs.joined.ReachLemmas.{Step, paths_back}
 use Rattle.gos_joining.specs.webs.Webs.{joint}
 use Rattle.gos_joining.specs.webs.Cutting.{StandsIn}
-use Rattle.gos_joining.proofs.webs.CutLemmas.{which_end, stands_by, part_at}
+use Rattle.gos_joining.proofs.webs.CutLemmas.{stands_by}
 use Rattle.gos_joining.proofs.unions.PlaceLemmas.{fields_of, stands_alone}
 use Rattle.gos_sharing.specs.buffers.Buffering.{end_behind}
 use Rattle.gos_sharing.proofs.buffers.HousedLemmas.{is_contact, not_both}
 use Rattle.gos_sharing.specs.behind.Behind.{IsBehind}
 use Rattle.gos_sharing.proofs.behind.EndLemmas.{Owned, owned_contact, asker, server, outer_is}
-use Rattle.gos_sharing.proofs.function_types.SideLemmas.{linked_is, import_is, lefts, list_size, first_left, second_left}
+use Rattle.gos_sharing.proofs.function_types.SideLemmas.{linked_is, lefts, list_size, first_left, second_left}
 
 both_lengths : {A : Type 0} (xs ys : List A) → length (xs ++ (ys ++ [])) ≡ length xs + length ys
 both_lengths [] [] = refl
@@ -34,11 +35,6 @@ both_lengths (x ∷ xs) ys =
 mapped_length : (ls : List LeftImport) → length (map (λ y. y.import) ls) ≡ length ls
 mapped_length [] = refl
 mapped_length (l ∷ ls) = ap suc (mapped_length ls)
-
-one_is : (xs : List Imported) (h : ℕ) → h < length xs → (k : Imported) × (slice_get xs h ≡ Some k)
-one_is [] h low = absurd (omega (arith, low))
-one_is (x ∷ xs) zero low = (x, refl)
-one_is (x ∷ xs) (suc h) low = one_is xs h (omega (arith, low))
 
 pub low_or_more : (n m : ℕ) → (n < m) ⊎ ((l : ℕ) × (n ≡ m + l))
 low_or_more n m = by_test (nat_lt n m) refl
@@ -116,7 +112,7 @@ module _ (a b : Type') (p q r : Plan) (joins : IsJoining (applying a b p q) r) w
   -- a part that there is is of the one or of the other; so is an import
   pub part_side : (n h : ℕ) (k : Contact) → contact_at r (PartEnd n h) ≡ Some k → (n < length p.parts) ⊎ ((m : ℕ) × (n ≡ length p.parts + m) × (m < length q.parts))
   part_side n h k there =
-      let (part, at_part) = part_at (slice_get r.parts n) h k there in
+      let (part, at_part) = part_is_there (slice_get r.parts n) h k there in
       let low = slice_get_within r.parts n part at_part in
       let all = part_count in
       elim (low_or_more n (length p.parts)) [
@@ -127,14 +123,14 @@ module _ (a b : Type') (p q r : Plan) (joins : IsJoining (applying a b p q) r) w
   pub import_side : (n h : ℕ) (k : Contact) → contact_at r (ImportEnd n h) ≡ Some k
       → (origin w (ImportEnd n h) ≡ place 0 (ImportEnd n h)) ⊎ ((m : ℕ) × (n ≡ length p.imports + m) × (origin w (ImportEnd n h) ≡ place 1 (ImportEnd m h)))
   import_side n h k there =
-      let (y, at_y) = import_is (slice_get r.imports n) h k there in
+      let (y, at_y) = import_is_there (slice_get r.imports n) h k there in
       let low = slice_get_within r.imports n y at_y in
       let all = import_count in
       elim (low_or_more n (length p.imports)) [
-        | inl small ↦ (let (x, at_x) = one_is p.imports n small in inl (ap (λ o. left_place o h) (first_left a b p q r joins n x at_x)))
+        | inl small ↦ (let (x, at_x) = element_at p.imports n small in inl (ap (λ o. left_place o h) (first_left a b p q r joins n x at_x)))
         | inr (m, sum) ↦
             (let small : m < length q.imports = omega (arith, low, all, sum) in
-            let (x, at_x) = one_is q.imports m small in
+            let (x, at_x) = element_at q.imports m small in
             inr (m, sum, ap (λ (l : ℕ). left_place (slice_get (all_left w) l) h) sum ∙ ap (λ o. left_place o h) (second_left a b p q r joins m x at_x)))
       ]
 

@@ -1,12 +1,14 @@
 -- The steps of the wide Share, and what is welcome in its plan.
-use Rattle.std.specs.Prelude.{◌≡◌, ◌≢◌, ℕ, zero, suc, ◌+◌, ◌-◌, ◌<◌, Bool, true, false, List, [], ◌∷◌, ◌⊎◌, length, Option, Some, None, slice_get, nat_eq, nat_lt, if◌then◌else◌}
+use Rattle.std.specs.Prelude.{◌≡◌, ◌≢◌, ℕ, suc, ◌+◌, ◌-◌, ◌<◌, Bool, true, false, List, [], ◌∷◌, ◌⊎◌, length, Option, Some, None, slice_get, nat_eq, nat_lt, if◌then◌else◌}
 use Rattle.std.proofs.Common.{refl, sym, ◌∙◌, ap, subst, arith, inl, inr}
 use Rattle.std.proofs.lemmas.Bool.Decides.{nat_tests}
 use Rattle.std.proofs.lemmas.Option.{slice_get_within, same_Some}
+use Rattle.std.proofs.lemmas.Bool.{eqb-true}
 use Rattle.gos_types.specs.declared.shakes.Role.{Role}
 use Rattle.gos_types.specs.declared.shakes.Role.TheVariants.{Serve, Ask}
 use Rattle.gos_types.specs.Types.{Type', Fun}
 use Rattle.gos_types.specs.Events.{Direction, Request, Answer}
+use Rattle.gos_types.proofs.ListLemmas.{element_at}
 use Rattle.gos_model.specs.Moves.{Act}
 use Rattle.gos_plan.specs.Kinds.{Share, Contact, contacts_of, turned_contact, part_contacts}
 use Rattle.gos_plan.specs.Firing.{Phase, Rest, State, at, Slot, Req, Ans, Token, put, Row, rows, shared_rows, share_rows, firing}
@@ -18,21 +20,22 @@ use Rattle.gos_plan.proofs.HeldLemmas.{nothing_there}
 use Rattle.gos_plan.proofs.TurnLemmas.{token_state}
 use Rattle.gos_plan.proofs.RowLemmas.{EachRow, row_with}
 use Rattle.gos_plan.proofs.AskingLemmas.{each_append, source_at, caller_at}
+use Rattle.gos_plan.proofs.ContactLemmas.{turned_put, turned_taken}
 use Rattle.gos_realises.specs.realises.Regular.{count, Pass}
 use Rattle.gos_realises.specs.realises.Matched.{asks_on, GoesOn}
 use Rattle.gos_realises.proofs.realises.GroundTurnLemmas.{count_fun}
+use Rattle.gos_supplies.proofs.turns.BetweenLemmas.{fun_first}
 use Rattle.gos_sharing.specs.sharing.Sharing.{source_end, caller_end, IsForCaller}
 use Rattle.gos_sharing.proofs.sharing.ShareRowLemmas.{asked_there}
 use Rattle.gos_sharing.proofs.sharing.SeenKeptLemmas.{fit_none}
-use Rattle.gos_sharing.proofs.buffers.BranchLemmas.{stands}
-use Rattle.gos_sharing.proofs.behind.BetweenLemmas.{first_of_fun, second_of_fun}
+use Rattle.gos_sharing.proofs.behind.BetweenLemmas.{second_of_fun}
 use Rattle.gos_sharing.proofs.behind.StepLemmas.{Stepped, stepped}
-use Rattle.gos_sharing.proofs.behind.OuterLemmas.{turned_put, turned_taken}
-use Rattle.gos_sharing.proofs.behind.HandingLemmas.{slot_of, caller_number, Hands, inward, outward, Handed, hands_on, share_takes, takes_inward, takes_outward}
+use Rattle.gos_sharing.proofs.behind.HandingLemmas.{slot_of, caller_number, Hands, inward, outward, Handed, hands_on, share_takes, takes_inward, takes_outward, way_of_slot}
 use Rattle.gos_sharing.specs.function_types.Split.{Splitting, IsUsed, IsSplit}
 use Rattle.gos_sharing.proofs.function_types.MovedLemmas.{token_so, put_so, part_state, wide_put, argument_state, outcome_state, share_put, Opens, put_opens, taken_opens, comes_well}
 use Rattle.gos_sharing.proofs.function_types.PassLemmas.{Row', inward_row, outward_row}
 use Rattle.gos_sharing.proofs.function_types.AlikeLemmas.{seen, loyal_on, Alike, Next, placed_on}
+use Rattle.gos_sharing.proofs.buffers.BranchLemmas.{place_stands}
 
 -- a Share that takes an answer asks nothing
 abbrev NoAsking : Row → Type 0
@@ -57,18 +60,6 @@ answers_only t q h v r fires =
 pub end_so : (k : ℕ) (way : Direction) (h : ℕ) → end_of k (slot_of way h) ≡ PartEnd k h
 end_so k Request h = refl
 end_so k Answer h = refl
-
-pub way_so : (way : Direction) (h : ℕ) → way_of (slot_of way h) ≡ way
-way_so Request h = refl
-way_so Answer h = refl
-
-number_is : (n m : ℕ) → nat_eq n m ≡ true → n ≡ m
-number_is n m test = grind (arith, test)
-
-there_is : (cs : List Contact) (h : ℕ) → h < length cs → (k : Contact) × (slice_get cs h ≡ Some k)
-there_is [] h low = absurd (omega (arith, low))
-there_is (x ∷ xs) zero low = (x, refl)
-there_is (x ∷ xs) (suc h) low = there_is xs h (omega (arith, low))
 
 module _ (f : Splitting) (x u : Plan) (is : IsSplit f x u) where
   abbrev before : Tokens → Tokens
@@ -126,11 +117,11 @@ module _ (f : Splitting) (x u : Plan) (is : IsSplit f x u) where
       between_so : with_state k (row.row.next v) (with_token u (end_of k row.row.takes) (way_of row.row.takes) None (before s)) ≡ before mid
       between_so =
           (λ l. with_state k (row.next v l) (with_token u (end_of k (row.takes l)) (way_of (row.takes l)) None (before s)))
-          ∙ ((λ l. with_state k (at Rest f.caller) (with_token u (end_so k way h l) (way_so way h l) None (before s))) ∙ mid_so)
+          ∙ ((λ l. with_state k (at Rest f.caller) (with_token u (end_so k way h l) (way_of_slot way h l) None (before s))) ∙ mid_so)
 
       lies_u : token_at u (before s) (end_of k (slot_of way h)) (way_of (slot_of way h)) ≡ Some v
       lies_u =
-          (λ l. token_at u (before s) (end_so k way h l) (way_so way h l))
+          (λ l. token_at u (before s) (end_so k way h l) (way_of_slot way h l))
           ∙ (ap (λ (e : End). token_at u (before s) e way) (sym end_a) ∙ (token_so f x u is e_in use_a s way ∙ handed.lies))
 
       by_u : firing_of (slice_get u.parts k) ((before s).state k) (slot_of way h) ≡ Some row.row
@@ -145,7 +136,7 @@ module _ (f : Splitting) (x u : Plan) (is : IsSplit f x u) where
         ap before handed.leads
             ∙ (sym (put_so f x u is e_out use_b way (Some v) mid)
             ∙ (ap (λ (e : End). with_token u e way (Some v) (before mid)) end_b
-            ∙ ((λ l. with_token u (sym (end_so k way g) l) (sym (way_so way g) l) (Some v) (sym between_so l))
+            ∙ ((λ l. with_token u (sym (end_so k way g) l) (sym (way_of_slot way g) l) (Some v) (sym between_so l))
             ∙ ap (λ ts. with_puts u k ts (with_state k (row.row.next v) (with_token u (end_of k row.row.takes) (way_of row.row.takes) None (before s)))) (sym (row.puts v))))),
       )
 
@@ -164,7 +155,7 @@ module _ (f : Splitting) (x u : Plan) (is : IsSplit f x u) where
       taken_u = after_taken u (f.end e_in) way mine
 
       taken_so : after_taken u (end_of k (slot_of way h)) (way_of (slot_of way h)) mine ≡ taken_u
-      taken_so = (λ l. after_taken u (end_so k way h l) (way_so way h l) mine) ∙ ap (λ (e : End). after_taken u e way mine) (sym end_a)
+      taken_so = (λ l. after_taken u (end_so k way h l) (way_of_slot way h l) mine) ∙ ap (λ (e : End). after_taken u e way mine) (sym end_a)
 
       out_so : end_of k (slot_of way g) ≡ f.end e_out
       out_so = end_so k way g ∙ sym end_b
@@ -172,11 +163,11 @@ module _ (f : Splitting) (x u : Plan) (is : IsSplit f x u) where
       well_u : ComesWell u (f.end e_out) way taken_u (before mid)
       well_u =
           subst (λ (e : End). ComesWell u e way taken_u (before mid)) out_so
-          (subst (λ (d : Direction). ComesWell u (end_of k (slot_of way g)) d taken_u (before mid)) (way_so way g)
+          (subst (λ (d : Direction). ComesWell u (end_of k (slot_of way g)) d taken_u (before mid)) (way_of_slot way g)
           (subst (λ (y : Open). ComesWell u (end_of k (slot_of way g)) (way_of (slot_of way g)) y (before mid)) taken_so now.0.0))
 
       opened_so : st.opened ≡ after_put u (f.end e_out) way taken_u
-      opened_so = now.1 ∙ (λ l. after_put u (out_so l) (way_so way g l) (taken_so l))
+      opened_so = now.1 ∙ (λ l. after_put u (out_so l) (way_of_slot way g l) (taken_so l))
 
       opens_mid : Opens f x u is taken taken_u
       opens_mid = taken_opens f x u is o mine alike.opens e_in use_a way
@@ -224,7 +215,7 @@ module _ (f : Splitting) (x u : Plan) (is : IsSplit f x u) where
 
       by_place : (p : Option End) → places_of x (end_of f.wide slot) ≡ p → IsForCaller (Fun f.of f.to) f.caller (s.state f.wide).number (shake_of slot)
       by_place None none = absurd (nothing_there x (end_of f.wide slot) (way_of slot) does.0 s does.2 none)
-      by_place (Some a) named = of_use (is.used (PartEnd f.wide (shake_of slot)) (stands x (PartEnd f.wide (shake_of slot)) a named))
+      by_place (Some a) named = of_use (is.used (PartEnd f.wide (shake_of slot)) (place_stands x (PartEnd f.wide (shake_of slot)) a named))
 
   -- its four sorts of steps
   abbrev Told : ℕ → Contact → Type 0
@@ -238,8 +229,8 @@ module _ (f : Splitting) (x u : Plan) (is : IsSplit f x u) where
       by_test : (b : Bool) → nat_lt j (count f.of) ≡ b → Told j k
       by_test true test =
           let low : j < count f.of = grind (arith, nat_tests, test) in
-          let (d, at_d) = there_is (contacts_of f.of) j low in
-          inl (low, d, at_d, same_Some k (turned_contact d) (sym at_j ∙ first_of_fun f.of f.to j d at_d))
+          let (d, at_d) = element_at (contacts_of f.of) j low in
+          inl (low, d, at_d, same_Some k (turned_contact d) (sym at_j ∙ fun_first f.of f.to j d at_d))
       by_test false test =
           let sum : j ≡ count f.of + (j - count f.of) = grind (arith, nat_tests, test) in
           let at_l : slice_get (contacts_of f.to) (j - count f.of) ≡ Some k = sym (second_of_fun f.of f.to (j - count f.of)) ∙ (ap (slice_get (contacts_of (Fun f.of f.to))) (sym sum) ∙ at_j) in
@@ -321,7 +312,7 @@ module _ (f : Splitting) (x u : Plan) (is : IsSplit f x u) where
 
       of_source : contact_at x (PartEnd f.wide (shake_of slot)) ≡ Some d → shake_of slot < count (Fun f.of f.to) → Taken f.wide
       of_source at_w low =
-          let (k, at_k) = there_is (contacts_of (Fun f.of f.to)) (shake_of slot) low in
+          let (k, at_k) = element_at (contacts_of (Fun f.of f.to)) (shake_of slot) low in
           let one : turned_contact k ≡ d = same_Some (turned_contact k) d (sym (wide_contact (shake_of slot) ∙ source_at (Fun f.of f.to) (shake_of slot) k at_k) ∙ at_w) in
           let ways : way_of slot ≡ way_put k.role = sym way ∙ (ap (λ (y : Contact). way_taken y.role) (sym one) ∙ turned_taken k.role) in
           by_share (shake_of slot) k at_k
@@ -331,7 +322,7 @@ module _ (f : Splitting) (x u : Plan) (is : IsSplit f x u) where
       of_caller : contact_at x (PartEnd f.wide (shake_of slot)) ≡ Some d → token_at x s (PartEnd f.wide (shake_of slot)) (way_of slot) ≡ Some v → (a : End)
           → places_of x (PartEnd f.wide (shake_of slot)) ≡ Some a → (j : ℕ) → j < count (Fun f.of f.to) → shake_of slot ≡ caller_number (Fun f.of f.to) f.caller j → Taken f.wide
       of_caller at_w lies_w a named j low number =
-          let (k, at_k) = there_is (contacts_of (Fun f.of f.to)) j low in with_contact k at_k (caller_at (Fun f.of f.to) f.caller j k at_k)
+          let (k, at_k) = element_at (contacts_of (Fun f.of f.to)) j low in with_contact k at_k (caller_at (Fun f.of f.to) f.caller j k at_k)
         where
           at_c : slice_get (part_contacts (Share (Fun f.of f.to))) (caller_number (Fun f.of f.to) f.caller j) ≡ Some d
           at_c = ap (slice_get (part_contacts (Share (Fun f.of f.to)))) (sym number) ∙ (sym (wide_contact (shake_of slot)) ∙ at_w)
@@ -371,7 +362,7 @@ module _ (f : Splitting) (x u : Plan) (is : IsSplit f x u) where
         where
           by_place : (p : Option End) → places_of x (PartEnd f.wide (shake_of slot)) ≡ p → Taken f.wide
           by_place None none = absurd (nothing_there x (PartEnd f.wide (shake_of slot)) (way_of slot) v s lies_w none)
-          by_place (Some a) named = of_use (is.used (PartEnd f.wide (shake_of slot)) (stands x (PartEnd f.wide (shake_of slot)) a named))
+          by_place (Some a) named = of_use (is.used (PartEnd f.wide (shake_of slot)) (place_stands x (PartEnd f.wide (shake_of slot)) a named))
             where
               of_use : IsUsed f (PartEnd f.wide (shake_of slot)) → Taken f.wide
               of_use (inl apart) = absurd (apart refl)
@@ -381,6 +372,6 @@ module _ (f : Splitting) (x u : Plan) (is : IsSplit f x u) where
       by_test : (b : Bool) → nat_eq n f.wide ≡ b → Taken n
       by_test false test = of_other (λ e. let t : nat_eq n f.wide ≡ true = grind (arith, e) in let clash : true ≡ false = sym t ∙ test in cc clash)
       by_test true test =
-          let same : n ≡ f.wide = number_is n f.wide test in
+          let same : n ≡ f.wide = eqb-true n f.wide test in
           subst Taken (sym same)
           (of_wide (subst (λ (m : ℕ). contact_at x (end_of m slot) ≡ Some d) same at_end) (subst (λ (m : ℕ). token_at x s (end_of m slot) (way_of slot) ≡ Some v) same lies))

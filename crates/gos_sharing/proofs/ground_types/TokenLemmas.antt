@@ -1,12 +1,15 @@
 -- Token states with one token, or none, and the firings between them.
 use Rattle.std.specs.Prelude.{◌≡◌, ◌&&◌, ℕ, Bool, true, false, Option, Some, None, slice_get, nat_eq, if◌then◌else◌}
 use Rattle.std.proofs.Common.{refl, sym, ◌∙◌, ap, subst, arith}
-use Rattle.gos_types.specs.Events.{Direction, Request, Answer}
+use Rattle.std.proofs.lemmas.Option.{none-some}
+use Rattle.gos_types.specs.Events.{Direction, Request}
 use Rattle.gos_plan.specs.Kinds.{Part, Contact, asks}
 use Rattle.gos_plan.specs.Firing.{Rest, State, Slot, Token, Row, at, row, firing}
 use Rattle.gos_plan.specs.Plans.{End, ResultEnd, Plan, contact_at, same_end}
 use Rattle.gos_plan.specs.Tokens.{Tokens, Element, Fire, Out, In, places_of, same_way, with_place, with_state, held_at, with_held, with_token, end_of, way_of, way_taken, firing_of, fired, Passes, Does, IsIdle, IsQuiet}
 use Rattle.gos_plan.proofs.JointLemmas.{same_itself}
+use Rattle.gos_plan.proofs.TokenBitsLemmas.{same_way_itself}
+use Rattle.gos_plan.proofs.TurnLemmas.{token_state}
 
 -- nothing anywhere, and every part at rest
 abbrev pub resting : Tokens
@@ -22,13 +25,9 @@ Empty s = (w : Direction) (e : End) → s.in_place w e ≡ None
 abbrev pub Only : Direction → End → ℕ → Tokens → Type 0
 Only way a v s = (w : Direction) (e : End) → s.in_place w e ≡ (if same_way w way && same_end e a then Some v else None)
 
-own_way : (w : Direction) → same_way w w ≡ true
-own_way Request = refl
-own_way Answer = refl
-
 it_lies : (way : Direction) (a : End) (v : ℕ) (s : Tokens) → Only way a v s → s.in_place way a ≡ Some v
 it_lies way a v s only =
-    let one = own_way way in
+    let one = same_way_itself way in
     let two = same_itself a in
     only way a ∙ (λ i. if one i && two i then Some v else None)
 
@@ -57,20 +56,10 @@ pub put_lost : (p : Plan) (e : End) (way : Direction) (v : ℕ) (s : Tokens) →
 put_lost p e way v s place empty =
     subst (λ (o : Option End). Empty (with_held way o (Some v) s)) (sym place) empty
 
-kept : (way : Direction) (o : Option End) (held : Option ℕ) (s : Tokens) (j : ℕ) → (with_held way o held s).state j ≡ s.state j
-kept way None held s j = refl
-kept way (Some e) held s j = refl
-
-pub state_kept : (p : Plan) (e : End) (way : Direction) (held : Option ℕ) (s : Tokens) (j : ℕ) → (with_token p e way held s).state j ≡ s.state j
-state_kept p e way held s j = kept way (places_of p e) held s j
-
-none_some : (v : ℕ) → None ≡ Some v → ⊥
-none_some v x = cc x
-
 -- where nothing lies nothing happens
 pub empty_quiet : (p : Plan) (s : Tokens) → Empty s → IsQuiet p s
 empty_quiet p s empty = (
-  λ i t s' does. none_some does.0 (sym (held_none (places_of p (end_of i t)) (way_of t)) ∙ does.2),
+  λ i t s' does. none-some does.0 (sym (held_none (places_of p (end_of i t)) (way_of t)) ∙ does.2),
   λ e v s' does. passes_none e v s' (contact_at p e) does.1,
 )
   where
@@ -80,7 +69,7 @@ empty_quiet p s empty = (
 
     passes_none : (e : End) (v : ℕ) (s' : Tokens) (o : Option Contact) → Passes p (Out e v) o s s' → ⊥
     passes_none e v s' None h = h
-    passes_none e v s' (Some c) h = none_some v (sym (held_none (places_of p e) (way_taken c.role)) ∙ h.0)
+    passes_none e v s' (Some c) h = none-some v (sym (held_none (places_of p e) (way_taken c.role)) ∙ h.0)
 
 -- a request at the result
 abbrev pub request : Element
@@ -120,5 +109,5 @@ module _ (p : Plan) (i : ℕ) (k : Part) (part : slice_get p.parts i ≡ Some k)
   pub state_after : (t : Slot) (q : State) (f : ℕ → Token) (v : ℕ) (s : Tokens) (j : ℕ)
       → (fired p i (row t q f) v s).state j ≡ (if nat_eq j i then q else s.state j)
   state_after t q f v s j =
-      state_kept p (end_of i (f v).slot) (way_of (f v).slot) (Some (f v).value) (with_state i q (with_token p (end_of i t) (way_of t) None s)) j
-      ∙ ap (λ (z : State). if nat_eq j i then q else z) (state_kept p (end_of i t) (way_of t) None s j)
+      token_state p (end_of i (f v).slot) (way_of (f v).slot) (Some (f v).value) (with_state i q (with_token p (end_of i t) (way_of t) None s)) j
+      ∙ ap (λ (z : State). if nat_eq j i then q else z) (token_state p (end_of i t) (way_of t) None s j)

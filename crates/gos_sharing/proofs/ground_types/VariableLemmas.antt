@@ -5,7 +5,8 @@ use Rattle.std.specs.Prelude.{◌≡◌, ◌⊎◌, ◌||◌, ℕ, zero, suc, Bo
 use Rattle.std.proofs.Common.{refl, sym, ◌∙◌, ap, arith, inl, inr}
 use Rattle.std.proofs.lemmas.Bool.Decides.{nat_tests}
 use Rattle.std.proofs.lemmas.Nat.{pow_pos}
-use Rattle.std.proofs.lemmas.Option.{slice_get_past}
+use Rattle.std.proofs.lemmas.Option.{slice_get_past, none-some}
+use Rattle.std.proofs.lemmas.Bool.{or_cases}
 use Rattle.gos_types.specs.Types.{Type', Com, Exp, Var}
 use Rattle.gos_types.specs.Events.{Request, Answer}
 use Rattle.gos_model.specs.Terms.{Term, Lit, Assign, Deref}
@@ -15,6 +16,7 @@ use Rattle.gos_plan.specs.Firing.{Rest, Value, Waiting, Writing, Req, Ans, Row, 
 use Rattle.gos_plan.specs.Plans.{End, PartEnd, ResultEnd, Plan, contact_at, contacts_of_part, turned_if, same_end, stands_in, IsRight}
 use Rattle.gos_plan.specs.Tokens.{Tokens, Fire, places_of, with_token, fired}
 use Rattle.gos_plan.proofs.JointLemmas.{IsIn, same_is, fits, contained}
+use Rattle.gos_plan.proofs.TurnLemmas.{token_state}
 use Rattle.gos_realises.specs.realises.Regular.{way_in}
 use Rattle.gos_realises.specs.realises.Matched.{label_at, RealisesDone}
 use Rattle.gos_realises.specs.realises.Realises.{Suits, Realises}
@@ -29,16 +31,9 @@ use Rattle.gos_sharing.proofs.buffers.DrivenLemmas.{DrivenJoint, IsDriven, past_
 use Rattle.gos_sharing.proofs.buffers.ReadingLemmas.{ReadOwn, read_is_driven}
 use Rattle.gos_sharing.proofs.buffers.WritingLemmas.{WriteOwn, write_is_driven}
 use Rattle.gos_sharing.specs.ground_types.Joints.{VariableIsJoined}
-use Rattle.gos_sharing.proofs.ground_types.TokenLemmas.{resting, Only, put_there, state_kept, empty_quiet, request, comes, fires, puts_one, loses_one, state_after}
+use Rattle.gos_sharing.proofs.ground_types.TokenLemmas.{resting, Only, put_there, empty_quiet, request, comes, fires, puts_one, loses_one, state_after}
 use Rattle.gos_sharing.proofs.ground_types.LostLemmas.{never_quiet}
 use Rattle.gos_supplies.proofs.progress.RealiserLemmas.{Found, joint_or_none}
-
-or_cases : (a b : Bool) → (a || b) ≡ true → (a ≡ true) ⊎ (b ≡ true)
-or_cases true b t = inl refl
-or_cases false b t = inr t
-
-none_some : (c : Contact) → None ≡ Some c → ⊥
-none_some c e = cc e
 
 -- where the driving part's handshake is joined, so is the plan's
 module _
@@ -66,8 +61,8 @@ module _
       in_plan here =
           let (q, a, asked, served) = fits p [] p.joints (joint j.asking j.serving) right here in
           elim ends [
-            | inl e ↦ none_some (asks q a) (sym nothing_there ∙ (ap (contact_at p) (sym e) ∙ asked))
-            | inr e ↦ none_some (serves q a) (sym nothing_there ∙ (ap (contact_at p) (sym e) ∙ served))
+            | inl e ↦ none-some (asks q a) (sym nothing_there ∙ (ap (contact_at p) (sym e) ∙ asked))
+            | inr e ↦ none-some (serves q a) (sym nothing_there ∙ (ap (contact_at p) (sym e) ∙ served))
           ]
 
       by_kind : DrivenJoint v f Own (length p.parts) p j.asking j.serving → StandsIn p (ResultEnd v)
@@ -107,7 +102,7 @@ module _
   read_lost =
       let place = place_serving r (ResultEnd 0) (PartEnd reader 1) driven.right own_joint in
       let fire =
-      fires r reader (kinds.Deref w) deref (Req 1) (at Rest 0) waits (ResultEnd 0) 0 asked (state_kept r (ResultEnd 0) Request (Some 0) resting reader) refl place asked_one
+      fires r reader (kinds.Deref w) deref (Req 1) (at Rest 0) waits (ResultEnd 0) 0 asked (token_state r (ResultEnd 0) Request (Some 0) resting reader) refl place asked_one
       in
       let quiet =
       empty_quiet r (fired r reader waits 0 asked)
@@ -189,7 +184,7 @@ module _
       puts_one r writer (kinds.Assign w) assign (Req 2) (at Value 0) (λ v. put (Req 0) 0) (ResultEnd 0) (PartEnd writer 0) 0 run run_place run_one asking_place
 
   run_state : (j : ℕ) → run.state j ≡ at Rest 0
-  run_state j = state_kept r (ResultEnd 0) Request (Some 0) resting j
+  run_state j = token_state r (ResultEnd 0) Request (Some 0) resting j
 
   begun_state : (j : ℕ) → begun.state j ≡ (if nat_eq j writer then at Value 0 else run.state j)
   begun_state j = state_after r writer (kinds.Assign w) assign (Req 2) (at Value 0) (λ v. put (Req 0) 0) 0 run j

@@ -6,20 +6,17 @@ use Rattle.gos_model.specs.Typing.{Imported}
 use Rattle.gos_plan.specs.Kinds.{Share, Contact, asks, serves}
 use Rattle.gos_plan.specs.Plans.{End, PartEnd, ImportEnd, ResultEnd, Joint, Plan, contact_at, contacts_of_part, contacts_of_import}
 use Rattle.gos_plan.specs.Tokens.{IsPortEnd}
-use Rattle.gos_plan.proofs.JointLemmas.{fits, contained, one_joint}
+use Rattle.gos_plan.proofs.JointLemmas.{fits, contained, one_joint, which_end}
+use Rattle.gos_plan.proofs.ContactLemmas.{part_is_there, import_is_there}
 use Rattle.gos_realises.specs.realises.Regular.{count}
 use Rattle.gos_joining.specs.webs.Webs.{joint}
 use Rattle.gos_joining.specs.webs.Cutting.{Cut, StandsIn, IsInside, IsOutside, lies_at}
-use Rattle.gos_joining.proofs.webs.CutLemmas.{which_end, stands_by, part_at}
+use Rattle.gos_joining.proofs.webs.CutLemmas.{stands_by}
 use Rattle.gos_sharing.specs.behind.Source.{IsBefore, HasItsImports}
 use Rattle.gos_sharing.proofs.behind.LyingLemmas.{lying}
 use Rattle.gos_sharing.proofs.behind.SourceLemmas.{before_it, import_joined, sources_are_loyal}
 use Rattle.gos_sharing.specs.loyal.Seats.{Seat, seat_end, IsNoResult, IsSeated, then_number, part_back, import_back, end_back, then_end, seated_cut, SeatedIsBefore, SeatedIsLoyal}
 use Rattle.gos_sharing.proofs.loyal.SeatLemmas.{passed_on}
-
-import_is : (o : Option Imported) (h : ℕ) (k : Contact) → slice_get (contacts_of_import o) h ≡ Some k → (y : Imported) × (o ≡ Some y)
-import_is None h k e = absurd (cc e)
-import_is (Some y) h k e = (y, refl)
 
 end_on : (o : Option End) (f : End → Option End) (e : End) → then_end o f ≡ Some e → (d : End) × (o ≡ Some d) × (f d ≡ Some e)
 end_on None f e at = absurd (cc at)
@@ -40,11 +37,11 @@ module _ (g : Seat) (f : Cut) (i : ℕ) (t : Type') (c : ℕ) (r x p : Plan) (se
   -- ends of the seated plan
   contact_kept : (e : End) (k : Contact) → IsNoResult e → contact_at x e ≡ Some k → (contact_at r (seat_end g e) ≡ Some k) × (end_back g (seat_end g e) ≡ Some e)
   contact_kept (PartEnd n h) k own at =
-      let (y, there) = part_at (slice_get x.parts n) h k at in
+      let (y, there) = part_is_there (slice_get x.parts n) h k at in
       let (at_r, back) = seated.parts n y there in
       (ap (λ o. slice_get (contacts_of_part o) h) (at_r ∙ sym there) ∙ at, ap (λ o. part_back o h) back)
   contact_kept (ImportEnd n h) k own at =
-      let (y, there) = import_is (slice_get x.imports n) h k at in
+      let (y, there) = import_is_there (slice_get x.imports n) h k at in
       let (at_r, back) = seated.imports n y there in
       (ap (λ o. slice_get (contacts_of_import o) h) (at_r ∙ sym there) ∙ at, ap (λ o. import_back o h) back)
   contact_kept (ResultEnd h) k own at = absurd own
@@ -204,7 +201,7 @@ seated_is_loyal g i t c r x p seated is regular =
         own = stood_contact g (lying i p) i t c r x p seated before (ImportEnd n h) stood
 
         import : (z : Imported) × (slice_get p.imports n ≡ Some z)
-        import = import_is (slice_get p.imports n) h own.0 own.1
+        import = import_is_there (slice_get p.imports n) h own.0 own.1
 
         there : StandsIn x (ImportEnd n k)
         there =

@@ -1,9 +1,10 @@
 -- Seats within seats, and the seat of a plan behind a Share.
-use Rattle.std.specs.Prelude.{◌≡◌, ℕ, zero, suc, ◌<◌, Bool, true, false, List, [], ◌∷◌, length, Option, Some, None, slice_get, nat_lt, Contains, if◌then◌else◌}
+use Rattle.std.specs.Prelude.{◌≡◌, ℕ, ◌<◌, Bool, true, false, length, Option, Some, None, slice_get, nat_lt, Contains, if◌then◌else◌}
 use Rattle.std.proofs.Common.{refl, sym, ◌∙◌, ap, subst, arith, inl}
 use Rattle.std.proofs.lemmas.Bool.Decides.{nat_tests}
 use Rattle.std.proofs.lemmas.Option.{slice_get_within}
 use Rattle.gos_types.specs.Types.{Type'}
+use Rattle.gos_types.proofs.ListLemmas.{element_at}
 use Rattle.gos_plan.specs.Kinds.{Part}
 use Rattle.gos_plan.specs.Plans.{End, PartEnd, ImportEnd, ResultEnd, Plan, IsRight}
 use Rattle.gos_plan.proofs.JointLemmas.{contained}
@@ -62,11 +63,6 @@ seats_compose g h r x p one other =
     }
 
 -- in itself, and behind a Share
-there_is : (xs : List Part) (k : ℕ) → k < length xs → (x : Part) × (slice_get xs k ≡ Some x)
-there_is [] k low = absurd (omega (arith, low))
-there_is (x ∷ xs) zero low = (x, refl)
-there_is (x ∷ xs) (suc k) low = there_is xs k (omega (arith, low))
-
 module _ (p : Plan) where
   number_is : (m k : ℕ) → (same_seat p).number m ≡ Some k → (m < length p.parts) × (k ≡ m)
   number_is m k e = by_test (nat_lt m (length p.parts)) refl e
@@ -79,7 +75,7 @@ module _ (p : Plan) where
   within k low = let test : nat_lt k (length p.parts) ≡ true = grind (arith, nat_tests, low) in ap (λ b. if b then Some k else None) test
 
   told : (m k : ℕ) → (same_seat p).number m ≡ Some k → (k ≡ m) × ((x : Part) × (slice_get p.parts k ≡ Some x))
-  told m k e = let (low, same) = number_is m k e in (same, subst (λ (n : ℕ). (x : Part) × (slice_get p.parts n ≡ Some x)) (sym same) (there_is p.parts m low))
+  told m k e = let (low, same) = number_is m k e in (same, subst (λ (n : ℕ). (x : Part) × (slice_get p.parts n ≡ Some x)) (sym same) (element_at p.parts m low))
 
   own_end : (e : End) → e ≡ seat_end (same_seat p) e
   own_end (PartEnd k h) = refl

@@ -6,6 +6,7 @@ use Rattle.std.proofs.lemmas.Option.{slice_get_within, same_Some}
 use Rattle.gos_types.specs.declared.shakes.Role.{Role}
 use Rattle.gos_types.specs.declared.shakes.Role.TheVariants.{Serve, Ask}
 use Rattle.gos_types.specs.Types.{Type'}
+use Rattle.gos_types.proofs.ListLemmas.{element_at}
 use Rattle.gos_model.specs.Typing.{Imported}
 use Rattle.gos_plan.specs.Kinds.{Part, Share, Contact, asks, serves, contacts_of}
 use Rattle.gos_plan.specs.Plans.{End, PartEnd, ImportEnd, ResultEnd, Joint, Plan, contact_at}
@@ -13,6 +14,7 @@ use Rattle.gos_plan.proofs.JointLemmas.{fits, contained}
 use Rattle.gos_realises.specs.realises.Regular.{count}
 use Rattle.gos_realises.specs.realises.Links.{IsJoined}
 use Rattle.gos_realises.specs.realises.Wirings.{side}
+use Rattle.gos_realises.proofs.realises.CountLemmas.{some_shake}
 use Rattle.gos_joining.specs.webs.Webs.{joint}
 use Rattle.gos_sharing.specs.sharing.Sharing.{source_end, caller_end}
 use Rattle.gos_sharing.specs.buffers.Buffering.{end_behind}
@@ -22,7 +24,7 @@ use Rattle.gos_sharing.specs.parts_of_types.Narrow.{Narrowing, widened, joint_wi
 use Rattle.gos_sharing.proofs.parts_of_types.MovedLemmas.{contact_so}
 use Rattle.gos_sharing.proofs.parts_of_types.ThereLemmas.{is_there}
 use Rattle.gos_sharing.specs.cores.Core.{Core, core_end, IsCore, IsDead}
-use Rattle.gos_sharing.proofs.pair_types.ShakeLemmas.{shake_of_narrow, shake_of_wide, narrow_shakes, narrow_returns, count_some}
+use Rattle.gos_sharing.proofs.pair_types.ShakeLemmas.{shake_of_narrow, shake_of_wide, narrow_shakes, narrow_returns}
 use Rattle.gos_sharing.proofs.pair_types.HalfLemmas.{Half}
 use Rattle.gos_sharing.proofs.pair_types.SideLemmas.{up, parts_so, imports_so, result_down, result_there, part_down, import_down, joint_down, joint_up}
 
@@ -45,16 +47,6 @@ below_is size i j = by_test (nat_lt i size) refl
 
 is_below : (size i : ℕ) → i < size → if_below size i ≡ Some i
 is_below size i low = let test : nat_lt i size ≡ true = grind (arith, nat_tests, low) in ap (λ (b : Bool). if b then Some i else None) test
-
-part_there : (xs : List Part) (h : ℕ) → h < length xs → (k : Part) × (slice_get xs h ≡ Some k)
-part_there [] h low = absurd (omega (arith, low))
-part_there (x ∷ xs) zero low = (x, refl)
-part_there (x ∷ xs) (suc h) low = part_there xs h (omega (arith, low))
-
-import_there : (xs : List Imported) (h : ℕ) → h < length xs → (k : Imported) × (slice_get xs h ≡ Some k)
-import_there [] h low = absurd (omega (arith, low))
-import_there (x ∷ xs) zero low = (x, refl)
-import_there (x ∷ xs) (suc h) low = import_there xs h (omega (arith, low))
 
 abbrev pub core_of : Plan → Core
 core_of x =
@@ -107,7 +99,7 @@ module _ (t s o : Type') (n m : ℕ) (half : Half t s o n m) (c : ℕ) (p R x v 
           outcome = also.frame.outcome ∙ sym of_x.joining.outcome;
           contacts = half.mine;
           shakes = λ b j low. narrow_shakes n (count s) (count t) b j low;
-          returns = narrow_returns n (count s) (count t) (count_some s) half.fits;
+          returns = narrow_returns n (count s) (count t) (some_shake s) half.fits;
         }
 
     -- the core
@@ -194,9 +186,9 @@ module _ (t s o : Type') (n m : ℕ) (half : Half t s o n m) (c : ℕ) (p R x v 
           also_right = narrow.right;
           outcome = refl;
           parts = λ j k there. (there, is_below (length x.parts) j (slice_get_within x.parts j k there));
-          numbers = λ i j e. (let (same, low) = below_is (length x.parts) i j e in (same, subst (λ (h : ℕ). (k : Part) × (slice_get x.parts h ≡ Some k)) (sym same) (part_there x.parts i low)));
+          numbers = λ i j e. (let (same, low) = below_is (length x.parts) i j e in (same, subst (λ (h : ℕ). (k : Part) × (slice_get x.parts h ≡ Some k)) (sym same) (element_at x.parts i low)));
           imports = λ i k there. (there, is_below (length x.imports) i (within_imports x.imports i k there));
-          origins = λ i j e. (let (same, low) = below_is (length x.imports) i j e in (same, subst (λ (h : ℕ). (k : Imported) × (slice_get x.imports h ≡ Some k)) (sym same) (import_there x.imports i low)));
+          origins = λ i j e. (let (same, low) = below_is (length x.imports) i j e in (same, subst (λ (h : ℕ). (k : Imported) × (slice_get x.imports h ≡ Some k)) (sym same) (element_at x.imports i low)));
           joints = joints_x;
         }
       where

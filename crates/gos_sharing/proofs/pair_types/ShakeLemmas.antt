@@ -2,9 +2,6 @@
 use Rattle.std.specs.Prelude.{◌≡◌, ℕ, zero, suc, ◌+◌, ◌-◌, ◌*◌, ◌<◌, ◌≤◌, Bool, true, false, nat_lt, if◌then◌else◌}
 use Rattle.std.proofs.Common.{refl, sym, ◌∙◌, ap, arith}
 use Rattle.std.proofs.lemmas.Bool.Decides.{nat_tests}
-use Rattle.gos_types.specs.Types.{Type', Com, Exp, Var, Pair, Fun}
-use Rattle.gos_realises.specs.realises.Regular.{count}
-use Rattle.gos_realises.proofs.realises.CountLemmas.{count_pair, count_fun}
 
 -- of blocks of n in blocks of m: h handshakes on from number j of the block that begins at base
 abbrev spread : ℕ → ℕ → ℕ → ℕ → ℕ → ℕ
@@ -70,11 +67,3 @@ narrow_returns k n m some fits h =
     let less : b * m + (k + j) - k ≡ b * m + j = omega arith in
     let back : 0 + (b * n + j) ≡ b * n + j = omega arith in
     ap (shake_of_wide k n m) there ∙ (ap (spread m n 0 0) less ∙ (blocks m n b 0 j (omega (arith, low, fits)) ∙ (back ∙ sym is)))
-
--- each type has a handshake
-pub count_some : (t : Type') → 0 < count t
-count_some Com = let one : count Com ≡ 1 = refl in omega (arith, one)
-count_some (Exp w) = let one : count (Exp w) ≡ 1 = refl in omega (arith, one)
-count_some (Var w) = let two : count (Var w) ≡ 2 = refl in omega (arith, two)
-count_some (Pair a b) = let sum = count_pair a b in let some = count_some a in omega (arith, sum, some)
-count_some (Fun a b) = let sum = count_fun a b in let some = count_some b in omega (arith, sum, some)

@@ -1,25 +1,21 @@
 -- A side of a plan of a product has the joints of the plan between the ends that it has.
-use Rattle.std.specs.Prelude.{◌≡◌, ℕ, zero, suc, ◌+◌, ◌-◌, Bool, true, List, [], ◌∷◌, ◌++◌, length, map, Option, Some, None, slice_get, nat_lt, Contains, if◌then◌else◌}
+use Rattle.std.specs.Prelude.{◌≡◌, ℕ, zero, suc, ◌+◌, ◌-◌, Bool, true, [], ◌∷◌, ◌++◌, length, map, Option, Some, None, slice_get, nat_lt, Contains, if◌then◌else◌}
 use Rattle.std.proofs.Common.{refl, sym, ◌∙◌, ap, subst, arith, inl}
 use Rattle.std.proofs.lemmas.Bool.Decides.{nat_tests}
 use Rattle.std.proofs.lemmas.Option.{slice_get_within}
+use Rattle.std.proofs.lemmas.List.{append-nil}
 use Rattle.gos_types.specs.Types.{Type'}
 use Rattle.gos_plan.specs.Kinds.{Contact, asks, serves, contacts_of, turned_contact}
 use Rattle.gos_plan.specs.Plans.{End, PartEnd, ImportEnd, ResultEnd, Plan, contact_at, contacts_of_part, contacts_of_import, turned_if}
 use Rattle.gos_plan.specs.Joining.{Place, place, Wiring, all_left, left_place, part_place, origin, Linked}
 use Rattle.gos_plan.proofs.JointLemmas.{IsIn, listed, contained}
+use Rattle.gos_plan.proofs.ContactLemmas.{part_is_there, import_is_there}
 use Rattle.gos_realises.specs.realises.Links.{IsJoined}
 use Rattle.gos_realises.specs.realises.Wirings.{side}
 use Rattle.gos_realises.proofs.realises.LeftLemmas.{left_list, left_all, imports_left, left_at}
 use Rattle.gos_joining.specs.webs.Webs.{joint}
-use Rattle.gos_joining.proofs.webs.CutLemmas.{part_at}
-use Rattle.gos_sharing.proofs.function_types.SideLemmas.{import_is}
 use Rattle.gos_supplies.proofs.turns.TrailLemmas.{LinksArePorts, Trail}
 use Rattle.gos_supplies.proofs.turns.FollowLemmas.{joint_trail}
-
-nothing_behind : {A : Type 0} (xs : List A) → xs ++ [] ≡ xs
-nothing_behind [] = refl
-nothing_behind (x ∷ xs) = ap (λ ys. x ∷ ys) (nothing_behind xs)
 
 pub turned_is : (o : Option Contact) (k : Contact) → turned_if o ≡ Some k → (d : Contact) × (o ≡ Some d) × (turned_contact d ≡ k)
 turned_is None k e = absurd (cc e)
@@ -42,7 +38,7 @@ module _ (s : Type') (n : ℕ) (q r : Plan) (joined : IsJoined (side n s q) r) w
   no_ports l (k, small, is) = absurd (omega (arith, small))
 
   pub parts_so : r.parts ≡ q.parts
-  parts_so = joined.joining.parts ∙ nothing_behind q.parts
+  parts_so = joined.joining.parts ∙ append-nil q.parts
 
   lefts : all_left (side n s q) ≡ left_list 0 0 q.imports ++ []
   lefts = ap (λ l. l ++ []) (left_all [] 0 (λ j. refl) 0 q.imports)
@@ -53,12 +49,12 @@ module _ (s : Type') (n : ℕ) (q r : Plan) (joined : IsJoined (side n s q) r) w
   pub origin_so : (e : End) (k : Contact) → contact_at r e ≡ Some k → origin (side n s q) e ≡ place 0 (up n e)
   origin_so (ResultEnd h) k there = refl
   origin_so (ImportEnd i h) k there =
-      let (y, at_y) = import_is (slice_get r.imports i) h k there in
+      let (y, at_y) = import_is_there (slice_get r.imports i) h k there in
       let at_q : slice_get q.imports i ≡ Some y = ap (λ js. slice_get js i) (sym imports_so) ∙ at_y in
       let e : 0 + i ≡ i = omega arith in
       ap (λ o. left_place o h) (ap (λ l. slice_get l i) lefts ∙ left_at 0 0 q.imports i y at_q) ∙ ap (λ (j : ℕ). place 0 (ImportEnd j h)) e
   origin_so (PartEnd i h) k there =
-      let (part, at_part) = part_at (slice_get r.parts i) h k there in
+      let (part, at_part) = part_is_there (slice_get r.parts i) h k there in
       let low = slice_get_within q.parts i part (ap (λ ks. slice_get ks i) (sym parts_so) ∙ at_part) in
       let test : nat_lt i (length q.parts) ≡ true = grind (arith, nat_tests, low) in
       ap (λ (b : Bool). if b then place 0 (PartEnd i h) else part_place 1 [] (i - length q.parts) h) test

@@ -2,6 +2,7 @@
 use Rattle.std.specs.Prelude.{◌≡◌, ℕ, suc, ◌+◌, ◌*◌, ◌<◌, Bool, true, false, ◌&&◌, List, [], ◌∷◌, ◌⊎◌, length, Option, Some, None, slice_get, nat_eq, Contains, if◌then◌else◌}
 use Rattle.std.proofs.Common.{refl, sym, ◌∙◌, ap, subst, arith, inl, inr}
 use Rattle.std.proofs.lemmas.Option.{slice_get_within}
+use Rattle.std.proofs.lemmas.Bool.{false_from_ne_true}
 use Rattle.gos_types.specs.declared.shakes.Role.{Role}
 use Rattle.gos_types.specs.declared.shakes.Role.TheVariants.{Serve, Ask}
 use Rattle.gos_types.specs.Types.{Type'}
@@ -9,18 +10,19 @@ use Rattle.gos_types.specs.Events.{Direction}
 use Rattle.gos_plan.specs.Kinds.{Part, Share, Contact, asks, serves, contacts_of, part_contacts}
 use Rattle.gos_plan.specs.Firing.{Phase, Rest, Slot, Token, Row, rows, shared_rows, share_rows, firing}
 use Rattle.gos_plan.specs.Plans.{End, PartEnd, ImportEnd, ResultEnd, Joint, Plan, contact_at, contacts_of_part, same_end}
-use Rattle.gos_plan.specs.Tokens.{Tokens, Element, Fire, Out, In, IsPortEnd, Passes, places_of, same_way, with_held, with_state, with_puts, with_token, token_at, end_of, way_of, shake_of, way_taken, way_put, firing_of, Does, Runs}
-use Rattle.gos_plan.proofs.JointLemmas.{listed, same_itself, same_is, found, fits, contained, joined}
+use Rattle.gos_plan.specs.Tokens.{Tokens, Element, Fire, Out, In, Passes, places_of, same_way, with_held, with_state, with_puts, with_token, token_at, end_of, way_of, shake_of, way_taken, way_put, firing_of, Does, Runs}
+use Rattle.gos_plan.proofs.JointLemmas.{listed, same_itself, same_is, found, fits, contained, joined, which_end}
 use Rattle.gos_plan.proofs.RowLemmas.{EachRow, row_with}
 use Rattle.gos_plan.proofs.AskingLemmas.{PutsInRole, row_roles, each_append}
 use Rattle.gos_plan.proofs.HeldLemmas.{nothing_there}
 use Rattle.gos_plan.proofs.TurnLemmas.{way_to_put}
+use Rattle.gos_plan.proofs.ElementLemmas.{firing_part}
+use Rattle.gos_plan.proofs.CountLemmas.{port_apart}
 use Rattle.gos_supplies.proofs.turns.StandLemmas.{placed_apart}
 use Rattle.gos_realises.specs.realises.Regular.{count}
 use Rattle.gos_realises.specs.realises.Links.{IsJoined}
 use Rattle.gos_realises.specs.realises.Wirings.{side}
 use Rattle.gos_joining.specs.webs.Webs.{joint}
-use Rattle.gos_joining.proofs.webs.CutLemmas.{part_there, which_end}
 use Rattle.gos_sharing.specs.sharing.Sharing.{caller_end}
 use Rattle.gos_sharing.specs.buffers.Buffering.{end_behind}
 use Rattle.gos_sharing.specs.behind.Behind.{outer_joint, IsBehind}
@@ -61,14 +63,10 @@ other_part : (i k h : ℕ) → nat_eq i k ≡ false → (ts : List Token) → No
 other_part i k h apart [] = tt
 other_part i k h apart (x ∷ ts) = (ap (λ (b : Bool). b && nat_eq (shake_of x.slot) h) apart, other_part i k h apart ts)
 
-false_or : (b : Bool) → (b ≡ true → ⊥) → b ≡ false
-false_or true never = absurd (never refl)
-false_or false never = refl
-
 own_part : (i h n takes : ℕ) → h < n → ((b : ℕ) → takes ≡ n + b * n + h → ⊥) → (ts : List Token) → LowFrom n takes ts → NotAt i (PartEnd i h) ts
 own_part i h n takes low never [] from = tt
 own_part i h n takes low never (x ∷ ts) (first, rest) = (
-  false_or (same_end (end_of i x.slot) (PartEnd i h)) (λ same. at_h (same_is (end_of i x.slot) (PartEnd i h) same)),
+  false_from_ne_true (same_end (end_of i x.slot) (PartEnd i h)) (λ same. at_h (same_is (end_of i x.slot) (PartEnd i h) same)),
   own_part i h n takes low never ts rest,
 )
   where
@@ -92,11 +90,6 @@ stays_none x e a way w k none = by_place (places_of x e)
 same_not_false : (d e : End) → d ≡ e → same_end d e ≡ false → ⊥
 same_not_false d e same apart =
     let clash : true ≡ false = sym (same_itself e) ∙ (ap (λ (y : End). same_end y e) (sym same) ∙ apart) in cc clash
-
-no_part : (d : End) (i h : ℕ) → IsPortEnd d → same_end d (PartEnd i h) ≡ false
-no_part (PartEnd k g) i h port = absurd port
-no_part (ImportEnd k g) i h port = refl
-no_part (ResultEnd g) i h port = refl
 
 module _ (t s o : Type') (n m : ℕ) (half : Half t s o n m) (c : ℕ) (p R : Plan) (behind : IsBehind (length p.parts) t c R p) (x : Plan) (of_x : IsJoined (side n s R) x) where
   -- no caller's handshake of the other side stands in a joint
@@ -202,7 +195,7 @@ module _ (t s o : Type') (n m : ℕ) (half : Half t s o n m) (c : ℕ) (p R : Pl
 
       stays_empty : (z : Element) (k w : Tokens) → Does x z k w → k.in_place way a ≡ None → w.in_place way a ≡ None
       stays_empty (Fire i slot) k w (v, row, lies, by, leads) none =
-          let (part, is) = part_there (slice_get x.parts i) (k.state i) slot row by in
+          let (part, is) = firing_part (slice_get x.parts i) (k.state i) slot row by in
           let fires : firing part (k.state i) slot ≡ Some row = ap (λ f. firing_of f (k.state i) slot) (sym is) ∙ by in
           let roles = row_roles part (k.state i) slot row v fires in
           ap (λ (y : Tokens). y.in_place way a) leads
@@ -223,7 +216,7 @@ module _ (t s o : Type') (n m : ℕ) (half : Half t s o n m) (c : ℕ) (p R : Pl
               let pass = subst (λ (f : Option Contact). Passes x (In d v) f k w) there passes in
               ap (λ (y : Tokens). y.in_place way a) pass.1
               ∙ (placed_apart x d a (way_put e.role) way (Some v) k
-              (λ same placed. same_not_false d (PartEnd (length p.parts) (m + l)) (only d e there same placed) (no_part d (length p.parts) (m + l) port))
+              (λ same placed. same_not_false d (PartEnd (length p.parts) (m + l)) (only d e there same placed) (port_apart d (length p.parts) (m + l) port))
               ∙ none)
 
       pub never : (xs : List Element) (k w : Tokens) → Runs x xs k w → k.in_place way a ≡ None → w.in_place way a ≡ None

@@ -1,11 +1,12 @@
 -- Nothing lies for the Share's source at the other side: the plan could put it out, though nothing of that side is open.
-use Rattle.std.specs.Prelude.{◌≡◌, ℕ, ◌+◌, ◌<◌, Bool, true, false, List, [], ◌∷◌, ◌⊎◌, length, Option, Some, None, All, slice_get, Contains}
+use Rattle.std.specs.Prelude.{◌≡◌, ℕ, ◌+◌, ◌<◌, true, false, List, [], ◌∷◌, ◌⊎◌, length, Option, Some, None, All, slice_get, Contains}
 use Rattle.std.proofs.Common.{refl, sym, ◌∙◌, ap, subst, arith, inl, inr}
 use Rattle.std.proofs.lemmas.Option.{slice_get_within, same_Some}
 use Rattle.gos_types.specs.declared.shakes.Role.{Role}
 use Rattle.gos_types.specs.declared.shakes.Role.TheVariants.{Serve, Ask}
 use Rattle.gos_types.specs.Types.{Type'}
 use Rattle.gos_types.specs.Events.{Direction, Request}
+use Rattle.gos_types.proofs.BoolLemmas.{true_is_not_false}
 use Rattle.gos_plan.specs.Kinds.{Contact, contacts_of, turned_contact}
 use Rattle.gos_plan.specs.Plans.{End, PartEnd, ResultEnd, Plan, contact_at, stands_in}
 use Rattle.gos_plan.specs.Tokens.{Tokens, Out, Passes, places_of, held_at, token_at, with_token, way_taken, way_put, Does}
@@ -13,11 +14,13 @@ use Rattle.gos_plan.specs.TokenBits.{LiteralFits}
 use Rattle.gos_plan.specs.Orderly.{Open, none_open}
 use Rattle.gos_plan.specs.Joining.{place, origin}
 use Rattle.gos_plan.proofs.JointLemmas.{contained, stands_there}
+use Rattle.gos_plan.proofs.ContactLemmas.{turned_taken}
 use Rattle.gos_realises.specs.realises.Regular.{count, Pass, pass, way_out, is_open, KeepsTurns, KeepsTurnsOf, IsRegular}
 use Rattle.gos_realises.specs.realises.Links.{IsJoined}
 use Rattle.gos_realises.specs.realises.Wirings.{side}
 use Rattle.gos_realises.proofs.realises.GroundTurnLemmas.{there_some}
 use Rattle.gos_realises.proofs.realises.InputLemmas.{passed}
+use Rattle.gos_realises.proofs.realises.PassLemmas.{open_itself, open_otherwise}
 use Rattle.gos_joining.proofs.renumbered.TurnLemmas.{EachKeeps, of_result}
 use Rattle.gos_joining.specs.webs.Webs.{joint}
 use Rattle.gos_joining.proofs.webs.CutLemmas.{stands_by}
@@ -27,17 +30,13 @@ use Rattle.gos_sharing.proofs.behind.BetweenLemmas.{RoleBelow, positive}
 use Rattle.gos_sharing.proofs.behind.EndLemmas.{inner_contact}
 use Rattle.gos_sharing.proofs.behind.SeenLemmas.{seen, token_so}
 use Rattle.gos_sharing.proofs.behind.StepLemmas.{stepped}
-use Rattle.gos_sharing.proofs.behind.LagLemmas.{TurnAt, turn_at, open_this, open_other, ports_of_turns}
+use Rattle.gos_sharing.proofs.behind.LagLemmas.{TurnAt, turn_at, ports_of_turns}
 use Rattle.gos_sharing.proofs.behind.HeldLemmas.{Held, held_below}
-use Rattle.gos_sharing.proofs.behind.OuterLemmas.{turned_taken}
 use Rattle.gos_sharing.proofs.behind.RegularLemmas.{Stood, held_on, held_first}
 use Rattle.gos_supplies.proofs.turns.FollowLemmas.{Family, IsLoose}
 use Rattle.gos_supplies.proofs.turns.GoesLemmas.{Goes}
 use Rattle.gos_sharing.proofs.pair_types.HalfLemmas.{Half}
 use Rattle.gos_sharing.proofs.pair_types.SideLemmas.{up, origin_so, joint_up, trail_is}
-
-up_down : (b : Bool) → b ≡ true → b ≡ false → ⊥
-up_down b up down = let clash : true ≡ false = sym up ∙ down in cc clash
 
 module _ (t s o : Type') (n m : ℕ) (half : Half t s o n m) (c : ℕ) (p R : Plan) (behind : IsBehind (length p.parts) t c R p) where
   -- what is not open outside is not put out inside
@@ -54,7 +53,7 @@ module _ (t s o : Type') (n m : ℕ) (half : Half t s o n m) (c : ℕ) (p R : Pl
 
       not_served : (j : ℕ) (e : Contact) → slice_get (contacts_of o) j ≡ Some e → e.role ≡ Serve → is_open own (ResultEnd (m + j)) ≡ true → ⊥
       not_served j e at_j role up =
-          up_down (is_open past (ResultEnd (m + j))) (subst (Below j) role (below j e at_j) up) (closed j (slice_get_within (contacts_of o) j e at_j))
+          true_is_not_false (is_open past (ResultEnd (m + j))) (subst (Below j) role (below j e at_j) up) (closed j (slice_get_within (contacts_of o) j e at_j))
 
       asked : d.role ≡ Ask → KeepsTurns p own (pass (ResultEnd (m + l)) Request) → ⊥
       asked role turns_r =
@@ -63,9 +62,9 @@ module _ (t s o : Type') (n m : ℕ) (half : Half t s o n m) (c : ℕ) (p R : Pl
           let keeps : KeepsTurnsOf o (λ j. is_open (x ∷ own) (ResultEnd (m + j))) = half.turns (of_result (is_open (x ∷ own))) each.1 in
           let (j, e, at_j, serves, up) =
           positive o (λ j. is_open (x ∷ own) (ResultEnd (m + j))) keeps
-          (there_some (count o) (λ j. is_open (x ∷ own) (ResultEnd (m + j))) l (slice_get_within (contacts_of o) l d at_l) (open_this (ResultEnd (m + l)) Request own))
+          (there_some (count o) (λ j. is_open (x ∷ own) (ResultEnd (m + j))) l (slice_get_within (contacts_of o) l d at_l) (open_itself (ResultEnd (m + l)) Request own))
           in
-          not_served j e at_j serves (sym (open_other (ResultEnd (m + l)) (ResultEnd (m + j)) Request own (apart j e at_j serves)) ∙ up)
+          not_served j e at_j serves (sym (open_otherwise (ResultEnd (m + l)) (ResultEnd (m + j)) Request own (apart j e at_j serves)) ∙ up)
         where
           apart : (j : ℕ) (e : Contact) → slice_get (contacts_of o) j ≡ Some e → e.role ≡ Serve → ResultEnd (m + l) ≡ ResultEnd (m + j) → ⊥
           apart j e at_j serves same =

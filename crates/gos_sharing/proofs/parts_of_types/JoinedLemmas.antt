@@ -4,17 +4,19 @@ use Rattle.std.proofs.Common.{refl, sym, ◌∙◌, ap, subst, arith, inl, inr}
 use Rattle.std.proofs.lemmas.Bool.Decides.{nat_tests}
 use Rattle.std.proofs.lemmas.Option.{slice_get_within, same_Some}
 use Rattle.gos_types.specs.Types.{Type'}
+use Rattle.gos_types.proofs.ListLemmas.{element_at}
 use Rattle.gos_plan.specs.Kinds.{Part, Share, Contact, asks, serves}
 use Rattle.gos_plan.specs.Plans.{End, PartEnd, ImportEnd, ResultEnd, Joint, Plan, contact_at, contacts_of_part, contacts_of_import, turned_if}
 use Rattle.gos_plan.specs.Tokens.{IsPortEnd}
 use Rattle.gos_plan.specs.Joining.{Place, Link, Wiring, all_parts, all_left, left_in, left_among, left_place, part_place, origin, Path, Connects, IsJoining}
-use Rattle.gos_plan.proofs.JointLemmas.{fits, contained}
-use Rattle.gos_realises.proofs.joined.ReachLemmas.{place_is}
+use Rattle.gos_plan.proofs.JointLemmas.{fits, contained, which_end}
+use Rattle.gos_plan.proofs.ContactLemmas.{part_is_there}
+use Rattle.gos_plan.proofs.WiringLemmas.{place_is}
 use Rattle.gos_joining.specs.webs.Webs.{joint}
 use Rattle.gos_joining.specs.webs.Cutting.{StandsIn}
-use Rattle.gos_joining.proofs.webs.CutLemmas.{which_end, stands_by, part_at}
+use Rattle.gos_joining.proofs.webs.CutLemmas.{stands_by}
 use Rattle.gos_sharing.specs.function_types.Joined.{wiring, IsPortPlace, AllPortPlaces}
-use Rattle.gos_sharing.proofs.function_types.JoinedLemmas.{part_is, stands_low, low_origin}
+use Rattle.gos_sharing.proofs.function_types.JoinedLemmas.{stands_low, low_origin}
 use Rattle.gos_sharing.proofs.function_types.MappedLemmas as mapped
 use Rattle.gos_sharing.proofs.function_types.MappedLemmas.{later_port, left_port, first_part, other_part, other_origin, end_at, place_at, IsCarried, path_goes}
 use Rattle.gos_sharing.specs.parts_of_types.Narrow.{Narrowing, shake_at, widened, IsNarrow}
@@ -32,7 +34,7 @@ no_longer xs ys each = by_test (nat_lt (length ys) (length xs)) refl
     by_test false test = grind (arith, nat_tests, test)
     by_test true test =
         let low : length ys < length xs = grind (arith, nat_tests, test) in
-        let (k, there) = each (length ys) (part_is xs (length ys) low) in
+        let (k, there) = each (length ys) (element_at xs (length ys) low) in
         let within = slice_get_within ys (length ys) k there in absurd (omega (arith, within))
 
 back_stays : (f : Narrowing) (e : End) → IsPortEnd e → narrowed f e ≡ e
@@ -206,7 +208,7 @@ module _ (f : Narrowing) (z u : Plan) (is : IsNarrow f z u) (ps : List Plan) (ls
         of_end (ImportEnd n l) named d at_d = absurd (cc named)
         of_end (ResultEnd l) named d at_d = absurd (cc named)
         of_end (PartEnd n l) named d at_d =
-            let (part, at_part) = part_at (slice_get u.parts n) l d at_d in
+            let (part, at_part) = part_is_there (slice_get u.parts n) l d at_d in
             let low = slice_get_within u.parts n part at_part in
             record { from = PartEnd n l; named = named; has = (d, ap (λ y. slice_get (contacts_of_part y) l) (low_u n low) ∙ at_d) }
 

@@ -15,9 +15,10 @@ use Rattle.gos_realises.specs.realises.Links.{IsJoined}
 use Rattle.gos_realises.specs.realises.Wirings.{lone, link, results_linked}
 use Rattle.gos_realises.specs.realises.Realises.{AllGround, NamesDiffer, HaveOtherNames, Suits, Means}
 use Rattle.gos_realises.proofs.joined.WholeLemmas.{applied_is_joined, sides_are_joined, variables_are_joined}
+use Rattle.gos_realises.proofs.realises.LiteralLemmas.{each_fits}
 use Rattle.gos_sharing.specs.function_types.Joined.{wiring}
 use Rattle.gos_sharing.proofs.function_types.BeforeLemmas.{AllResults, results_are_ports}
-use Rattle.gos_sharing.proofs.function_types.MeansLemmas.{part_there, each_fits, no_links, results, read_link, write_links}
+use Rattle.gos_sharing.proofs.function_types.MeansLemmas.{part_there, no_links, results, read_link, write_links}
 use Rattle.gos_sharing.specs.parts_of_types.Narrow.{Narrowing, IsNarrow}
 use Rattle.gos_sharing.specs.parts_of_types.Realised.{NarrowIsRealised}
 use Rattle.gos_sharing.proofs.parts_of_types.MovedLemmas.{not_share}

@@ -2,15 +2,16 @@
 use Rattle.std.specs.Prelude.{◌≡◌, ◌≢◌, ℕ, Bool, true, false, ◌&&◌, List, [], ◌∷◌, ◌⊎◌, map, Option, Some, None, option_map, nat_eq, slice_get, if◌then◌else◌}
 use Rattle.std.proofs.Common.{refl, sym, ◌∙◌, ap, subst, arith, inl, inr}
 use Rattle.gos_types.specs.Events.{Direction, Request, Answer}
+use Rattle.gos_types.proofs.BoolLemmas.{same_tests}
 use Rattle.gos_plan.specs.Kinds.{Contact, asks, serves}
 use Rattle.gos_plan.specs.Firing.{State, Slot, Req, Ans, Token, Row}
 use Rattle.gos_plan.specs.Plans.{End, PartEnd, ImportEnd, ResultEnd, Joint, Plan, contact_at, contacts_of_part, contacts_of_import, turned_if, same_end, stands_in}
 use Rattle.gos_plan.specs.Tokens.{Tokens, places_of, same_way, with_state, held_at, with_held, token_at, with_token, with_puts, end_of, way_of, shake_of, firing_of, fired}
 use Rattle.gos_plan.specs.Orderly.{Open, named_by, handshake_at, with_open, after_taken, after_put, after_puts, ComesWell, AllComeWell}
-use Rattle.gos_plan.proofs.JointLemmas.{IsIn, same_itself, same_is, found, fits, has_place, stands_there, contained}
+use Rattle.gos_plan.proofs.JointLemmas.{IsIn, same_itself, same_is, found, fits, has_place, stands_there, contained, which_end}
 use Rattle.gos_joining.specs.webs.Webs.{joint}
-use Rattle.gos_joining.proofs.webs.CutLemmas.{which_end, stands_by}
-use Rattle.gos_joining.proofs.webs.MovedLemmas.{listed, same_bool}
+use Rattle.gos_joining.proofs.webs.CutLemmas.{stands_by}
+use Rattle.gos_joining.proofs.webs.MovedLemmas.{listed}
 use Rattle.gos_sharing.specs.parts_of_types.Narrow.{Narrowing, shake_at, widened, HasWideShare, IsNarrow}
 use Rattle.gos_sharing.proofs.parts_of_types.RowLemmas.{wide_slot, wide_token, wide_row, share_so, other_so, handshake_so}
 
@@ -66,7 +67,7 @@ module _ (f : Narrowing) (z u : Plan) (is : HasWideShare f z u) where
   one_end d e same = sym (end_there d) ∙ (ap (narrowed f) same ∙ end_there e)
 
   pub same_moved : (d e : End) → same_end (widened f d) (widened f e) ≡ same_end d e
-  same_moved d e = same_bool (same_end (widened f d) (widened f e)) (same_end d e) to from
+  same_moved d e = same_tests (same_end (widened f d) (widened f e)) (same_end d e) to from
     where
       to : same_end (widened f d) (widened f e) ≡ true → same_end d e ≡ true
       to h = subst (λ (y : End). same_end d y ≡ true) (one_end d e (same_is (widened f d) (widened f e) h)) (same_itself d)

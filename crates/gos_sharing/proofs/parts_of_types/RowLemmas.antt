@@ -1,17 +1,19 @@
 -- The rows of a Share at one of its handshakes, and those of a wide Share at the handshakes of a narrow one.
-use Rattle.std.specs.Prelude.{◌≡◌, ◌≢◌, ℕ, zero, suc, ◌+◌, ◌-◌, ◌*◌, ◌<◌, ◌≤◌, Bool, true, false, List, [], ◌∷◌, ◌++◌, length, map, Option, Some, None, option_map, slice_get, nat_eq, nat_lt, if◌then◌else◌}
+use Rattle.std.specs.Prelude.{◌≡◌, ◌≢◌, ℕ, zero, suc, ◌+◌, ◌-◌, ◌*◌, ◌<◌, ◌≤◌, Bool, true, false, List, [], ◌∷◌, ◌++◌, length, map, Option, Some, None, option_map, slice_get, nat_lt, if◌then◌else◌}
 use Rattle.std.proofs.Common.{refl, sym, ◌∙◌, ap, subst, arith}
 use Rattle.std.proofs.lemmas.Bool.Decides.{nat_tests}
 use Rattle.std.proofs.lemmas.Option.{slice_get_within}
-use Rattle.std.proofs.lemmas.List.{length-map, length-append}
+use Rattle.std.proofs.lemmas.Bool.{ne_eqb}
 use Rattle.gos_types.specs.declared.shakes.Role.{Role}
 use Rattle.gos_types.specs.declared.shakes.Role.TheVariants.{Serve, Ask}
 use Rattle.gos_types.specs.Types.{Type'}
-use Rattle.gos_plan.specs.Kinds.{Part, Share, Contact, contacts_of, other_side, turned_contact, part_contacts}
+use Rattle.gos_types.proofs.ListLemmas.{element_at}
+use Rattle.gos_plan.specs.Kinds.{Part, Share, Contact, contacts_of, turned_contact, part_contacts}
 use Rattle.gos_plan.specs.Firing.{Phase, Rest, State, at, Slot, Req, Ans, Token, put, Row, row, rows, row_for, same_slot, shared_rows, share_rows, firing}
 use Rattle.gos_plan.specs.Tokens.{shake_of, firing_of}
 use Rattle.gos_realises.specs.realises.Regular.{count}
 use Rattle.gos_realises.proofs.realises.RenumberLemmas.{tests_agree}
+use Rattle.gos_realises.proofs.realises.CountLemmas.{share_count}
 
 -- a handshake of a Share is one of its source or of a caller, and by one number alone
 pub column : (n j k b c : ℕ) → j < n → k < n → b * n + j ≡ c * n + k → (b ≡ c) × (j ≡ k)
@@ -35,33 +37,16 @@ block n h low = by_first (nat_lt h n) refl
     by_first true test = (0, h, omega arith, grind (arith, nat_tests, test), omega arith)
     by_first false test = by_second (grind (arith, nat_tests, test)) (nat_lt h (n + n)) refl
 
-shares_count : (t : Type') → length (part_contacts (Share t)) ≡ count t + (count t + count t)
-shares_count t =
-    length-append (other_side (contacts_of t)) (contacts_of t ++ contacts_of t)
-    ∙ (λ l. length-map (contacts_of t) turned_contact l + length-append (contacts_of t) (contacts_of t) l)
-
 pub share_block : (t : Type') (h : ℕ) (k : Contact) → slice_get (part_contacts (Share t)) h ≡ Some k → Block (count t) h
-share_block t h k at_h = block (count t) h (subst (λ (n : ℕ). h < n) (shares_count t) (slice_get_within (part_contacts (Share t)) h k at_h))
-
-pub there_is : (cs : List Contact) (h : ℕ) → h < length cs → (k : Contact) × (slice_get cs h ≡ Some k)
-there_is [] h low = absurd (omega (arith, low))
-there_is (x ∷ xs) zero low = (x, refl)
-there_is (x ∷ xs) (suc h) low = there_is xs h (omega (arith, low))
+share_block t h k at_h = block (count t) h (subst (λ (n : ℕ). h < n) (share_count t) (slice_get_within (part_contacts (Share t)) h k at_h))
 
 -- rows that don't take a token
 other_row : (slot : Slot) (r : Row) (rs : List Row) → same_slot r.takes slot ≡ false → row_for slot (r ∷ rs) ≡ row_for slot rs
 other_row slot r rs differ = ap (λ (b : Bool). if b then Some r else row_for slot rs) differ
 
-apart_numbers : (h g : ℕ) → (h ≡ g → ⊥) → nat_eq h g ≡ false
-apart_numbers h g differ = by_test (nat_eq h g) refl
-  where
-    by_test : (b : Bool) → nat_eq h g ≡ b → b ≡ false
-    by_test false t = refl
-    by_test true t = absurd (differ (grind (arith, t)))
-
 apart : (x slot : Slot) → (shake_of x ≡ shake_of slot → ⊥) → same_slot x slot ≡ false
-apart (Req h) (Req g) differ = apart_numbers h g differ
-apart (Ans h) (Ans g) differ = apart_numbers h g differ
+apart (Req h) (Req g) differ = ne_eqb h g differ
+apart (Ans h) (Ans g) differ = ne_eqb h g differ
 apart (Req h) (Ans g) differ = refl
 apart (Ans h) (Req g) differ = refl
 
@@ -196,7 +181,7 @@ pub share_so : (wide narrow : Type') (skipped : ℕ) (g : ℕ → ℕ) → ((h j
     → firing (Share wide) q (wide_slot g slot) ≡ option_map (wide_row g) (firing (Share narrow) q slot)
 share_so wide narrow skipped g one blocks contacts q slot k at_slot =
     let (c, j, few, low, is) = share_block narrow (shake_of slot) k at_slot in
-    let (d, at_d) = there_is (contacts_of narrow) j low in
+    let (d, at_d) = element_at (contacts_of narrow) j low in
     let number : shake_of (wide_slot g slot) ≡ c * count wide + (skipped + j) = same_shake g slot ∙ (ap g is ∙ blocks c j low) in
     at_handshake wide q (wide_slot g slot) c (skipped + j) d (contacts j d at_d) number
     ∙ (ap (λ rs. at_rest q.phase (row_for (wide_slot g slot) rs)) (shared_so g (count narrow) (count wide) skipped j q.number d.role (λ a. blocks a j low))
@@ -251,4 +236,4 @@ handshake_so wide narrow skipped g blocks contacts h k at_h = of_block (share_bl
 
     of_block : Block (count narrow) h → slice_get (part_contacts (Share wide)) (g h) ≡ Some k
     of_block (b, j, few, low, is) =
-        let (d, at_d) = there_is (contacts_of narrow) j low in by_caller b j few d at_d is (ap g is ∙ blocks b j low)
+        let (d, at_d) = element_at (contacts_of narrow) j low in by_caller b j few d at_d is (ap g is ∙ blocks b j low)

@@ -3,8 +3,9 @@ use Rattle.std.specs.Prelude.{None, slice_get}
 use Rattle.std.proofs.Common.{◌≡◌, ℕ, Bool, true, false, List, [], ◌∷◌, Option, Some, inl, inr, refl, sym, ◌∙◌, ap, subst}
 use Rattle.gos_types.specs.Types.{Type'}
 use Rattle.gos_types.specs.Events.{Direction, Request, Answer}
-use Rattle.gos_plan.specs.Kinds.{Contact, Part, asks, serves, part_contacts}
-use Rattle.gos_plan.specs.Plans.{End, PartEnd, Plan, contact_at, contacts_of_part}
+use Rattle.gos_types.proofs.RoleLemmas.{request_is_not_answer}
+use Rattle.gos_plan.specs.Kinds.{Contact, Part, asks, serves}
+use Rattle.gos_plan.specs.Plans.{End, PartEnd, Plan, contact_at}
 use Rattle.gos_plan.specs.Firing.{State, Slot, Token, Row}
 use Rattle.gos_plan.specs.Tokens.{Tokens, Fire, Out, In, places_of, held_at, token_at, with_token, with_state, with_puts, end_of, way_of, shake_of, way_taken, way_put, firing_of, Passes, Does}
 use Rattle.gos_plan.specs.Orderly.{Open, named_by, after_taken, after_put, ComesWell, AllComeWell, after_puts, ComesInOrder}
@@ -12,12 +13,13 @@ use Rattle.gos_plan.proofs.HeldLemmas.{takes_of}
 use Rattle.gos_plan.proofs.RowLemmas.{role_taking, role_putting}
 use Rattle.gos_plan.proofs.AskingLemmas.{RoleIs, PutsInRole, row_roles}
 use Rattle.gos_plan.proofs.TurnLemmas.{way_to_take, way_to_put}
+use Rattle.gos_plan.proofs.ContactLemmas.{part_contact}
 use Rattle.gos_joining.specs.webs.Webs.{joint}
 use Rattle.gos_sharing.specs.sharing.Sharing.{IsOfPart, IsSeenThrough, held_if, seen_tokens}
 use Rattle.gos_sharing.proofs.sharing.SeenTokenLemmas.{next, Owns, Seen, seen_at, asking_at, follows, of_part, one_server}
 use Rattle.gos_sharing.proofs.sharing.SeenFillLemmas.{ClearAt}
 use Rattle.gos_sharing.proofs.sharing.SeenFireLemmas.{PutsClear, fire_seen, out_seen, in_seen, port_outside}
-use Rattle.gos_sharing.proofs.sharing.SeenKeptLemmas.{Kept, fit_none, not_both_so, all_clear, Side, side, PutsSo, two_ways, kept_taken, kept_put}
+use Rattle.gos_sharing.proofs.sharing.SeenKeptLemmas.{Kept, fit_none, not_both_so, all_clear, Side, side, PutsSo, kept_taken, kept_put}
 
 pub kept_state : (i : ℕ) (t : Type') (c : ℕ) (r q : Plan) (k : ℕ) (x : State) (o : Open) (s : Tokens) → Kept i t c r q o s → Kept i t c r q o (with_state k x s)
 kept_state i t c r q k x o s kept =
@@ -57,7 +59,7 @@ clear_of_put i t c r q is o s e Request apart puts kept well a d there in_r = (�
 
     no_next : next i t c r a ≡ Some d → Side r e d → ⊥
     no_next h (inl g) = let w = follows i t c r q a d (asking_at i t c r q is a at.asks) h in apart (of_part i _ e (sym g.0 ∙ w.1))
-    no_next h (inr g) = two_ways (sym (puts (serves g.1.0 g.1.1) g.1.2))
+    no_next h (inr g) = request_is_not_answer (sym (puts (serves g.1.0 g.1.1) g.1.2))
 clear_of_put i t c r q is o s e Answer apart puts kept well a d there in_r = (
   λ h. empty h (next i t c r a) refl (side r e d is.right in_r),
   λ h. (kept.firsts a d at.asks h up).2,
@@ -71,7 +73,7 @@ clear_of_put i t c r q is o s e Answer apart puts kept well a d there in_r = (
 
     empty : d ≡ a → (n : Option End) → next i t c r a ≡ n → Side r e d → held_if s Answer n ≡ None
     empty h None k g = refl
-    empty h (Some f) k (inl g) = absurd (two_ways (puts (Rattle.gos_plan.specs.Kinds.asks g.1.0 g.1.1) g.1.2))
+    empty h (Some f) k (inl g) = absurd (request_is_not_answer (puts (Rattle.gos_plan.specs.Kinds.asks g.1.0 g.1.1) g.1.2))
     empty h (Some f) k (inr g) =
         let w = follows i t c r q a f (asking_at i t c r q is a at.asks) k in
         absurd (apart (of_part i w.0.shake e (one_server r a e (PartEnd i w.0.shake) is.right (subst (λ (y : End). Rattle.gos_plan.proofs.JointLemmas.IsIn (joint y e) r.joints) h g.0) w.0.into)))
@@ -93,14 +95,11 @@ visible i t c r q is o s e way v apart takes kept lies none = by_place (places_o
     by_place None h = not_both_so v (token_at r s e way) (ap (held_at s way) h) lies
     by_place (Some d) h = by_side d (side r e d is.right h)
 
-contact_of : (r : Plan) (k h : ℕ) (p : Part) → slice_get r.parts k ≡ Some p → contact_at r (PartEnd k h) ≡ slice_get (part_contacts p) h
-contact_of r k h p at_k = ap (λ x. slice_get (contacts_of_part x) h) at_k
-
 pub puts_so : (r : Plan) (k : ℕ) (p : Part) (x : Slot) → slice_get r.parts k ≡ Some p → RoleIs p (shake_of x) (role_putting x) → PutsSo r (end_of k x) (way_of x)
-puts_so r k p x at_k role d there = ap way_put (role d (sym (contact_of r k (shake_of x) p at_k) ∙ there)) ∙ sym (way_to_put x)
+puts_so r k p x at_k role d there = ap way_put (role d (sym (part_contact r k (shake_of x) p at_k) ∙ there)) ∙ sym (way_to_put x)
 
 pub takes_so : (r : Plan) (k : ℕ) (p : Part) (x : Slot) → slice_get r.parts k ≡ Some p → RoleIs p (shake_of x) (role_taking x) → (d : Contact) → contact_at r (end_of k x) ≡ Some d → way_taken d.role ≡ way_of x
-takes_so r k p x at_k role d there = ap way_taken (role d (sym (contact_of r k (shake_of x) p at_k) ∙ there)) ∙ sym (way_to_take x)
+takes_so r k p x at_k role d there = ap way_taken (role d (sym (part_contact r k (shake_of x) p at_k) ∙ there)) ∙ sym (way_to_take x)
 
 all_puts : (i : ℕ) (t : Type') (c : ℕ) (r q : Plan) → IsSeenThrough i t c r q → (k : ℕ) (p : Part) → (k ≡ i → ⊥) → slice_get r.parts k ≡ Some p → (xs : List Token) (o : Open) (s : Tokens)
     → PutsInRole p xs → AllComeWell r k xs o s → Kept i t c r q o s → PutsClear i t c r q k xs s × Kept i t c r q (after_puts r k xs o) (with_puts r k xs s)

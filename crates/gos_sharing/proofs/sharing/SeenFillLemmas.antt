@@ -6,7 +6,7 @@ use Rattle.gos_types.specs.Events.{Direction, Request, Answer}
 use Rattle.gos_plan.specs.Plans.{End, Plan, same_end}
 use Rattle.gos_plan.specs.Firing.{Rest, at}
 use Rattle.gos_plan.specs.Tokens.{Tokens, places_of, same_way, with_place, with_held, held_at, token_at, with_token}
-use Rattle.gos_plan.proofs.JointLemmas.{same_itself, same_is}
+use Rattle.gos_plan.proofs.JointLemmas.{same_itself, same_is, apart_is_not_same}
 use Rattle.gos_joining.specs.webs.Cutting.{asks_in}
 use Rattle.gos_sharing.specs.sharing.Sharing.{IsOfPart, IsSeenThrough, held_or, held_if, seen_tokens}
 use Rattle.gos_sharing.proofs.sharing.SeenTokenLemmas.{next, Owns, one_owner, seen_at, lost_at, follows, asking_at, outside_at}
@@ -20,26 +20,19 @@ IsClear i t c r s way a d =
 abbrev held_in : ℕ → Type' → ℕ → Plan → Tokens → Direction → End → Option ℕ
 held_in i t c r s way e = held_or (s.in_place way e) (held_if s way (next i t c r e))
 
-differs : (d e : End) → (d ≡ e → ⊥) → same_end d e ≡ false
-differs d e h = by_test (same_end d e) refl
-  where
-    by_test : (b : Bool) → same_end d e ≡ b → b ≡ false
-    by_test true t = absurd (h (same_is d e t))
-    by_test false t = refl
-
 -- a place that isn't of this joint is filled: it isn't seen there
 untouched : (s : Tokens) (way w : Direction) (d e : End) (o : Option End) (held : Option ℕ) → (d ≡ e → ⊥) → (o ≡ Some d → ⊥)
     → held_or ((with_place way d held s).in_place w e) (held_if (with_place way d held s) w o) ≡ held_or (s.in_place w e) (held_if s w o)
 untouched s way w d e None held h k =
-    let t : same_end e d ≡ false = differs e d (λ x. h (sym x)) in untouched_test (same_way w way) (same_end e d) held (s.in_place w e) t
+    let t : same_end e d ≡ false = apart_is_not_same e d (λ x. h (sym x)) in untouched_test (same_way w way) (same_end e d) held (s.in_place w e) t
   where
     untouched_test : (a b : Bool) (v u : Option ℕ) → b ≡ false → held_or (if a && b then v else u) None ≡ held_or u None
     untouched_test true true v u t = absurd (cc t)
     untouched_test true false v u t = refl
     untouched_test false b v u t = refl
 untouched s way w d e (Some f) held h k =
-    let t : same_end e d ≡ false = differs e d (λ x. h (sym x)) in
-    let g : same_end f d ≡ false = differs f d (λ x. k (ap Some x)) in
+    let t : same_end e d ≡ false = apart_is_not_same e d (λ x. h (sym x)) in
+    let g : same_end f d ≡ false = apart_is_not_same f d (λ x. k (ap Some x)) in
     untouched_test (same_way w way) (same_end e d) (same_end f d) held (s.in_place w e) (s.in_place w f) t g
   where
     untouched_test : (a b g : Bool) (v u z : Option ℕ) → b ≡ false → g ≡ false → held_or (if a && b then v else u) (if a && g then v else z) ≡ held_or u z
@@ -62,16 +55,16 @@ filled_first s way w a None held h k = by_test (same_way w way) (same_end a a) h
     by_test true false v u t = absurd (cc t)
     by_test false b v u t = refl
 filled_first s Request Request a (Some f) held h k =
-    let t : same_end f a ≡ false = differs f a (λ x. h (ap Some x)) in rw (same_itself a, t, k) (none_below held)
+    let t : same_end f a ≡ false = apart_is_not_same f a (λ x. h (ap Some x)) in rw (same_itself a, t, k) (none_below held)
 filled_first s Answer Answer a (Some f) held h k =
-    let t : same_end f a ≡ false = differs f a (λ x. h (ap Some x)) in rw (same_itself a, t, k) (none_below held)
+    let t : same_end f a ≡ false = apart_is_not_same f a (λ x. h (ap Some x)) in rw (same_itself a, t, k) (none_below held)
 filled_first s Request Answer a (Some f) held h k = refl
 filled_first s Answer Request a (Some f) held h k = refl
 
 filled_second : (s : Tokens) (way w : Direction) (a d : End) (held : Option ℕ) → (d ≡ a → ⊥) → s.in_place way a ≡ None
     → held_or ((with_place way d held s).in_place w a) (held_if (with_place way d held s) w (Some d)) ≡ (if same_way w way then held else held_or (s.in_place w a) (s.in_place w d))
-filled_second s Request Request a d held h k = let t : same_end a d ≡ false = differs a d (λ x. h (sym x)) in rw (t, k, same_itself d) refl
-filled_second s Answer Answer a d held h k = let t : same_end a d ≡ false = differs a d (λ x. h (sym x)) in rw (t, k, same_itself d) refl
+filled_second s Request Request a d held h k = let t : same_end a d ≡ false = apart_is_not_same a d (λ x. h (sym x)) in rw (t, k, same_itself d) refl
+filled_second s Answer Answer a d held h k = let t : same_end a d ≡ false = apart_is_not_same a d (λ x. h (sym x)) in rw (t, k, same_itself d) refl
 filled_second s Request Answer a d held h k = refl
 filled_second s Answer Request a d held h k = refl
 

@@ -6,12 +6,14 @@ use Rattle.gos_types.specs.Types.{Type'}
 use Rattle.gos_types.specs.declared.shakes.Role.{Role}
 use Rattle.gos_types.specs.declared.shakes.Role.TheVariants.{Serve, Ask}
 use Rattle.gos_types.specs.Events.{Direction, Request, Answer}
+use Rattle.gos_types.proofs.RoleLemmas.{request_is_not_answer}
 use Rattle.gos_plan.specs.Kinds.{Contact, asks, serves}
 use Rattle.gos_plan.specs.Plans.{End, PartEnd, Plan, same_end, contact_at, IsRight}
 use Rattle.gos_plan.specs.Tokens.{Tokens, places_of, same_way, with_held, held_at, token_at, with_token, way_taken, way_put}
 use Rattle.gos_plan.specs.Orderly.{Open, named_by, handshake_at, after_taken, after_put, ComesWell}
 use Rattle.gos_plan.proofs.JointLemmas.{IsIn, same_is, Found, found, fits, contained}
 use Rattle.gos_plan.proofs.HeldLemmas.{AllFit, taken, put_well}
+use Rattle.gos_plan.proofs.TokenBitsLemmas.{same_way_is}
 use Rattle.gos_joining.specs.webs.Webs.{joint}
 use Rattle.gos_joining.specs.webs.Cutting.{asks_in}
 use Rattle.gos_sharing.specs.sharing.Sharing.{IsOfPart, IsSeenThrough, passed_on, held_if}
@@ -89,12 +91,9 @@ side r e d right there = by_end (either_end e f.joint.asking f.joint.serving f.s
 abbrev pub PutsSo : Plan → End → Direction → Type 0
 PutsSo r e way = (k : Contact) → contact_at r e ≡ Some k → way_put k.role ≡ way
 
-pub two_ways : Request ≡ Answer → ⊥
-two_ways e = cc e
-
 not_taken : (role : Role) → way_put role ≡ way_taken role → ⊥
-not_taken Serve h = two_ways (sym h)
-not_taken Ask h = two_ways h
+not_taken Serve h = request_is_not_answer (sym h)
+not_taken Ask h = request_is_not_answer h
 
 pub stays_empty : (s : Tokens) (way w : Direction) (o : Option End) (a : End) → s.in_place w a ≡ None → (with_held way o None s).in_place w a ≡ None
 stays_empty s way w None a h = h
@@ -161,12 +160,6 @@ lost_clash i t c r q is e x d way k apart other puts there none same one two = b
         placed x (place_asking q x e is.also_right (in_q x e (subst (λ (y : End). IsIn (joint y e) r.joints) h g) other apart))
     by_sides (inr (g, l)) (inr (h, j)) = equal (one_server r d e x is.right g h)
 
-pub way_is : (w way : Direction) → same_way w way ≡ true → w ≡ way
-way_is Request Request h = refl
-way_is Answer Answer h = refl
-way_is Request Answer h = absurd (cc h)
-way_is Answer Request h = absurd (cc h)
-
 lost_put : (i : ℕ) (t : Type') (c : ℕ) (r q : Plan) → IsSeenThrough i t c r q → (e : End) (way : Direction) (v : ℕ) (o : Open) (s : Tokens) → (IsOfPart i e → ⊥) → PutsSo r e way
     → Kept i t c r q o s → (x : End) (k : Contact) → (IsOfPart i x → ⊥) → contact_at r x ≡ Some k → places_of q x ≡ None → token_at r (with_token r e way (Some v) s) x (way_taken k.role) ≡ None
 lost_put i t c r q is e way v o s apart puts kept x k other there none = by_places (places_of r e) refl (places_of r x) refl
@@ -182,7 +175,7 @@ lost_put i t c r q is e way v o s apart puts kept x k other there none = by_plac
         by_test : (a : Bool) → same_way (way_taken k.role) way ≡ a → (b : Bool) → same_end d f ≡ b
             → (if same_way (way_taken k.role) way && same_end d f then Some v else s.in_place (way_taken k.role) d) ≡ None
         by_test true y true z =
-            absurd (lost_clash i t c r q is e x d way k apart other puts there none (way_is (way_taken k.role) way y) (side r e d is.right (g ∙ ap Some (sym (same_is d f z)))) (side r x d is.right h))
+            absurd (lost_clash i t c r q is e x d way k apart other puts there none (same_way_is (way_taken k.role) way y) (side r e d is.right (g ∙ ap Some (sym (same_is d f z)))) (side r x d is.right h))
         by_test true y false z = rw (y, z) old
         by_test false y b z = rw y old
 
@@ -197,7 +190,7 @@ kept_put i t c r q is e Request v o s apart puts well kept =
       where
         by_side : Side r e d → ⊥
         by_side (inl g) = apart (subst (λ (y : End). IsOfPart i y) g.0 of)
-        by_side (inr g) = two_ways (sym (puts (serves g.1.0 g.1.1) g.1.2))
+        by_side (inr g) = request_is_not_answer (sym (puts (serves g.1.0 g.1.1) g.1.2))
 
     first : (a d : End) → asks_in q.joints a ≡ true → next i t c r a ≡ Some d → (b : Bool) → same_end d (handshake_at r e) ≡ b → (if same_end d (handshake_at r e) then true else o d) ≡ true
         → ((if same_end a (handshake_at r e) then true else o a) ≡ true) × ((with_token r e Request (Some v) s).in_place Request a ≡ None) × ((with_token r e Request (Some v) s).in_place Answer a ≡ None)
@@ -239,7 +232,7 @@ kept_put i t c r q is e Answer v o s apart puts well kept =
     empty a d asks n (Some f) g k = by_test (same_end a f) refl
       where
         by_side : a ≡ f → Side r e f → ⊥
-        by_side z (inl j) = two_ways (puts (Rattle.gos_plan.specs.Kinds.asks j.1.0 j.1.1) j.1.2)
+        by_side z (inl j) = request_is_not_answer (puts (Rattle.gos_plan.specs.Kinds.asks j.1.0 j.1.1) j.1.2)
         by_side z (inr j) =
             let w = follows i t c r q a d (asking_at i t c r q is a asks) n in
             apart (of_part i w.0.shake e (one_server r a e (PartEnd i w.0.shake) is.right (subst (λ (y : End). IsIn (joint y e) r.joints) (sym z) j.0) w.0.into))

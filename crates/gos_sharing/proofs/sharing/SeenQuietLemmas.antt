@@ -1,6 +1,6 @@
 -- Where the plan with the Share is quiet, so is the other.
 use Rattle.std.specs.Prelude.{◌⊎◌, None, nat_eq, slice_get}
-use Rattle.std.proofs.Common.{◌≡◌, ℕ, Bool, true, false, List, [], ◌∷◌, Option, Some, inl, inr, refl, sym, ◌∙◌, ap, subst, arith, if◌then◌else◌}
+use Rattle.std.proofs.Common.{◌≡◌, ℕ, Bool, true, false, List, [], Option, Some, inl, inr, refl, sym, ◌∙◌, ap, subst, arith, if◌then◌else◌}
 use Rattle.gos_types.specs.Types.{Type'}
 use Rattle.gos_types.specs.declared.shakes.Role.{Role}
 use Rattle.gos_types.specs.declared.shakes.Role.TheVariants.{Serve, Ask}
@@ -9,10 +9,11 @@ use Rattle.gos_plan.specs.Kinds.{Contact, Part, asks, serves}
 use Rattle.gos_plan.specs.Plans.{End, PartEnd, Plan, contact_at}
 use Rattle.gos_plan.specs.Firing.{at, Rest, Slot, Req, Ans}
 use Rattle.gos_plan.specs.Tokens.{Tokens, Element, Fire, Out, places_of, held_at, token_at, end_of, way_of, way_taken, firing_of, fired, with_token, Passes, Does, IsQuiet}
-use Rattle.gos_plan.specs.Orderly.{Open, none_open, AllWelcome, OrderlyFrom}
+use Rattle.gos_plan.specs.Orderly.{none_open, AllWelcome}
 use Rattle.gos_plan.proofs.JointLemmas.{IsIn, Found, found, fits}
 use Rattle.gos_plan.proofs.AskingLemmas.{row_roles}
 use Rattle.gos_plan.proofs.RowLemmas.{role_taking}
+use Rattle.gos_realises.proofs.quiet.QuietLemmas.{orderly_welcome}
 use Rattle.gos_joining.specs.webs.Webs.{joint}
 use Rattle.gos_joining.specs.webs.Cutting.{asks_in}
 use Rattle.gos_sharing.specs.sharing.Sharing.{IsOfPart, IsSeenThrough, LeadsThrough, passed_on, held_or, held_if, way_out_of, seen_tokens, ServesOne, QuietIsSeen}
@@ -23,10 +24,6 @@ use Rattle.gos_sharing.proofs.sharing.SeenFireLemmas.{contact_seen, port_outside
 use Rattle.gos_sharing.proofs.sharing.SeenKeptLemmas.{Side, side, not_both_so}
 use Rattle.gos_sharing.proofs.sharing.SeenElementLemmas.{takes_so, one_contact}
 use Rattle.gos_sharing.proofs.sharing.SeenRunLemmas.{nothing_held}
-
-welcome_after : (r : Plan) (xs : List Element) (o v : Open) (s w : Tokens) → OrderlyFrom r xs o s v w → AllWelcome r s → AllWelcome r w
-welcome_after r [] o v s w list welcome = subst (λ (y : Tokens). AllWelcome r y) (sym list.1) welcome
-welcome_after r (x ∷ xs) o v s w (m, u, does, comes, now, list) welcome = welcome_after r xs m v u w list now
 
 -- a token that is seen lies where it is seen, where the Share has nothing to pass on
 lies_there : (i : ℕ) (t : Type') (c : ℕ) (r q : Plan) → IsSeenThrough i t c r q → (w : Tokens) → AllWelcome r w → IsQuiet r w → (e a d : End) (way : Direction) (n : ℕ)
@@ -154,7 +151,7 @@ quiet_here i t c r q is w welcome quiet = (λ k slot u does. no_fire k slot u do
 
 pub all_welcome : (i : ℕ) (t : Type') (c : ℕ) (r q : Plan) (xs : List Element) (s w : Tokens) → ServesOne i t c r q xs s w → AllWelcome r w
 all_welcome i t c r q xs s w one =
-    welcome_after r xs none_open one.opened s w one.orderly
+    orderly_welcome r xs none_open one.opened s w one.orderly
     (λ k slot d v there way lies. absurd (not_both_so v (token_at r s (end_of k slot) (way_of slot)) (nothing_held s (way_of slot) (places_of r (end_of k slot)) (λ a. one.idle.0 (way_of slot) a)) lies))
 
 pub quiet_is_seen : QuietIsSeen

@@ -10,12 +10,13 @@ use Rattle.gos_plan.specs.Tokens.{Tokens, Element, Fire, Out, In, places_of, sam
 use Rattle.gos_plan.specs.Orderly.{Open, none_open, named_by, handshake_at, with_open, after_taken, after_puts, ComesInOrder, OrderlyFrom}
 use Rattle.gos_plan.proofs.JointLemmas.{IsIn, same_itself, same_is, found, contained}
 use Rattle.gos_plan.proofs.HeldLemmas.{step}
+use Rattle.gos_plan.proofs.TokenBitsLemmas.{same_way_is}
 use Rattle.gos_joining.specs.webs.Webs.{joint}
 use Rattle.gos_joining.specs.webs.Cutting.{asks_in}
 use Rattle.gos_sharing.specs.sharing.Sharing.{IsOfPart, IsSeenThrough, seen_tokens, without, WorksFor, RunsAreSeen}
 use Rattle.gos_sharing.proofs.sharing.SeenTokenLemmas.{next, of_part, one_server, place_asking, place_serving}
 use Rattle.gos_sharing.proofs.sharing.ShareRowLemmas.{Pair, pair_through, into_pair, served_there, asked_there, differ, Passed, IsRequestPassed, IsAnswerPassed, share_passes, share_seen}
-use Rattle.gos_sharing.proofs.sharing.SeenKeptLemmas.{Kept, fit_none, not_both_so, all_clear, Side, side, stays_empty, held_stays, still_open, way_is}
+use Rattle.gos_sharing.proofs.sharing.SeenKeptLemmas.{Kept, fit_none, not_both_so, all_clear, Side, side, stays_empty, held_stays, still_open}
 use Rattle.gos_sharing.proofs.sharing.SeenElementLemmas.{fire_too, out_too, in_too}
 
 -- two joints that the Share joins are one in the plan without it
@@ -60,7 +61,7 @@ held_unless s way w None (Some d) held apart h = h
 held_unless s way w (Some f) (Some d) held apart h = by_test (same_way w way) refl (same_end d f) refl
   where
     by_test : (a : Bool) → same_way w way ≡ a → (b : Bool) → same_end d f ≡ b → (if same_way w way && same_end d f then held else s.in_place w d) ≡ None
-    by_test true y true z = absurd (apart f refl (ap Some (same_is d f z)) (way_is w way y))
+    by_test true y true z = absurd (apart f refl (ap Some (same_is d f z)) (same_way_is w way y))
     by_test true y false z = rw (y, z) h
     by_test false y b z = rw y h
 

@@ -6,14 +6,16 @@ use Rattle.gos_types.specs.Types.{Type'}
 use Rattle.gos_types.specs.declared.shakes.Role.{Role}
 use Rattle.gos_types.specs.declared.shakes.Role.TheVariants.{Serve, Ask}
 use Rattle.gos_types.specs.Events.{Direction, Request, Answer}
+use Rattle.gos_types.proofs.RoleLemmas.{serve_is_not_ask}
 use Rattle.gos_realises.specs.realises.Regular.{count}
 use Rattle.gos_plan.specs.Kinds.{Contact, asks, serves, Part, Share, contacts_of, part_contacts}
-use Rattle.gos_plan.specs.Plans.{End, PartEnd, Joint, Plan, contact_at, contacts_of_part, IsRight}
+use Rattle.gos_plan.specs.Plans.{End, PartEnd, Joint, Plan, contact_at, IsRight}
 use Rattle.gos_plan.specs.Firing.{Phase, Rest, State, at, Slot, Req, Ans, Token, put, Row, row, rows, shared_rows, share_rows, firing}
 use Rattle.gos_plan.specs.Tokens.{Tokens, Fire, places_of, with_place, with_held, held_at, token_at, with_token, with_state, with_puts, end_of, way_of, shake_of, firing_of, Does}
 use Rattle.gos_plan.proofs.JointLemmas.{IsIn, Found, found, fits, one_joint}
 use Rattle.gos_plan.proofs.RowLemmas.{role_taking, EachRow, row_with}
 use Rattle.gos_plan.proofs.AskingLemmas.{RoleIs, PutsInRole, row_roles, each_append}
+use Rattle.gos_plan.proofs.ContactLemmas.{part_contact}
 use Rattle.gos_joining.specs.webs.Webs.{joint}
 use Rattle.gos_joining.specs.webs.Cutting.{asks_in}
 use Rattle.gos_sharing.specs.sharing.Sharing.{IsSeenThrough, passed_on, follower, seen_tokens, IsForCaller, LeadsThrough, way_into, way_out_of}
@@ -134,12 +136,6 @@ pub passing : (t : Type') (c : ℕ) → c < 2 → (x : State) (slot : Slot) (r :
 passing t c two x slot r by = row_with (PassesIf t c x.number) slot (rows (Share t) x.phase x.number) r (pass_rows t c two x.phase x.number) by
 
 -- who asks, and who serves, at a handshake of the Share
-part_contact : (r : Plan) (i h : ℕ) (k : Part) → slice_get r.parts i ≡ Some k → contact_at r (PartEnd i h) ≡ slice_get (part_contacts k) h
-part_contact r i h k at_i = ap (λ x. slice_get (contacts_of_part x) h) at_i
-
-not_serve_ask : Serve ≡ Ask → ⊥
-not_serve_ask e = cc e
-
 pub served_there : (r : Plan) (i h : ℕ) (k : Part) (d : End) → IsRight r → slice_get r.parts i ≡ Some k → RoleIs k h Serve → places_of r (PartEnd i h) ≡ Some d → IsIn (joint d (PartEnd i h)) r.joints
 served_there r i h k d right at_i role there = by_end (either_end (PartEnd i h) f.joint.asking f.joint.serving f.stands)
   where
@@ -151,7 +147,7 @@ served_there r i h k d right at_i role there = by_end (either_end (PartEnd i h) 
         let fit = fits r [] r.joints f.joint right f.is_in in
         let there : slice_get (part_contacts k) h ≡ Some (asks fit.0 fit.1) = sym (part_contact r i h k at_i) ∙ (ap (contact_at r) e ∙ fit.2) in
         let other : Ask ≡ Serve = role (asks fit.0 fit.1) there in
-        absurd (not_serve_ask (sym other))
+        absurd (serve_is_not_ask (sym other))
     by_end (inr e) =
         subst (λ (x : End). IsIn (joint d x) r.joints) (sym e) (subst (λ (x : End). IsIn (joint x f.joint.serving) r.joints) f.named f.is_in)
 
@@ -167,7 +163,7 @@ asked_there r i h k d right at_i role there = by_end (either_end (PartEnd i h) f
         let fit = fits r [] r.joints f.joint right f.is_in in
         let there : slice_get (part_contacts k) h ≡ Some (serves fit.0 fit.1) = sym (part_contact r i h k at_i) ∙ (ap (contact_at r) e ∙ fit.3) in
         let other : Serve ≡ Ask = role (serves fit.0 fit.1) there in
-        absurd (not_serve_ask other)
+        absurd (serve_is_not_ask other)
 
 -- Two handshakes of the Share that belong together: at the one it serves, and at the other it asks.
 pub record Pair (i : ℕ) (t : Type') (c : ℕ) (r : Plan) (h g : ℕ) : Type 0 where

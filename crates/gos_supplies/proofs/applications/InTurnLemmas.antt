@@ -2,13 +2,14 @@
 use Rattle.std.specs.Prelude.{◌≡◌, ℕ, zero, suc, ◌+◌, ◌<◌, Bool, true, false, List, [], ◌∷◌, ◌++◌, ◌⊎◌, length, Option, Some, Contains, slice_get, if◌then◌else◌}
 use Rattle.std.proofs.Common.{refl, sym, ◌∙◌, ap, subst, arith, inl, inr}
 use Rattle.std.proofs.lemmas.Option.{slice_get_within}
+use Rattle.gos_types.proofs.ListLemmas.{found_in_front, found_behind}
 use Rattle.gos_model.specs.Typing.{Imported}
 use Rattle.gos_plan.specs.Plans.{ImportEnd, ResultEnd, Plan, IsRight}
 use Rattle.gos_plan.specs.Joining.{Place, place, Link, Wiring, Linked, LeftImport, is_joined, left_in, left_among, all_left, left_place}
+use Rattle.gos_plan.proofs.WiringLemmas.{place_is}
 use Rattle.gos_realises.specs.realises.Modules.{Supply, plans_of, imports_linked, supplying}
-use Rattle.gos_realises.proofs.joined.ReachLemmas.{place_is}
+use Rattle.gos_realises.proofs.realises.FittingLemmas.{supply_is_right}
 use Rattle.gos_joining.specs.unions.Flat.{first_of, later, later_link, origin_if, deeper, deeper_link, flat}
-use Rattle.gos_joining.proofs.unions.LeftLemmas.{front, behind}
 use Rattle.gos_joining.proofs.unions.LinkLemmas.{flat_inner, flat_outer, OfWiring, OfOuter, of_flat, IsAt, joined_by}
 use Rattle.gos_joining.proofs.unions.FlatLemmas.{joinings_join}
 use Rattle.gos_joining.proofs.unions.FlatFitLemmas.{in_two, links_stand}
@@ -16,7 +17,7 @@ use Rattle.gos_joining.specs.renumbered.Rewired.{rewired, IsRewired}
 use Rattle.gos_joining.specs.renumbered.SmallRewirings.{unchanged}
 use Rattle.gos_joining.proofs.renumbered.RewireLemmas.{rewired_is_renumbered}
 use Rattle.gos_joining.proofs.renumbered.HigherLemmas.{unchanged_end, unchanged_one, is_itself}
-use Rattle.gos_joining.proofs.renumbered.SupplyLemmas.{supply_link, OfImports, of_imports, in_imports, supply_right, first_joined}
+use Rattle.gos_joining.proofs.renumbered.SupplyLemmas.{supply_link, OfImports, of_imports, in_imports, first_joined}
 use Rattle.gos_supplies.specs.applications.InTurn.{supplying_first, InTurnIsAtOnce}
 use Rattle.gos_supplies.proofs.applications.SeamLemmas.{singles, single_plans, single_first, single_at, single_links, listed, listed_at}
 use Rattle.gos_supplies.proofs.applications.SingleLemmas.{singles_join, singles_stand}
@@ -86,7 +87,7 @@ module _ (is js : List Imported) (p x : Plan) (ss ts : List Supply) (imports : p
         ap (left_in (imports_linked 0 is) 0 0) imports ∙ left_behind (imports_linked 0 is) 0 0 is js (first_joined is) (others_free is)
         in
         let sum : 0 + length is + j ≡ length is + j = omega arith in
-        front (left_in (imports_linked 0 is) 0 0 p.imports) (left_among (imports_linked 0 is) 1 (plans_of ss)) j (record { plan = 0; number = length is + j; import = z })
+        found_in_front (left_in (imports_linked 0 is) 0 0 p.imports) (left_among (imports_linked 0 is) 1 (plans_of ss)) j (record { plan = 0; number = length is + j; import = z })
         (ap (λ (l : List LeftImport). slice_get l j) listed_is
         ∙ (listed_at 0 (0 + length is) js j z at ∙ (λ t. Some (record { plan = 0; number = sum t; import = z }))))
 
@@ -108,10 +109,10 @@ module _ (is js : List Imported) (p x : Plan) (ss ts : List Supply) (imports : p
         λ t. record { one = one t; other = other t }
 
     front_at : (i : ℕ) (z : Imported) → slice_get is i ≡ Some z → slice_get p.imports i ≡ Some z
-    front_at i z at = ap (λ (l : List Imported). slice_get l i) imports ∙ front is js i z at
+    front_at i z at = ap (λ (l : List Imported). slice_get l i) imports ∙ found_in_front is js i z at
 
     behind_at : (j : ℕ) (z : Imported) → slice_get js j ≡ Some z → slice_get p.imports (length is + j) ≡ Some z
-    behind_at j z at = ap (λ (l : List Imported). slice_get l (length is + j)) imports ∙ (behind is js j ∙ at)
+    behind_at j z at = ap (λ (l : List Imported). slice_get l (length is + j)) imports ∙ (found_behind is js j ∙ at)
 
     turn_supply : (m : Link) → Contains in_turn.links m → IsSupply p m
     turn_supply m has = by_flat (of_flat (supplying_first x js ts) wirings m has)
@@ -209,7 +210,7 @@ pub in_turn_is_at_once : InTurnIsAtOnce
 in_turn_is_at_once is js p x r z ss ts imports of_ss of_ts of_x of_r of_z =
     let first_size = supplied_length is ss of_ss in
     let enough : length js ≡ length ts = sym (supplied_length js ts of_ts) ∙ plans_length ts in
-    let rights : (n : ℕ) (u : Plan) → slice_get (plans_of ts) n ≡ Some u → IsRight u = λ n u at. supply_right js ts n u of_ts at in
+    let rights : (n : ℕ) (u : Plan) → slice_get (plans_of ts) n ≡ Some u → IsRight u = λ n u at. supply_is_right js ts n u of_ts at in
     rewired_is_renumbered (λ n. n) (λ n. n) (λ n. unchanged) (in_turn is js p x ss ts imports first_size enough) (at_once is js p x ss ts imports first_size enough) r z
     (turn_rewired is js p x ss ts imports first_size enough of_x.joining.outcome of_z.fits.right)
     (joinings_join (supplying_first x js ts) (wirings is js p x ss ts imports first_size enough) r (of_x.joining, singles_join ts rights)

@@ -5,6 +5,7 @@ use Rattle.std.proofs.Common.{refl, sym, ◌∙◌, ap, subst, arith, inl, inr}
 use Rattle.std.proofs.lemmas.Bool.Decides.{nat_tests}
 use Rattle.std.proofs.lemmas.Option.{slice_get_within}
 use Rattle.gos_types.specs.Types.{Type'}
+use Rattle.gos_types.proofs.ListLemmas.{found_in_front, found_behind}
 use Rattle.gos_model.specs.Typing.{Imported}
 use Rattle.gos_plan.specs.Kinds.{Part, Contact, asks, serves}
 use Rattle.gos_plan.specs.Plans.{End, PartEnd, ImportEnd, ResultEnd, Plan, contact_at, contacts_of_import}
@@ -25,7 +26,6 @@ use Rattle.gos_joining.specs.unions.Flat.{later_link, deeper_link, flat}
 use Rattle.gos_joining.proofs.unions.WalkLemmas.{goes, mapped_walk}
 use Rattle.gos_joining.proofs.unions.PathLemmas.{path_walk, walks_paths}
 use Rattle.gos_joining.proofs.unions.PlaceLemmas.{fields_of, stands_at}
-use Rattle.gos_joining.proofs.unions.LeftLemmas.{front, behind}
 use Rattle.gos_joining.proofs.unions.LinkLemmas.{flat_inner, flat_outer, OfWiring, OfOuter, of_flat, IsAt, JoinedBy, joined_by, by_joined}
 use Rattle.gos_joining.proofs.unions.FlatFitLemmas.{in_two}
 use Rattle.gos_joining.specs.renumbered.SmallRewirings.{unchanged}
@@ -131,7 +131,7 @@ module _ (x : Imported) (p q y : Plan) (ss : List Supply) (u : Supply) (is : IsF
   argument_is : slice_get q.imports argument ≡ Some x
   argument_is =
       let sum : argument ≡ argument + 0 = omega arith in
-      (λ i. slice_get (is.imports i) (sum i)) ∙ behind p.imports (x ∷ []) 0
+      (λ i. slice_get (is.imports i) (sum i)) ∙ found_behind p.imports (x ∷ []) 0
 
   -- the other plans are the same
   same_tail : plans_of ss ++ ((u.plan ∷ []) ++ []) ≡ plans_of (ss ++ (u ∷ []))
@@ -250,7 +250,7 @@ module _ (x : Imported) (p q y : Plan) (ss : List Supply) (u : Supply) (is : IsF
   seam_body (Passes h) small = subst (Contains body.links) (plain argument h) (in_imports 0 q.imports argument h x argument_is small)
   seam_body (Given i h) (z, at, small) =
       subst (Contains body.links) (plain i h)
-      (in_imports 0 q.imports i h z (ap (λ (l : List Imported). slice_get l i) is.imports ∙ front p.imports (x ∷ []) i z at) small)
+      (in_imports 0 q.imports i h z (ap (λ (l : List Imported). slice_get l i) is.imports ∙ found_in_front p.imports (x ∷ []) i z at) small)
 
   seam_to : (k : Seam) → IsSeam k → (to (applied_link k).one ≡ (body_link k).one) × (to (applied_link k).other ≡ (body_link k).other)
   seam_to (Passes h) small = (ap (place 0) (result_low h small), refl)

@@ -4,22 +4,24 @@ use Rattle.std.proofs.Common.{refl, sym, ◌∙◌, ap, subst, arith, inl, inr}
 use Rattle.std.proofs.lemmas.Option.{slice_get_within}
 use Rattle.std.proofs.lemmas.List.{append-nil}
 use Rattle.gos_types.specs.Types.{Type', Exp, Var}
+use Rattle.gos_types.proofs.BoolLemmas.{and_false}
+use Rattle.gos_types.proofs.ListLemmas.{found_in_front, found_behind}
 use Rattle.gos_model.specs.Terms.{Deref}
 use Rattle.gos_model.specs.Typing.{Imported}
 use Rattle.gos_model.specs.Linking.{supplied}
 use Rattle.gos_plan.specs.Kinds as kinds
 use Rattle.gos_plan.specs.Plans.{PartEnd, ImportEnd, ResultEnd, Plan, IsRight}
 use Rattle.gos_plan.specs.Joining.{Place, place, Link, Wiring, Linked, LeftImport, is_joined, all_left, left_in, left_place, IsJoining}
+use Rattle.gos_plan.proofs.WiringLemmas.{place_is}
 use Rattle.gos_realises.specs.realises.Regular.{count}
 use Rattle.gos_realises.specs.realises.Wirings.{lone, link, side, reading}
 use Rattle.gos_realises.specs.realises.Realises.{NamesDiffer, Realises}
 use Rattle.gos_realises.specs.realises.Modules.{Supply, plans_of, AreSupplied, term_for, supplying}
 use Rattle.gos_realises.proofs.joined.OriginLemmas.{import_of}
-use Rattle.gos_realises.proofs.joined.ReachLemmas.{place_is}
 use Rattle.gos_realises.proofs.joined.WholeLemmas.{variables_are_joined, supplied_is_joined}
+use Rattle.gos_realises.proofs.realises.FittingLemmas.{supply_is_right}
 use Rattle.gos_joining.specs.webs.Renumbering.{IsRenumbered, moved_end}
 use Rattle.gos_joining.specs.unions.Flat.{first_of, later, later_link, origin_if, deeper, deeper_link, flat}
-use Rattle.gos_joining.proofs.unions.LeftLemmas.{front, behind}
 use Rattle.gos_joining.proofs.unions.LinkLemmas.{flat_inner, flat_outer, OfWiring, OfOuter, of_flat}
 use Rattle.gos_joining.proofs.unions.FlatLemmas.{joinings_join}
 use Rattle.gos_joining.proofs.unions.FlatFitLemmas.{InTwo, in_two, links_stand}
@@ -29,9 +31,9 @@ use Rattle.gos_joining.proofs.renumbered.ImportLemmas.{names_same}
 use Rattle.gos_joining.proofs.renumbered.OrderLemmas.{reordered}
 use Rattle.gos_joining.proofs.renumbered.RewireLemmas.{rewired_is_renumbered}
 use Rattle.gos_joining.proofs.renumbered.HigherLemmas.{unchanged_end, unchanged_one, is_itself, renumbered_is_realised}
-use Rattle.gos_joining.proofs.renumbered.SupplyLemmas.{supply_link, of_imports, in_imports, supply_right}
+use Rattle.gos_joining.proofs.renumbered.SupplyLemmas.{supply_link, of_imports, in_imports}
 use Rattle.gos_supplies.specs.applications.Projected.{ReadingIsSupplied, ReadingIsRealised}
-use Rattle.gos_supplies.proofs.applications.SeamLemmas.{singles, single_plans, single_first, single_at, single_links, and_none, listed, left_none, listed_imports, listed_at}
+use Rattle.gos_supplies.proofs.applications.SeamLemmas.{singles, single_plans, single_first, single_at, single_links, listed, left_none, listed_imports, listed_at}
 use Rattle.gos_supplies.proofs.applications.SingleLemmas.{alone_joins, singles_join, singles_stand}
 use Rattle.gos_supplies.proofs.applications.SideLemmas.{plain, later_plain}
 use Rattle.gos_supplies.proofs.applications.TogetherLemmas.{forth, undo, forth_low, forth_undo, undo_forth, undo_low, undo_at, supplied_length, plans_length}
@@ -48,8 +50,8 @@ read_link = link 0 (ResultEnd 0) 1 (PartEnd 0 0)
 
 none_joined : (k i : ℕ) → is_joined (read_link ∷ []) k i ≡ false
 none_joined k i =
-    let one = and_none (nat_eq 0 k) in
-    let other = and_none (nat_eq 1 k) in
+    let one = and_false (nat_eq 0 k) in
+    let other = and_false (nat_eq 1 k) in
     λ j. (one j || other j) || false
 
 reading_left : (w : ℕ) (p : Plan) → all_left (reading w p) ≡ listed 0 0 p.imports
@@ -224,13 +226,13 @@ module _ (w : ℕ) (p s x : Plan) (ss : List Supply) (imports : s.imports ≡ p.
         let same : reader w ≡ u = cc at in
         let sum : n ≡ n + 0 = omega arith in (
           reader w,
-          ap (slice_get (plans_of ss ++ rest)) sum ∙ behind (plans_of ss) rest 0,
+          ap (slice_get (plans_of ss ++ rest)) sum ∙ found_behind (plans_of ss) rest 0,
           subst (λ (v : Plan). IsRenumbered unchanged v (reader w)) same (is_itself (reader w) (reader_right w)),
         )
     plans right rights (suc (suc i)) u at =
         let of_ss : slice_get (plans_of ss) i ≡ Some u = ap (λ (ps : List Plan). slice_get ps i) (sym (single_plans ss)) ∙ at in (
           u,
-          ap (slice_get parted.plans) (forth_low n i (slice_get_within (plans_of ss) i u of_ss)) ∙ front (plans_of ss) rest i u of_ss,
+          ap (slice_get parted.plans) (forth_low n i (slice_get_within (plans_of ss) i u of_ss)) ∙ found_in_front (plans_of ss) rest i u of_ss,
           is_itself u (rights i u of_ss),
         )
 
@@ -267,7 +269,7 @@ reading_is_supplied w p s x r z ss of_s of_ss of_x of_r of_z =
     let imports = reading_imports w p s of_s.joining in
     let own_size = supplied_length p.imports ss of_ss in
     let enough : length p.imports ≡ length ss = sym own_size ∙ plans_length ss in
-    let rights : (k : ℕ) (u : Plan) → slice_get (plans_of ss) k ≡ Some u → IsRight u = λ k u at. supply_right p.imports ss k u of_ss at in
+    let rights : (k : ℕ) (u : Plan) → slice_get (plans_of ss) k ≡ Some u → IsRight u = λ k u at. supply_is_right p.imports ss k u of_ss at in
     rewired_is_renumbered (forth (length (plans_of ss))) (undo (length (plans_of ss))) (λ k. unchanged) (joined w p s x ss imports enough own_size)
     (parted w p s x ss imports enough own_size) z r
     (reading_rewired w p s x ss imports enough own_size of_s.joining.outcome (of_s.fits.right 0 p refl) rights)

@@ -1,10 +1,12 @@
 -- The two flat wirings of an application with its supplies: function, argument and then all supplies, and each of the two
 -- with its own supplies. They have the same links, which are the seams: of the argument, and of the imports of both.
-use Rattle.std.specs.Prelude.{◌≡◌, ℕ, zero, suc, ◌+◌, ◌-◌, ◌<◌, ◌≤◌, ◌&&◌, ◌||◌, Bool, true, false, List, [], ◌∷◌, ◌++◌, ◌⊎◌, length, map, Option, Some, Contains, slice_get, nat_eq, if◌then◌else◌}
+use Rattle.std.specs.Prelude.{◌≡◌, ℕ, zero, suc, ◌+◌, ◌-◌, ◌<◌, ◌≤◌, ◌||◌, false, List, [], ◌∷◌, ◌++◌, ◌⊎◌, length, map, Option, Some, Contains, slice_get, nat_eq, if◌then◌else◌}
 use Rattle.std.proofs.Common.{refl, sym, ◌∙◌, ap, subst, arith, inl, inr}
 use Rattle.std.proofs.lemmas.Option.{slice_get_within}
 use Rattle.std.proofs.lemmas.List.{map-append, append-nil}
 use Rattle.gos_types.specs.Types.{Type'}
+use Rattle.gos_types.proofs.BoolLemmas.{and_false}
+use Rattle.gos_types.proofs.ListLemmas.{found_in_front, found_behind}
 use Rattle.gos_model.specs.Typing.{Imported}
 use Rattle.gos_plan.specs.Plans.{ImportEnd, ResultEnd, Plan}
 use Rattle.gos_plan.specs.Joining.{place, Link, Wiring, is_joined, LeftImport, left_in, all_left, left_place}
@@ -13,7 +15,6 @@ use Rattle.gos_realises.specs.realises.Wirings.{link, results_linked, side, appl
 use Rattle.gos_realises.specs.realises.Modules.{Supply, plans_of, supplying}
 use Rattle.gos_realises.proofs.joined.OriginLemmas.{import_of}
 use Rattle.gos_joining.specs.unions.Flat.{all_plans, first_of, later, later_link, origin_if, deeper, deeper_link, flat}
-use Rattle.gos_joining.proofs.unions.LeftLemmas.{front, behind}
 use Rattle.gos_joining.proofs.unions.LinkLemmas.{flat_inner, flat_outer, OfWiring, OfOuter, of_flat}
 use Rattle.gos_joining.proofs.unions.FlatFitLemmas.{in_two}
 use Rattle.gos_joining.proofs.renumbered.SupplyLemmas.{supply_link, OfImports, of_imports, in_imports}
@@ -69,15 +70,11 @@ in_results n (suc m) h low high = by_number (h - n) (omega (arith, low)) (λ abo
     by_number (suc d) e further = further (omega (arith, e))
 
 -- no import of an application is joined
-pub and_none : (b : Bool) → b && false ≡ false
-and_none true = refl
-and_none false = refl
-
-none_joined : (n m k i : ℕ) → is_joined (results_linked 1 n m) k i ≡ false
+pub none_joined : (n m k i : ℕ) → is_joined (results_linked 1 n m) k i ≡ false
 none_joined n zero k i = refl
 none_joined n (suc m) k i =
-    let one = and_none (nat_eq 0 k) in
-    let other = and_none (nat_eq 1 k) in
+    let one = and_false (nat_eq 0 k) in
+    let other = and_false (nat_eq 1 k) in
     let rest = none_joined (suc n) m k i in
     λ j. (one j || other j) || rest j
 
@@ -127,7 +124,7 @@ module _ (a b : Type') (p q : Plan) where
   left_first i x at =
       let zeros : 0 + i ≡ i = omega arith in
       ap (λ (l : List LeftImport). slice_get l i) applied_left
-      ∙ (front (listed 0 0 p.imports) (listed 1 0 q.imports) i (record { plan = 0; number = 0 + i; import = x }) (listed_at 0 0 p.imports i x at)
+      ∙ (found_in_front (listed 0 0 p.imports) (listed 1 0 q.imports) i (record { plan = 0; number = 0 + i; import = x }) (listed_at 0 0 p.imports i x at)
       ∙ (λ j. Some (record { plan = 0; number = zeros j; import = x })))
 
   left_second : (i : ℕ) (x : Imported) → slice_get q.imports i ≡ Some x
@@ -137,7 +134,7 @@ module _ (a b : Type') (p q : Plan) where
       let same = listed_length 0 0 p.imports in
       ap (λ (l : List LeftImport). slice_get l (length p.imports + i)) applied_left
       ∙ (ap (λ (n : ℕ). slice_get (listed 0 0 p.imports ++ listed 1 0 q.imports) (n + i)) (sym same)
-      ∙ (behind (listed 0 0 p.imports) (listed 1 0 q.imports) i
+      ∙ (found_behind (listed 0 0 p.imports) (listed 1 0 q.imports) i
       ∙ (listed_at 1 0 q.imports i x at ∙ (λ j. Some (record { plan = 1; number = zeros j; import = x })))))
 
 -- the links of both flat wirings
@@ -255,10 +252,10 @@ module _ (a b : Type') (p q s : Plan) (us : List Supply) (imports : s.imports �
   below i x at = let low = slice_get_within s.imports i x at in omega (arith, low, enough)
 
   first_in : (i : ℕ) (x : Imported) → slice_get p.imports i ≡ Some x → slice_get s.imports i ≡ Some x
-  first_in i x at = ap (λ (l : List Imported). slice_get l i) imports ∙ front p.imports q.imports i x at
+  first_in i x at = ap (λ (l : List Imported). slice_get l i) imports ∙ found_in_front p.imports q.imports i x at
 
   second_in : (i : ℕ) (x : Imported) → slice_get q.imports i ≡ Some x → slice_get s.imports (own_count + i) ≡ Some x
-  second_in i x at = ap (λ (l : List Imported). slice_get l (own_count + i)) imports ∙ (behind p.imports q.imports i ∙ at)
+  second_in i x at = ap (λ (l : List Imported). slice_get l (own_count + i)) imports ∙ (found_behind p.imports q.imports i ∙ at)
 
   first_together : (i h : ℕ) (x : Imported) → slice_get p.imports i ≡ Some x → deeper_link joint_first (supply_link i h) ≡ together_link own_count (OfFirst i h)
   first_together i h x at =

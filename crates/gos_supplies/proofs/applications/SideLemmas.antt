@@ -9,14 +9,15 @@ use Rattle.gos_model.specs.Typing.{Imported}
 use Rattle.gos_model.specs.Linking.{supplied}
 use Rattle.gos_plan.specs.Plans.{ImportEnd, ResultEnd, Plan, IsRight}
 use Rattle.gos_plan.specs.Joining.{Place, place, Link, Wiring, Linked, LeftImport, all_left, left_in, left_place, IsJoining}
+use Rattle.gos_plan.proofs.WiringLemmas.{place_is}
 use Rattle.gos_realises.specs.realises.Regular.{count}
 use Rattle.gos_realises.specs.realises.Links.{IsJoined}
 use Rattle.gos_realises.specs.realises.Wirings.{link, side}
 use Rattle.gos_realises.specs.realises.Realises.{NamesDiffer, Realises}
 use Rattle.gos_realises.specs.realises.Modules.{Supply, plans_of, AreSupplied, term_for, supplying}
 use Rattle.gos_realises.proofs.joined.OriginLemmas.{import_of}
-use Rattle.gos_realises.proofs.joined.ReachLemmas.{place_is}
 use Rattle.gos_realises.proofs.joined.WholeLemmas.{sides_are_joined, supplied_is_joined}
+use Rattle.gos_realises.proofs.realises.FittingLemmas.{supply_is_right}
 use Rattle.gos_joining.specs.webs.Renumbering.{Renumber, IsRenumbered}
 use Rattle.gos_joining.specs.unions.Flat.{all_plans, first_of, later, later_link, origin_if, deeper, deeper_link, flat}
 use Rattle.gos_joining.proofs.unions.LinkLemmas.{flat_inner, flat_outer, OfWiring, OfOuter, of_flat}
@@ -28,7 +29,7 @@ use Rattle.gos_joining.proofs.renumbered.ImportLemmas.{names_same}
 use Rattle.gos_joining.proofs.renumbered.OrderLemmas.{reordered}
 use Rattle.gos_joining.proofs.renumbered.RewireLemmas.{rewired_is_renumbered}
 use Rattle.gos_joining.proofs.renumbered.HigherLemmas.{unchanged_end, unchanged_one, is_itself, renumbered_is_realised}
-use Rattle.gos_joining.proofs.renumbered.SupplyLemmas.{supply_link, of_imports, in_imports, supply_right}
+use Rattle.gos_joining.proofs.renumbered.SupplyLemmas.{supply_link, of_imports, in_imports}
 use Rattle.gos_supplies.specs.applications.Projected.{SideIsSupplied, FirstIsRealised, SecondIsRealised}
 use Rattle.gos_supplies.proofs.applications.SeamLemmas.{singles, single_plans, single_first, single_at, single_links, listed, left_none, listed_imports, listed_at}
 use Rattle.gos_supplies.proofs.applications.SingleLemmas.{singles_join, singles_stand}
@@ -178,7 +179,7 @@ pub side_is_supplied : SideIsSupplied
 side_is_supplied t k p s x r z ss of_s of_ss of_x of_r of_z =
     let imports = side_imports t k p s of_s.joining in
     let enough : length p.imports ≡ length ss = sym (supplied_length p.imports ss of_ss) ∙ plans_length ss in
-    let rights : (n : ℕ) (u : Plan) → slice_get (plans_of ss) n ≡ Some u → IsRight u = λ n u at. supply_right p.imports ss n u of_ss at in
+    let rights : (n : ℕ) (u : Plan) → slice_get (plans_of ss) n ≡ Some u → IsRight u = λ n u at. supply_is_right p.imports ss n u of_ss at in
     rewired_is_renumbered (λ n. n) (λ n. n) (λ n. unchanged) (joined t k p s x ss imports enough) (parted t k p s x ss imports enough) z r
     (side_rewired t k p s x ss imports enough of_s.joining.outcome (all_right rights))
     (joinings_join (supplying s ss) (wirings t k p s x ss imports enough) z (of_s.joining, singles_join ss rights)

@@ -4,12 +4,13 @@ use Rattle.std.specs.Str.{bytes_eq}
 use Rattle.std.proofs.Common.{refl, sym, ◌∙◌, ap}
 use Rattle.std.proofs.lemmas.List.Elements.{Contains-append_right}
 use Rattle.gos_types.specs.Types.{Type', Com, Exp, Var, Fun, Pair}
+use Rattle.gos_types.proofs.BytesLemmas.{bytes_eq_same}
 use Rattle.gos_model.specs.Terms.{Name, Term, Skip, Lit, Bound, Import, Lam, App, Both, Fst, Snd, Seq, Par, If, While, Assign, Deref, New, Not, Bin, Loc, Scope, Wait, Held, Put}
 use Rattle.gos_model.specs.Typing.{Imported, Imports, import_type, Typed}
 use Rattle.gos_model.specs.Linking.{or_import, supplied}
 use Rattle.gos_realises.specs.realises.Realises.{NamesDiffer}
 use Rattle.gos_realises.specs.realises.Modules.{Supply, AreSupplied, term_for}
-use Rattle.gos_joining.proofs.renumbered.ImportLemmas.{has_type, name_is}
+use Rattle.gos_joining.proofs.renumbered.ImportLemmas.{has_type}
 
 -- two ways to supply, which agree on the imports of these
 abbrev Agree : Imports → (Name → Option Term) → (Name → Option Term) → Type 0
@@ -88,7 +89,7 @@ term_second (i ∷ is) js (s ∷ ss) ts differ are x t e = by_test (bytes_eq i.n
         → (if b then Some s.term else term_for (is ++ js) (ss ++ ts) x) ≡ term_for js ts x
     by_test true test rest =
         let (j, has, named, typed) = has_type js x t e in
-        absurd (differ.0 j (Contains-append_right is js j has) (name_is i.name x test ∙ sym (name_is j.name x named)))
+        absurd (differ.0 j (Contains-append_right is js j has) (bytes_eq_same i.name x test ∙ sym (bytes_eq_same j.name x named)))
     by_test false test rest = rest
 
 -- supplies of two lists of imports

@@ -5,23 +5,23 @@ use Rattle.std.proofs.lemmas.Bool.Decides.{nat_tests}
 use Rattle.std.proofs.lemmas.Option.{slice_get_within}
 use Rattle.std.proofs.lemmas.List.{append-nil}
 use Rattle.gos_types.specs.Types.{Type'}
+use Rattle.gos_types.proofs.ListLemmas.{found_in_front, found_behind}
 use Rattle.gos_model.specs.Typing.{Imported}
 use Rattle.gos_plan.specs.Plans.{ResultEnd, Plan, IsRight}
 use Rattle.gos_plan.specs.Joining.{Place, place, Link, Wiring, Linked}
+use Rattle.gos_plan.proofs.WiringLemmas.{place_is}
 use Rattle.gos_realises.specs.realises.Links.{IsJoined}
 use Rattle.gos_realises.specs.realises.Wirings.{applying}
 use Rattle.gos_realises.specs.realises.Modules.{Supply, plans_of, AreSupplied, supplying}
-use Rattle.gos_realises.proofs.joined.ReachLemmas.{place_is}
+use Rattle.gos_realises.proofs.realises.FittingLemmas.{supply_is_right}
 use Rattle.gos_joining.specs.webs.Renumbering.{IsRenumbered, moved_end}
 use Rattle.gos_joining.specs.unions.Flat.{all_plans}
-use Rattle.gos_joining.proofs.unions.LeftLemmas.{front, behind}
 use Rattle.gos_joining.proofs.unions.FlatLemmas.{joinings_join}
 use Rattle.gos_joining.proofs.unions.FlatFitLemmas.{InTwo, in_two, links_stand}
 use Rattle.gos_joining.specs.renumbered.Rewired.{rewired, IsRewired}
 use Rattle.gos_joining.specs.renumbered.SmallRewirings.{unchanged}
 use Rattle.gos_joining.proofs.renumbered.RewireLemmas.{rewired_is_renumbered}
 use Rattle.gos_joining.proofs.renumbered.HigherLemmas.{unchanged_end, unchanged_one, is_itself}
-use Rattle.gos_joining.proofs.renumbered.SupplyLemmas.{supply_right}
 use Rattle.gos_supplies.specs.applications.Applied.{AppliedIsSupplied}
 use Rattle.gos_supplies.proofs.applications.SeamLemmas.{singles, single_plans, applied_imports, Seam, Argument, OfFirst, OfSecond, IsSeam, together_link, apart_link, own, apart, apart_seam, seam_apart, joint_first, together, together_seam, seam_together}
 use Rattle.gos_supplies.proofs.applications.SingleLemmas.{singles_join, singles_stand}
@@ -175,11 +175,11 @@ module _ (a b : Type') (p q s x y : Plan) (ss ts : List Supply) (imports : s.imp
 
     supply_there : (i : ℕ) (u : Plan) → InTwo (plans_of ss) (plans_of ts) i u → slice_get parted.plans (forth n (suc (suc i))) ≡ Some u
     supply_there i u (inl at) =
-        ap (slice_get parted.plans) (forth_low n i (slice_get_within (plans_of ss) i u at)) ∙ front (plans_of ss) rest i u at
+        ap (slice_get parted.plans) (forth_low n i (slice_get_within (plans_of ss) i u at)) ∙ found_in_front (plans_of ss) rest i u at
     supply_there i u (inr (j, sum, at)) =
         let next : suc i ≡ n + suc j = omega (arith, sum) in
         ap (slice_get parted.plans) (forth_high n i (omega (arith, sum)))
-        ∙ (ap (slice_get (plans_of ss ++ rest)) next ∙ (behind (plans_of ss) rest (suc j) ∙ front (plans_of ts) [] j u at))
+        ∙ (ap (slice_get (plans_of ss ++ rest)) next ∙ (found_behind (plans_of ss) rest (suc j) ∙ found_in_front (plans_of ts) [] j u at))
 
     split_supply : (i : ℕ) (u : Plan) → slice_get (all_plans (singles us)) i ≡ Some u → InTwo (plans_of ss) (plans_of ts) i u
     split_supply i u at =
@@ -191,7 +191,7 @@ module _ (a b : Type') (p q s x y : Plan) (ss ts : List Supply) (imports : s.imp
         let same : q ≡ u = cc at in
         let sum : n ≡ n + 0 = omega arith in (
           q,
-          ap (slice_get (plans_of ss ++ rest)) sum ∙ behind (plans_of ss) rest 0,
+          ap (slice_get (plans_of ss ++ rest)) sum ∙ found_behind (plans_of ss) rest 0,
           subst (λ (v : Plan). IsRenumbered unchanged v q) same (is_itself q right_q),
         )
     plans (suc (suc i)) u at = (
@@ -208,12 +208,12 @@ module _ (a b : Type') (p q s x y : Plan) (ss ts : List Supply) (imports : s.imp
 
     supply_here : (k : ℕ) (u : Plan) → InTwo (plans_of ss) rest k u → PlanHere (suc k)
     supply_here k u (inl at) =
-        (u, ap (slice_get joined.plans) (undo_low n k (slice_get_within (plans_of ss) k u at)) ∙ in_supplies k u (front (plans_of ss) (plans_of ts) k u at))
+        (u, ap (slice_get joined.plans) (undo_low n k (slice_get_within (plans_of ss) k u at)) ∙ in_supplies k u (found_in_front (plans_of ss) (plans_of ts) k u at))
     supply_here k u (inr (zero, sum, at)) = (q, ap (slice_get joined.plans) (undo_at n k (omega (arith, sum))))
     supply_here k u (inr (suc j, sum, at)) =
         let next : suc k ≡ suc (suc (n + j)) = omega (arith, sum) in
         let of_ts : slice_get (plans_of ts) j ≡ Some u = ap (λ (ps : List Plan). slice_get ps j) (sym (append-nil (plans_of ts))) ∙ at in
-        (u, ap (slice_get joined.plans) (undo_high n k (omega (arith, sum)) ∙ next) ∙ in_supplies (n + j) u (behind (plans_of ss) (plans_of ts) j ∙ of_ts))
+        (u, ap (slice_get joined.plans) (undo_high n k (omega (arith, sum)) ∙ next) ∙ in_supplies (n + j) u (found_behind (plans_of ss) (plans_of ts) j ∙ of_ts))
 
     no_more : (k : ℕ) (u : Plan) → slice_get parted.plans k ≡ Some u → PlanHere k
     no_more zero u at = (p, refl)
@@ -249,7 +249,7 @@ applied_is_supplied a b p q s x y r z ss ts of_s of_ss of_ts of_x of_y of_r of_z
     let all = supplied_two p.imports q.imports ss ts of_ss of_ts in
     let of_us : AreSupplied s.imports us = subst (λ (l : List Imported). AreSupplied l us) (sym imports) all in
     let enough : length s.imports ≡ length us = sym (supplied_length s.imports us of_us) ∙ plans_length us in
-    let rights : (n : ℕ) (u : Plan) → slice_get (plans_of us) n ≡ Some u → IsRight u = λ n u at. supply_right s.imports us n u of_us at in
+    let rights : (n : ℕ) (u : Plan) → slice_get (plans_of us) n ≡ Some u → IsRight u = λ n u at. supply_is_right s.imports us n u of_us at in
     let apart_joins =
     joinings_join (applying a b x y) (own a b p q x y ss ts) r (of_x.joining, (of_y.joining, tt))
     (links_stand (supplying p ss) of_x.fits, (links_stand (supplying q ts) of_y.fits, tt)) (links_stand (applying a b x y) of_r.fits) of_r.joining

@@ -2,16 +2,16 @@
 use Rattle.std.specs.Prelude.{◌≡◌, ℕ, zero, suc, ◌+◌, ◌≤◌, Bool, true, false, List, [], ◌∷◌, ◌++◌, length, map, Option, Some, slice_get, if◌then◌else◌}
 use Rattle.std.specs.Str.{bytes_eq}
 use Rattle.std.proofs.Common.{refl, sym, ◌∙◌, ap, subst, arith}
-use Rattle.std.proofs.lemmas.Slice.Eq.{bytes_eq-Decides}
 use Rattle.std.proofs.lemmas.List.{map-append, length-append}
 use Rattle.gos_types.specs.Types.{Type'}
+use Rattle.gos_types.proofs.BytesLemmas.{bytes_eq_itself, bytes_eq_same}
 use Rattle.gos_model.specs.Terms.{Name, Term}
 use Rattle.gos_model.specs.Typing.{Imported, import_type}
 use Rattle.gos_model.specs.Linking.{or_import, supplied}
 use Rattle.gos_realises.specs.realises.Realises.{NamesDiffer, Realises}
 use Rattle.gos_realises.specs.realises.Modules.{Supply, AreSupplied, term_for}
 use Rattle.gos_realises.proofs.realises.PlaceLemmas.{contains_at}
-use Rattle.gos_joining.proofs.renumbered.ImportLemmas.{names_same, name_is}
+use Rattle.gos_joining.proofs.renumbered.ImportLemmas.{names_same}
 use Rattle.gos_joining.proofs.renumbered.OrderLemmas.{reordered}
 use Rattle.gos_joining.proofs.renumbered.RewireLemmas.{rewired_is_renumbered}
 use Rattle.gos_joining.specs.renumbered.Open.{RenumberedIsOpen}
@@ -98,9 +98,6 @@ meaning_given (Serve is js x t u) (of_t, of_u, lefts, outcomes) (types_t, types_
     serve_given is js x t u lefts (meaning_given t of_t types_t) (meaning_given u of_u types_u) g ts size
 
 -- the names of imports, with their supplies put in
-own_name : (x : Name) → bytes_eq x x ≡ true
-own_name x = grind (arith, bytes_eq-Decides)
-
 term_at : (is : List Imported) (ss : List Supply) → NamesDiffer is → (n : ℕ) (i : Imported) (s : Supply) → slice_get is n ≡ Some i → slice_get ss n ≡ Some s
     → term_for is ss i.name ≡ Some s.term
 term_at [] ss differ n i s at at_s = absurd (cc at)
@@ -108,13 +105,13 @@ term_at (j ∷ is) [] differ n i s at at_s = absurd (cc at_s)
 term_at (j ∷ is) (r ∷ ss) differ zero i s at at_s =
     let same : j ≡ i = cc at in
     let also : r ≡ s = cc at_s in
-    let test : bytes_eq j.name i.name ≡ true = ap (λ (z : Imported). bytes_eq z.name i.name) same ∙ own_name i.name in
+    let test : bytes_eq j.name i.name ≡ true = ap (λ (z : Imported). bytes_eq z.name i.name) same ∙ bytes_eq_itself i.name in
     (λ k. if test k then Some r.term else term_for is ss i.name) ∙ ap (λ (z : Supply). Some z.term) also
 term_at (j ∷ is) (r ∷ ss) differ (suc n) i s at at_s = by_test (bytes_eq j.name i.name) refl (term_at is ss differ.1 n i s at at_s)
   where
     by_test : (b : Bool) → bytes_eq j.name i.name ≡ b → term_for is ss i.name ≡ Some s.term
         → (if b then Some r.term else term_for is ss i.name) ≡ Some s.term
-    by_test true test rest = absurd (differ.0 i (contains_at is n i at) (name_is j.name i.name test))
+    by_test true test rest = absurd (differ.0 i (contains_at is n i at) (bytes_eq_same j.name i.name test))
     by_test false test rest = rest
 
 names_given : (g : Name → Option Term) (is : List Imported) (ss : List Supply) → AreSupplied is ss
@@ -128,7 +125,7 @@ names_given g (i ∷ is) (s ∷ ss) are each =
     let rest = names_given g is ss are.1 (λ n j r at at_r. each (suc n) j r at at_r) in
     λ k. one k ∷ rest k
 
-names_length : (is : List Imported) → length (names_of is) ≡ length is
+pub names_length : (is : List Imported) → length (names_of is) ≡ length is
 names_length [] = refl
 names_length (i ∷ is) = ap suc (names_length is)
 

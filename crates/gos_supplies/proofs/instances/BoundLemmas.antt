@@ -2,6 +2,7 @@
 use Rattle.std.specs.Prelude.{◌≡◌, ℕ, zero, suc, ◌+◌, ◌-◌, ◌<◌, ◌≤◌, Bool, true, false, List, [], ◌∷◌, ◌++◌, ◌⊎◌, length, map, Some, Contains, slice_get, if◌then◌else◌}
 use Rattle.std.proofs.Common.{refl, sym, ◌∙◌, ap, arith, inl, inr}
 use Rattle.std.proofs.lemmas.List.{map-append, append-nil, length-append}
+use Rattle.gos_types.proofs.ListLemmas.{found_in_front, found_behind}
 use Rattle.gos_model.specs.Typing.{Imported}
 use Rattle.gos_plan.specs.Plans.{ImportEnd, ResultEnd, Plan}
 use Rattle.gos_plan.specs.Joining.{Place, place, Link, is_joined, LeftImport, left_in, all_left}
@@ -10,7 +11,6 @@ use Rattle.gos_realises.specs.realises.Wirings.{link}
 use Rattle.gos_realises.specs.realises.Modules.{import_linked}
 use Rattle.gos_realises.proofs.realises.CountLemmas.{some_shake}
 use Rattle.gos_realises.proofs.joined.OriginLemmas.{import_of}
-use Rattle.gos_joining.proofs.unions.LeftLemmas.{front, behind}
 use Rattle.gos_joining.proofs.unions.LinkLemmas.{IsAt, joined_by, by_joined}
 use Rattle.gos_supplies.proofs.applications.SeamLemmas.{listed, left_none, listed_imports, listed_at, listed_length}
 use Rattle.gos_supplies.specs.instances.Served.{serving}
@@ -134,8 +134,8 @@ module _ (is js : List Imported) (x : Imported) (p q : Plan) (imports : p.import
       let zeros : 0 + i ≡ i = omega arith in
       let there = listed_at 0 0 is i z at in
       ap (λ (l : List LeftImport). slice_get l i) served_left
-      ∙ (front first_left (listed 1 0 q.imports) i (record { plan = 0; number = 0 + i; import = z })
-      (front (listed 0 0 is) (listed 0 (suc (0 + k)) js) i (record { plan = 0; number = 0 + i; import = z }) there)
+      ∙ (found_in_front first_left (listed 1 0 q.imports) i (record { plan = 0; number = 0 + i; import = z })
+      (found_in_front (listed 0 0 is) (listed 0 (suc (0 + k)) js) i (record { plan = 0; number = 0 + i; import = z }) there)
       ∙ (λ l. Some (record { plan = 0; number = zeros l; import = z })))
 
   pub left_behind : (i : ℕ) (z : Imported) → slice_get js i ≡ Some z
@@ -145,10 +145,10 @@ module _ (is js : List Imported) (x : Imported) (p q : Plan) (imports : p.import
       let there = listed_at 0 (suc (0 + k)) js i z at in
       let size = listed_length 0 0 is in
       let here : slice_get first_left (k + i) ≡ Some (record { plan = 0; number = suc (0 + k) + i; import = z }) =
-      ap (λ (n : ℕ). slice_get first_left (n + i)) (sym size) ∙ (behind (listed 0 0 is) (listed 0 (suc (0 + k)) js) i ∙ there)
+      ap (λ (n : ℕ). slice_get first_left (n + i)) (sym size) ∙ (found_behind (listed 0 0 is) (listed 0 (suc (0 + k)) js) i ∙ there)
       in
       ap (λ (l : List LeftImport). slice_get l (k + i)) served_left
-      ∙ (front first_left (listed 1 0 q.imports) (k + i) (record { plan = 0; number = suc (0 + k) + i; import = z }) here
+      ∙ (found_in_front first_left (listed 1 0 q.imports) (k + i) (record { plan = 0; number = suc (0 + k) + i; import = z }) here
       ∙ (λ l. Some (record { plan = 0; number = number l; import = z })))
 
   pub left_second : (i : ℕ) (z : Imported) → slice_get q.imports i ≡ Some z
@@ -157,5 +157,5 @@ module _ (is js : List Imported) (x : Imported) (p q : Plan) (imports : p.import
       let zeros : 0 + i ≡ i = omega arith in
       ap (λ (l : List LeftImport). slice_get l (length (is ++ js) + i)) served_left
       ∙ (ap (λ (n : ℕ). slice_get (first_left ++ listed 1 0 q.imports) (n + i)) (sym first_length)
-      ∙ (behind first_left (listed 1 0 q.imports) i
+      ∙ (found_behind first_left (listed 1 0 q.imports) i
       ∙ (listed_at 1 0 q.imports i z at ∙ (λ l. Some (record { plan = 1; number = zeros l; import = z })))))

@@ -30,11 +30,11 @@ terms_length : (ss : List Supply) → length (terms_of ss) ≡ length ss
 terms_length [] = refl
 terms_length (s ∷ ss) = ap suc (terms_length ss)
 
-first_all : (ss ts : List Term) → first (length ss) (ss ++ ts) ≡ ss
+pub first_all : (ss ts : List Term) → first (length ss) (ss ++ ts) ≡ ss
 first_all [] ts = refl
 first_all (s ∷ ss) ts = ap (λ (l : List Term). s ∷ l) (first_all ss ts)
 
-after_all : (ss ts : List Term) → after (length ss) (ss ++ ts) ≡ ts
+pub after_all : (ss ts : List Term) → after (length ss) (ss ++ ts) ≡ ts
 after_all [] ts = refl
 after_all (s ∷ ss) ts = after_all ss ts
 

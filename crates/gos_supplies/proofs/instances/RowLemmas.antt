@@ -2,12 +2,12 @@
 use Rattle.std.specs.Prelude.{◌≡◌, ℕ, zero, suc, ◌+◌, ◌<◌, List, [], ◌∷◌, ◌++◌, length, Some, slice_get}
 use Rattle.std.proofs.Common.{refl, sym, ◌∙◌, ap, subst, arith}
 use Rattle.std.proofs.lemmas.List.{length-map}
+use Rattle.gos_types.proofs.ListLemmas.{found_in_front, found_behind}
 use Rattle.gos_plan.specs.Plans.{Plan, IsRight}
 use Rattle.gos_plan.specs.Joining.{Wiring, IsJoining}
 use Rattle.gos_realises.specs.realises.Modules.{Supply, plans_of}
 use Rattle.gos_joining.specs.unions.Unions.{LinksStand}
 use Rattle.gos_joining.specs.unions.Flat.{all_plans, first_of, AreJoinings, AllLinksStand}
-use Rattle.gos_joining.proofs.unions.LeftLemmas.{front, behind}
 use Rattle.gos_supplies.proofs.applications.SeamLemmas.{single, singles, single_plans, single_first, single_at}
 use Rattle.gos_supplies.proofs.applications.SingleLemmas.{singles_join, singles_stand}
 
@@ -31,7 +31,7 @@ row_behind (f ∷ fs) ws i =
 row_at : (fs : List Supply) (ws : List Wiring) (i : ℕ) → slice_get (singles fs ++ ws) (length fs + i) ≡ slice_get ws i
 row_at fs ws i =
     let size : length (singles fs) ≡ length fs = length-map fs single in
-    ap (λ (n : ℕ). slice_get (singles fs ++ ws) (n + i)) (sym size) ∙ behind (singles fs) ws i
+    ap (λ (n : ℕ). slice_get (singles fs ++ ws) (n + i)) (sym size) ∙ found_behind (singles fs) ws i
 
 pub row_stand : (fs bs : List Supply) (w : Wiring) → LinksStand w → AllLinksStand (singles fs ++ (w ∷ singles bs))
 row_stand [] bs w stand = (stand, singles_stand bs)
@@ -58,7 +58,7 @@ module _ (fs bs : List Supply) (w : Wiring) where
   pub before_at : (i : ℕ) → i < length fs → (u : Supply) × (slice_get row i ≡ Some (single u)) × (first_of row i ≡ i)
   before_at i low =
       let (u, at) = single_at fs i low in
-      (u, front (singles fs) (w ∷ singles bs) i (single u) at, row_before fs (w ∷ singles bs) i low)
+      (u, found_in_front (singles fs) (w ∷ singles bs) i (single u) at, row_before fs (w ∷ singles bs) i low)
 
   pub middle_at : (slice_get row (length fs + 0) ≡ Some w) × (first_of row (length fs + 0) ≡ length fs)
   middle_at =

@@ -7,11 +7,12 @@ use Rattle.gos_model.specs.Typing.{Imported}
 use Rattle.gos_plan.specs.Kinds.{Part, contacts_of}
 use Rattle.gos_plan.specs.Plans.{End, PartEnd, ImportEnd, ResultEnd, Joint, Plan, contact_at, contacts_of_part, contacts_of_import, turned_if, IsRight}
 use Rattle.gos_plan.specs.Joining.{Place, Link, Wiring, Linked, IsJoining, IsSameButOrder}
+use Rattle.gos_plan.proofs.WiringLemmas.{place_is}
 use Rattle.gos_realises.specs.realises.Links.{IsJoined}
 use Rattle.gos_realises.specs.realises.Realises.{Realises}
 use Rattle.gos_realises.specs.realises.Modules.{Supply, plans_of, AreSupplied, imports_linked, supplying}
-use Rattle.gos_realises.proofs.joined.ReachLemmas.{place_is}
 use Rattle.gos_realises.proofs.joined.WholeLemmas.{supplied_is_joined}
+use Rattle.gos_realises.proofs.realises.FittingLemmas.{supply_is_right}
 use Rattle.gos_joining.specs.webs.Webs.{joint}
 use Rattle.gos_joining.specs.webs.Renumbering.{Renumber, IsRenumbered, moved_end}
 use Rattle.gos_joining.specs.renumbered.Rewired.{rewired}
@@ -20,7 +21,6 @@ use Rattle.gos_joining.proofs.renumbered.ImportLemmas.{names_same}
 use Rattle.gos_joining.proofs.renumbered.OrderLemmas.{reordered}
 use Rattle.gos_joining.proofs.renumbered.RewireLemmas.{rewired_is_renumbered}
 use Rattle.gos_joining.proofs.renumbered.HigherLemmas.{unchanged_end, unchanged_one, is_itself, renumbered_is_realised}
-use Rattle.gos_joining.proofs.renumbered.SupplyLemmas.{supply_right}
 use Rattle.gos_supplies.specs.instances.Trees.{terms_of, RealisesBy}
 
 contacts_same : (r p : Plan) → r.parts ≡ p.parts → r.imports ≡ p.imports → r.outcome ≡ p.outcome → (e : End) → contact_at r e ≡ contact_at p e
@@ -81,7 +81,7 @@ module _ (r p : Plan) (same : IsSameButOrder r p) (right_r : IsRight r) (right_p
     plans : (n : ℕ) (u : Plan) → slice_get (r ∷ plans_of ss) n ≡ Some u
         → (v : Plan) × (slice_get (p ∷ plans_of ss) n ≡ Some v) × IsRenumbered unchanged u v
     plans zero u at = let is : r ≡ u = cc at in (p, refl, subst (λ (v : Plan). IsRenumbered unchanged v p) is (order_free r p same right_r right_p))
-    plans (suc n) u at = (u, at, is_itself u (supply_right p.imports ss n u are at))
+    plans (suc n) u at = (u, at, is_itself u (supply_is_right p.imports ss n u are at))
 
     no_more : (n : ℕ) (u : Plan) → slice_get (p ∷ plans_of ss) n ≡ Some u → (v : Plan) × (slice_get (r ∷ plans_of ss) n ≡ Some v)
     no_more zero u at = (r, refl)

@@ -4,6 +4,7 @@ use Rattle.std.specs.Prelude.{◌≡◌, ℕ, zero, suc, ◌+◌, ◌<◌, List,
 use Rattle.std.proofs.Common.{refl, sym, ◌∙◌, ap, subst, arith, inl, inr}
 use Rattle.std.proofs.lemmas.Option.{slice_get_within}
 use Rattle.std.proofs.lemmas.List.{append-nil, length-append, length-map}
+use Rattle.gos_types.proofs.ListLemmas.{found_in_front, found_behind}
 use Rattle.gos_model.specs.Typing.{Imported}
 use Rattle.gos_plan.specs.Plans.{ImportEnd, ResultEnd, Plan}
 use Rattle.gos_plan.specs.Joining.{place, Link, Wiring, LeftImport, left_in, all_left, left_place}
@@ -11,7 +12,6 @@ use Rattle.gos_realises.specs.realises.Regular.{count}
 use Rattle.gos_realises.specs.realises.Wirings.{link, side}
 use Rattle.gos_realises.specs.realises.Modules.{Supply, plans_of, supplying}
 use Rattle.gos_joining.specs.unions.Flat.{first_of, later, later_link, origin_if, deeper, deeper_link, flat}
-use Rattle.gos_joining.proofs.unions.LeftLemmas.{front, behind}
 use Rattle.gos_joining.proofs.unions.LinkLemmas.{flat_inner, flat_outer, OfWiring, OfOuter, of_flat}
 use Rattle.gos_joining.proofs.unions.FlatFitLemmas.{InTwo, in_two}
 use Rattle.gos_joining.proofs.renumbered.SupplyLemmas.{supply_link, OfImports, of_imports, in_imports}
@@ -81,14 +81,14 @@ module _ (is js : List Imported) (x : Imported) (p q : Plan) (imports : p.import
 
     before_in : (i : ℕ) (z : Imported) → slice_get is i ≡ Some z → slice_get s.imports i ≡ Some z
     before_in i z at =
-        ap (λ (l : List Imported). slice_get l i) left ∙ front (is ++ js) q.imports i z (front is js i z at)
+        ap (λ (l : List Imported). slice_get l i) left ∙ found_in_front (is ++ js) q.imports i z (found_in_front is js i z at)
 
     behind_in : (i : ℕ) (z : Imported) → slice_get js i ≡ Some z → slice_get s.imports (k + i) ≡ Some z
     behind_in i z at =
-        ap (λ (l : List Imported). slice_get l (k + i)) left ∙ front (is ++ js) q.imports (k + i) z (behind is js i ∙ at)
+        ap (λ (l : List Imported). slice_get l (k + i)) left ∙ found_in_front (is ++ js) q.imports (k + i) z (found_behind is js i ∙ at)
 
     giver_in : (i : ℕ) (z : Imported) → slice_get q.imports i ≡ Some z → slice_get s.imports (length (is ++ js) + i) ≡ Some z
-    giver_in i z at = ap (λ (l : List Imported). slice_get l (length (is ++ js) + i)) left ∙ (behind (is ++ js) q.imports i ∙ at)
+    giver_in i z at = ap (λ (l : List Imported). slice_get l (length (is ++ js) + i)) left ∙ (found_behind (is ++ js) q.imports i ∙ at)
 
     -- where a link of a supply stands
     before_is : (i h : ℕ) (z : Imported) → slice_get is i ≡ Some z → deeper_link joint_first (supply_link i h) ≡ at_together (Before i h)
@@ -225,14 +225,14 @@ module _ (is js : List Imported) (x : Imported) (p q : Plan) (imports : p.import
         ∙ (λ l. place (sum l) (ResultEnd (zeros l)))
 
     before_apart : (i : ℕ) (z : Imported) → slice_get is i ≡ Some z → slice_get p.imports i ≡ Some z
-    before_apart i z at = ap (λ (l : List Imported). slice_get l i) imports ∙ front is (x ∷ js) i z at
+    before_apart i z at = ap (λ (l : List Imported). slice_get l i) imports ∙ found_in_front is (x ∷ js) i z at
 
     served_apart : slice_get p.imports k ≡ Some x
     served_apart =
-        let zeros : k ≡ k + 0 = omega arith in (λ l. slice_get (imports l) (zeros l)) ∙ behind is (x ∷ js) 0
+        let zeros : k ≡ k + 0 = omega arith in (λ l. slice_get (imports l) (zeros l)) ∙ found_behind is (x ∷ js) 0
 
     behind_apart : (i : ℕ) (z : Imported) → slice_get js i ≡ Some z → slice_get p.imports (k + suc i) ≡ Some z
-    behind_apart i z at = ap (λ (l : List Imported). slice_get l (k + suc i)) imports ∙ (behind is (x ∷ js) (suc i) ∙ at)
+    behind_apart i z at = ap (λ (l : List Imported). slice_get l (k + suc i)) imports ∙ (found_behind is (x ∷ js) (suc i) ∙ at)
 
     before_link : (i h : ℕ) (z : Imported) → slice_get is i ≡ Some z → deeper_link own (supply_link i h) ≡ at_apart (Before i h)
     before_link i h z at =

@@ -4,12 +4,12 @@ use Rattle.std.specs.Str.{bytes_eq}
 use Rattle.std.proofs.Common.{refl, sym, ◌∙◌, ap, arith}
 use Rattle.std.proofs.lemmas.List.Elements.{Contains-append_right}
 use Rattle.gos_types.specs.Types.{Type'}
+use Rattle.gos_types.proofs.BytesLemmas.{bytes_eq_same}
 use Rattle.gos_model.specs.Terms.{Name, Term, Skip, Lit, Bound, Import, Lam, App, Both, Fst, Snd, Seq, Par, If, While, Assign, Deref, New, Not, Bin, Loc, Scope, Wait, Held, Put}
 use Rattle.gos_model.specs.Typing.{Imported, import_type, Typed}
 use Rattle.gos_model.specs.Linking.{or_import, supplied}
 use Rattle.gos_realises.specs.realises.Realises.{NamesDiffer}
 use Rattle.gos_realises.specs.realises.Modules.{Supply, AreSupplied, term_for}
-use Rattle.gos_joining.proofs.renumbered.ImportLemmas.{name_is}
 use Rattle.gos_supplies.proofs.applications.TermLemmas.{supplied_same, term_first, term_second}
 use Rattle.gos_supplies.specs.instances.Served.{bound_to}
 
@@ -73,7 +73,7 @@ middle_term (i ∷ is) js x (s ∷ fs) bs v y are differ same = by_test (bytes_e
   where
     by_test : (b : Bool) → bytes_eq i.name y ≡ b → term_for (is ++ (x ∷ js)) (fs ++ (v ∷ bs)) y ≡ Some v.term
         → (if b then Some s.term else term_for (is ++ (x ∷ js)) (fs ++ (v ∷ bs)) y) ≡ Some v.term
-    by_test true test rest = absurd (differ.0 x (Contains-append_right is (x ∷ js) x (0, omega arith, refl)) (name_is i.name y test ∙ sym (name_is x.name y same)))
+    by_test true test rest = absurd (differ.0 x (Contains-append_right is (x ∷ js) x (0, omega arith, refl)) (bytes_eq_same i.name y test ∙ sym (bytes_eq_same x.name y same)))
     by_test false test rest = rest
 
 -- the type of another name

@@ -3,22 +3,22 @@ use Rattle.std.specs.Prelude.{◌≡◌, ℕ, zero, suc, ◌+◌, List, [], ◌�
 use Rattle.std.proofs.Common.{refl, sym, ◌∙◌, ap, subst, arith, inl, inr}
 use Rattle.std.proofs.lemmas.Option.{slice_get_within}
 use Rattle.std.proofs.lemmas.List.{length-append}
+use Rattle.gos_types.proofs.ListLemmas.{found_in_front, found_behind}
 use Rattle.gos_model.specs.Typing.{Imported}
 use Rattle.gos_plan.specs.Plans.{ResultEnd, Plan, IsRight}
 use Rattle.gos_plan.specs.Joining.{Place, place, Link, Wiring, Linked}
+use Rattle.gos_plan.proofs.WiringLemmas.{place_is}
 use Rattle.gos_realises.specs.realises.Links.{IsJoined}
 use Rattle.gos_realises.specs.realises.Modules.{Supply, plans_of, AreSupplied, supplying}
-use Rattle.gos_realises.proofs.joined.ReachLemmas.{place_is}
+use Rattle.gos_realises.proofs.realises.FittingLemmas.{supply_is_right}
 use Rattle.gos_joining.specs.webs.Renumbering.{IsRenumbered, moved_end}
 use Rattle.gos_joining.specs.unions.Flat.{all_plans}
-use Rattle.gos_joining.proofs.unions.LeftLemmas.{front, behind}
 use Rattle.gos_joining.proofs.unions.FlatLemmas.{joinings_join}
 use Rattle.gos_joining.proofs.unions.FlatFitLemmas.{InTwo, in_two, links_stand}
 use Rattle.gos_joining.specs.renumbered.Rewired.{rewired, IsRewired}
 use Rattle.gos_joining.specs.renumbered.SmallRewirings.{unchanged}
 use Rattle.gos_joining.proofs.renumbered.RewireLemmas.{rewired_is_renumbered}
 use Rattle.gos_joining.proofs.renumbered.HigherLemmas.{unchanged_end, unchanged_one, is_itself}
-use Rattle.gos_joining.proofs.renumbered.SupplyLemmas.{supply_right}
 use Rattle.gos_supplies.proofs.applications.SeamLemmas.{singles, single_plans}
 use Rattle.gos_supplies.proofs.applications.SingleLemmas.{alone_joins, singles_join, singles_stand}
 use Rattle.gos_supplies.proofs.applications.TogetherLemmas.{plans_two, supplied_length, plans_length, supplied_two}
@@ -129,7 +129,7 @@ module _ (is js : List Imported) (x : Imported) (p q s : Plan) (v : Supply) (fs 
     before_there : (i : ℕ) (u : Plan) → slice_get (plans_of fs) i ≡ Some u → slice_get parted.plans (to (suc (suc i))) ≡ Some u
     before_there i u at =
         let low = slice_get_within (plans_of fs) i u at in
-        ap (slice_get parted.plans) (forth_first k j t i (omega (arith, low, fs_plans))) ∙ in_row i u (front (plans_of fs) rest i u at)
+        ap (slice_get parted.plans) (forth_first k j t i (omega (arith, low, fs_plans))) ∙ in_row i u (found_in_front (plans_of fs) rest i u at)
 
     behind_there : (i n : ℕ) (u : Plan) → i ≡ length (plans_of fs) + n → slice_get (plans_of bs) n ≡ Some u
         → slice_get parted.plans (to (suc (suc i))) ≡ Some u
@@ -139,7 +139,7 @@ module _ (is js : List Imported) (x : Imported) (p q s : Plan) (v : Supply) (fs 
         let place_there : suc (suc (k + t + n)) ≡ suc (length (plans_of fs) + (suc t + n)) = omega (arith, fs_plans) in
         ap (λ (m : ℕ). slice_get parted.plans (to m)) number
         ∙ (ap (slice_get parted.plans) (forth_behind k j t n (omega (arith, low, bs_plans)) ∙ place_there)
-        ∙ in_row (length (plans_of fs) + (suc t + n)) u (behind (plans_of fs) rest (suc t + n) ∙ (behind (q ∷ plans_of ts) (plans_of bs) n ∙ at)))
+        ∙ in_row (length (plans_of fs) + (suc t + n)) u (found_behind (plans_of fs) rest (suc t + n) ∙ (found_behind (q ∷ plans_of ts) (plans_of bs) n ∙ at)))
 
     giver_there : (i n : ℕ) (u : Plan) → i ≡ length (plans_of fs ++ plans_of bs) + n → slice_get (plans_of ts) n ≡ Some u
         → slice_get parted.plans (to (suc (suc i))) ≡ Some u
@@ -150,7 +150,7 @@ module _ (is js : List Imported) (x : Imported) (p q s : Plan) (v : Supply) (fs 
         let place_there : suc (suc (k + n)) ≡ suc (length (plans_of fs) + suc n) = omega (arith, fs_plans) in
         ap (λ (m : ℕ). slice_get parted.plans (to m)) number
         ∙ (ap (slice_get parted.plans) (forth_second k j t n low ∙ place_there)
-        ∙ in_row (length (plans_of fs) + suc n) u (behind (plans_of fs) rest (suc n) ∙ front (plans_of ts) (plans_of bs) n u at))
+        ∙ in_row (length (plans_of fs) + suc n) u (found_behind (plans_of fs) rest (suc n) ∙ found_in_front (plans_of ts) (plans_of bs) n u at))
 
     supply_there : (i : ℕ) (u : Plan) → InTwo (plans_of fs ++ plans_of bs) (plans_of ts) i u → slice_get parted.plans (to (suc (suc i))) ≡ Some u
     supply_there i u (inr (n, sum, at)) = giver_there i n u sum at
@@ -166,7 +166,7 @@ module _ (is js : List Imported) (x : Imported) (p q s : Plan) (v : Supply) (fs 
     q_there : slice_get parted.plans (suc k) ≡ Some q
     q_there =
         let zeros : k ≡ length (plans_of fs) + 0 = omega (arith, fs_plans) in
-        ap (λ (m : ℕ). slice_get parted.plans (suc m)) zeros ∙ in_row (length (plans_of fs) + 0) q (behind (plans_of fs) rest 0)
+        ap (λ (m : ℕ). slice_get parted.plans (suc m)) zeros ∙ in_row (length (plans_of fs) + 0) q (found_behind (plans_of fs) rest 0)
 
     plans : (n : ℕ) (u : Plan) → slice_get joined.plans n ≡ Some u → PlanThere n u
     plans zero u at = let same : p ≡ u = cc at in (p, refl, subst (λ (w : Plan). IsRenumbered unchanged w p) same (is_itself p right_p))
@@ -187,7 +187,7 @@ module _ (is js : List Imported) (x : Imported) (p q s : Plan) (v : Supply) (fs 
         let low = slice_get_within (plans_of fs) i u at in (
           u,
           ap (slice_get joined.plans) (undo_first k j t i (omega (arith, low, fs_plans)))
-              ∙ in_supplies i u (front (plans_of fs ++ plans_of bs) (plans_of ts) i u (front (plans_of fs) (plans_of bs) i u at)),
+              ∙ in_supplies i u (found_in_front (plans_of fs ++ plans_of bs) (plans_of ts) i u (found_in_front (plans_of fs) (plans_of bs) i u at)),
         )
 
     q_here : (i : ℕ) → i ≡ length (plans_of fs) + 0 → PlanHere (suc i)
@@ -204,7 +204,7 @@ module _ (is js : List Imported) (x : Imported) (p q s : Plan) (v : Supply) (fs 
           u,
           ap (λ (m : ℕ). slice_get joined.plans (from m)) number
               ∙ (ap (slice_get joined.plans) (undo_second k j t n low ∙ place_here)
-              ∙ in_supplies (length (plans_of fs ++ plans_of bs) + n) u (behind (plans_of fs ++ plans_of bs) (plans_of ts) n ∙ at)),
+              ∙ in_supplies (length (plans_of fs ++ plans_of bs) + n) u (found_behind (plans_of fs ++ plans_of bs) (plans_of ts) n ∙ at)),
         )
 
     behind_here : (i n m : ℕ) (u : Plan) → i ≡ length (plans_of fs) + n → n ≡ suc t + m → slice_get (plans_of bs) m ≡ Some u → PlanHere (suc i)
@@ -216,7 +216,7 @@ module _ (is js : List Imported) (x : Imported) (p q s : Plan) (v : Supply) (fs 
           ap (λ (m : ℕ). slice_get joined.plans (from m)) number
               ∙ (ap (slice_get joined.plans) (undo_behind k j t m (omega (arith, low, bs_plans)) ∙ place_here)
               ∙ in_supplies (length (plans_of fs) + m) u
-              (front (plans_of fs ++ plans_of bs) (plans_of ts) (length (plans_of fs) + m) u (behind (plans_of fs) (plans_of bs) m ∙ at))),
+              (found_in_front (plans_of fs ++ plans_of bs) (plans_of ts) (length (plans_of fs) + m) u (found_behind (plans_of fs) (plans_of bs) m ∙ at))),
         )
 
     giver_in : (i n : ℕ) (u : Plan) → i ≡ length (plans_of fs) + n → slice_get (q ∷ plans_of ts) n ≡ Some u → PlanHere (suc i)
@@ -266,9 +266,9 @@ served_is_supplied is js x p q s y r z n fs bs ts imports of_s of_fs of_bs of_ts
     let own_size = supplied_length q.imports ts of_ts in
     let right_p : IsRight p = of_s.fits.right 0 p refl in
     let right_q : IsRight q = of_s.fits.right 1 q refl in
-    let rights : (m : ℕ) (u : Plan) → slice_get (plans_of us) m ≡ Some u → IsRight u = λ m u at. supply_right s.imports us m u of_us at in
-    let firsts : (m : ℕ) (u : Plan) → slice_get (plans_of fs) m ≡ Some u → IsRight u = λ m u at. supply_right is fs m u of_fs at in
-    let lasts : (m : ℕ) (u : Plan) → slice_get (plans_of bs) m ≡ Some u → IsRight u = λ m u at. supply_right js bs m u of_bs at in
+    let rights : (m : ℕ) (u : Plan) → slice_get (plans_of us) m ≡ Some u → IsRight u = λ m u at. supply_is_right s.imports us m u of_us at in
+    let firsts : (m : ℕ) (u : Plan) → slice_get (plans_of fs) m ≡ Some u → IsRight u = λ m u at. supply_is_right is fs m u of_fs at in
+    let lasts : (m : ℕ) (u : Plan) → slice_get (plans_of bs) m ≡ Some u → IsRight u = λ m u at. supply_is_right js bs m u of_bs at in
     let apart_joins =
     joinings_join (supplying p (fs ++ (v ∷ bs))) (own is js x p q imports v fs bs ts first_size last_size) r
     (alone_joins p right_p, row_join fs bs (supplying q ts) v of_y.joining firsts lasts)

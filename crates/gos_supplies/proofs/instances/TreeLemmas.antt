@@ -3,6 +3,7 @@ use Rattle.std.specs.Prelude.{◌≡◌, ℕ, zero, suc, ◌+◌, List, [], ◌�
 use Rattle.std.specs.Str.{bytes_eq}
 use Rattle.std.proofs.Common.{refl, sym, ◌∙◌, ap, subst, arith, inl, inr}
 use Rattle.gos_types.specs.Types.{Type'}
+use Rattle.gos_types.proofs.ListLemmas.{found_behind}
 use Rattle.gos_model.specs.Terms.{Name, Term}
 use Rattle.gos_model.specs.Typing.{Imported}
 use Rattle.gos_model.specs.Linking.{supplied}
@@ -16,7 +17,6 @@ use Rattle.gos_realises.specs.realises.Realises.{Realises}
 use Rattle.gos_realises.specs.realises.Modules.{Supply, term_for, RealisesOpen}
 use Rattle.gos_realises.proofs.joined.JoiningLemmas.{fitting_is_joined}
 use Rattle.gos_joining.specs.unions.Flat.{flat, IsBare, LinkedPartsAreBare}
-use Rattle.gos_joining.proofs.unions.LeftLemmas.{behind}
 use Rattle.gos_joining.proofs.unions.FlatFitLemmas.{joined_is_flat}
 use Rattle.gos_supplies.proofs.applications.SingleLemmas.{alone_joins}
 use Rattle.gos_supplies.specs.instances.Served.{serving}
@@ -104,7 +104,7 @@ serve_tree is js x t u of_t of_u lefts types =
     let imports : p.imports ≡ is ++ (x ∷ js) = of_t.imports ∙ lefts in
     let type_q : q.outcome ≡ x.ty = of_u.outcome ∙ types in
     let zeros : length is ≡ length is + 0 = omega arith in
-    let at_k : slice_get p.imports (length is) ≡ Some x = (λ l. slice_get (imports l) (zeros l)) ∙ behind is (x ∷ js) 0 in
+    let at_k : slice_get p.imports (length is) ≡ Some x = (λ l. slice_get (imports l) (zeros l)) ∙ found_behind is (x ∷ js) 0 in
     let (s, of_s) =
     fitting_is_joined (serving (length is) x.ty p q) (serving_fits (length is) x p q of_t.joined.joining.right of_u.joined.joining.right at_k type_q)
     in

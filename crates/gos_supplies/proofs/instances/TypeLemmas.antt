@@ -2,15 +2,15 @@
 use Rattle.std.specs.Prelude.{◌≡◌, ◌≢◌, zero, suc, Bool, true, false, List, [], ◌∷◌, ◌++◌, Option, Some, None, Contains, if◌then◌else◌}
 use Rattle.std.specs.Str.{bytes_eq}
 use Rattle.std.proofs.Common.{refl, sym, ◌∙◌, ap, subst, arith}
-use Rattle.std.proofs.lemmas.Slice.Eq.{bytes_eq-Decides}
 use Rattle.std.proofs.lemmas.List.Elements.{Contains-append_right}
 use Rattle.gos_types.specs.Types.{Type'}
+use Rattle.gos_types.proofs.BytesLemmas.{bytes_eq_same}
 use Rattle.gos_model.specs.Terms.{Name, Term, Skip, Lit, Bound, Import, Lam, App, Both, Fst, Snd, Seq, Par, If, While, Assign, Deref, New, Not, Bin, Loc, Scope, Wait, Held, Put}
 use Rattle.gos_model.specs.Typing.{Imported, import_type, Named, things, Apart, Typed}
 use Rattle.gos_model.specs.Linking.{or_import, supplied}
 use Rattle.gos_realises.specs.realises.Realises.{NamesDiffer}
 use Rattle.gos_realises.proofs.realises.PlaceLemmas.{differ_between}
-use Rattle.gos_joining.proofs.renumbered.ImportLemmas.{has_type, name_is}
+use Rattle.gos_joining.proofs.renumbered.ImportLemmas.{has_type}
 use Rattle.gos_supplies.specs.typing.Supplied.{AreTyped, ShareNothing}
 use Rattle.gos_supplies.proofs.typing.NameLemmas.{typed_under}
 use Rattle.gos_supplies.proofs.typing.WhenceLemmas.{named, with_supplies}
@@ -64,11 +64,8 @@ last_type (i ∷ is) js j differ has = by_test (bytes_eq i.name j.name) refl (la
   where
     by_test : (b : Bool) → bytes_eq i.name j.name ≡ b → import_type (is ++ js) j.name ≡ import_type js j.name
         → (if b then Some i.ty else import_type (is ++ js) j.name) ≡ import_type js j.name
-    by_test true test rest = absurd (differ.0 j (Contains-append_right is js j has) (name_is i.name j.name test))
+    by_test true test rest = absurd (differ.0 j (Contains-append_right is js j has) (bytes_eq_same i.name j.name test))
     by_test false test rest = rest
-
-own_name : (x : Name) → bytes_eq x x ≡ true
-own_name x = grind (arith, bytes_eq-Decides)
 
 middle_type : (is js : List Imported) (x : Imported) (y : Name) → NamesDiffer (is ++ (x ∷ js)) → bytes_eq x.name y ≡ true
     → import_type (is ++ (x ∷ js)) y ≡ Some x.ty
@@ -77,7 +74,7 @@ middle_type (i ∷ is) js x y differ test = by_test (bytes_eq i.name y) refl (mi
   where
     by_test : (b : Bool) → bytes_eq i.name y ≡ b → import_type (is ++ (x ∷ js)) y ≡ Some x.ty
         → (if b then Some i.ty else import_type (is ++ (x ∷ js)) y) ≡ Some x.ty
-    by_test true own rest = absurd (differ.0 x (Contains-append_right is (x ∷ js) x (0, omega arith, refl)) (name_is i.name y own ∙ sym (name_is x.name y test)))
+    by_test true own rest = absurd (differ.0 x (Contains-append_right is (x ∷ js) x (0, omega arith, refl)) (bytes_eq_same i.name y own ∙ sym (bytes_eq_same x.name y test)))
     by_test false own rest = rest
 
 module _ (is js qs : List Imported) (x : Imported) (n : Term) (names : NamesDiffer (is ++ (x ∷ js))) (differ : NamesDiffer ((is ++ js) ++ qs))
@@ -123,7 +120,7 @@ module _ (is js qs : List Imported) (x : Imported) (n : Term) (names : NamesDiff
         let there = named qs z n 0 [] x.ty (omega arith) typed_n in_n in
         let both : Named y ≡ Named there.import.name = at ∙ there.same in
         let name : y ≡ there.import.name = cc both in
-        differ_between (is ++ js) qs differ j there.import has there.has (name_is j.name y test ∙ name)
+        differ_between (is ++ js) qs differ j there.import has there.has (bytes_eq_same j.name y test ∙ name)
     none_of_giver y t e z (suc k, small, at) in_n = omega (arith, small)
 
     two_names : (y z : Name) → y ≢ z → Apart (Import y) (Import z)
@@ -139,7 +136,7 @@ module _ (is js qs : List Imported) (x : Imported) (n : Term) (names : NamesDiff
       where
         by_tests : (b c : Bool) → bytes_eq x.name y ≡ b → bytes_eq x.name z ≡ c → Some (or_import y (if b then Some n else None)) ≡ Some k
             → Some (or_import z (if c then Some n else None)) ≡ Some l → Apart k l
-        by_tests true true own other at_k at_l w in_k in_l = absurd (apart (sym (name_is x.name y own) ∙ name_is x.name z other))
+        by_tests true true own other at_k at_l w in_k in_l = absurd (apart (sym (bytes_eq_same x.name y own) ∙ bytes_eq_same x.name z other))
         by_tests true false own other at_k at_l w in_k in_l =
             let is_k : n ≡ k = cc at_k in
             let is_l : Import z ≡ l = cc at_l in

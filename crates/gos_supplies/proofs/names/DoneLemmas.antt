@@ -1,14 +1,16 @@
 -- The plan of a name of a command or an expression realises it: the track of its run, of the import's run and answer, and of its
 -- own answer, which has the import's number.
-use Rattle.std.specs.Prelude.{◌≡◌, ℕ, zero, suc, ◌^◌, ◌<◌, ◌||◌, Bool, true, false, List, [], ◌∷◌, ◌++◌, ◌⊎◌, Option, Some, None, Contains}
+use Rattle.std.specs.Prelude.{◌≡◌, ℕ, zero, suc, ◌^◌, ◌<◌, ◌||◌, Bool, true, false, List, [], ◌∷◌, ◌++◌, ◌⊎◌, Option, Some, None}
 use Rattle.std.specs.Str.{bytes_eq}
 use Rattle.std.proofs.lemmas.Slice.Eq.{bytes_eq-Decides}
 use Rattle.std.proofs.Common.{refl, sym, ◌∙◌, ap, subst, arith, inl, inr}
 use Rattle.gos_types.specs.Events.{Direction, Request, Answer}
 use Rattle.gos_types.specs.Types.{Type', Com, Exp, Var, Pair, Fun, IsDone, IsGround}
+use Rattle.gos_types.proofs.BoolLemmas.{true_is_not_false}
+use Rattle.gos_types.proofs.ListLemmas.{none_in_empty}
 use Rattle.gos_model.specs.Terms as terms
 use Rattle.gos_model.specs.Terms.{Name, Term, Import, Wait}
-use Rattle.gos_model.specs.Typing.{Imported, import_type}
+use Rattle.gos_model.specs.Typing.{import_type}
 use Rattle.gos_model.specs.Labels.{Label, Taken, given, taken, IsAnswer, Emits}
 use Rattle.gos_model.specs.Protocol as protocol
 use Rattle.gos_model.specs.Moves.{Config, Idle, Running, Act, Showing, Moves, labels, Answers, Stalled}
@@ -27,7 +29,6 @@ use Rattle.gos_realises.proofs.realises.SkipLemmas.{run_is_no_output, running_is
 use Rattle.gos_realises.proofs.realises.RingLemmas.{after, told_open, OutputTurns, MayCome, IsFirst}
 use Rattle.gos_supplies.specs.names.Names.{name_plan}
 use Rattle.gos_supplies.proofs.names.WaitLemmas.{wait_is_stalled}
-use Rattle.gos_supplies.proofs.names.PlaceLemmas.{true_is_not_false}
 use Rattle.gos_supplies.proofs.names.TrackLemmas.{IsTrack, IsProgramTrack, track_is_regular, track_realises}
 
 data Stage : Type 0 where
@@ -579,9 +580,6 @@ done_is_ground (Var b) done = absurd done
 done_is_ground (Pair a b) done = absurd done
 done_is_ground (Fun a b) done = absurd done
 
-pub none_after : (j : Imported) → Contains [] j → ⊥
-none_after j (k, l, e) = omega (arith, l)
-
 -- it suits its type
 suits : (n : Name) (t : Type') → IsDone t → Suits t (name_plan n t) (Import n)
 suits n t done =
@@ -590,7 +588,7 @@ suits n t done =
       literals = no_literals;
       outcome = refl;
       all_ground = (done_is_ground t done, tt);
-      names = (λ j there. absurd (none_after j there), tt);
+      names = (λ j there. absurd (none_in_empty j there), tt);
       typed = known n t;
       regular = name_is_regular n t done;
     }

@@ -3,6 +3,7 @@ use Rattle.std.specs.Prelude.{◌≡◌, ℕ, ◌^◌, ◌<◌, [], ◌∷◌, A
 use Rattle.std.proofs.Common.{refl, sym, ◌∙◌, subst}
 use Rattle.gos_types.specs.Types.{Type', Com, Exp, Var, Pair, Fun}
 use Rattle.gos_types.specs.Widths.{IsWidth}
+use Rattle.gos_types.proofs.ListLemmas.{none_in_empty}
 use Rattle.gos_model.specs.Terms.{Name, Term, Import, Deref, Assign, Lit}
 use Rattle.gos_model.specs.Typing.{Imports, Typed}
 use Rattle.gos_plan.specs.Plans.{Plan, IsRight}
@@ -16,7 +17,7 @@ use Rattle.gos_realises.specs.realises.Realises.{AllGround, NamesDiffer, Suits}
 use Rattle.gos_realises.specs.realises.Alone.{OrderIsFree}
 use Rattle.gos_realises.proofs.realises.LiteralLemmas.{no_literals, reading_literals, writing_literals, literals_same}
 use Rattle.gos_supplies.specs.names.Names.{imported, name_plan, NameIsRealised}
-use Rattle.gos_supplies.proofs.names.DoneLemmas.{known, none_after, done_name_is_realised}
+use Rattle.gos_supplies.proofs.names.DoneLemmas.{known, done_name_is_realised}
 use Rattle.gos_supplies.proofs.names.ReadingLemmas.{read_plan, read_joining}
 use Rattle.gos_supplies.proofs.names.ReadLemmas.{read_is_regular, read_realises}
 use Rattle.gos_supplies.proofs.names.WritingLemmas.{write_plan, write_joining}
@@ -35,7 +36,7 @@ module _ (joining_is_one : JoiningIsOne) (order_is_free : OrderIsFree) where
       literals = literals_same r.parts p.parts same.parts literals;
       outcome = same.outcome ∙ outcome;
       all_ground = subst AllGround (sym is) (tt, tt);
-      names = subst NamesDiffer (sym is) ((λ j there. absurd (none_after j there)), tt);
+      names = subst NamesDiffer (sym is) ((λ j there. absurd (none_in_empty j there)), tt);
       typed = subst (λ (i : Imports). Typed i [] m t) (sym is) typed;
       regular = (order_is_free p r right also same).0 regular;
     },
@@ -67,7 +68,7 @@ module _ (joining_is_one : JoiningIsOne) (order_is_free : OrderIsFree) where
         literals = no_literals;
         outcome = refl;
         all_ground = (tt, tt);
-        names = (λ j there. absurd (none_after j there), tt);
+        names = (λ j there. absurd (none_in_empty j there), tt);
         typed = known n (Var w);
         regular = variable_is_regular n w;
       }

@@ -1,6 +1,6 @@
 -- Token states said place by place, of a plan whose first part alone has phases.
 use Rattle.std.specs.Prelude.{◌≡◌, ℕ, suc, nat_eq, ◌&&◌, ◌||◌, Bool, true, false, Option, None, if◌then◌else◌}
-use Rattle.std.proofs.Common.{refl, sym, ◌∙◌, ap, arith}
+use Rattle.std.proofs.Common.{refl, ◌∙◌, ap, arith}
 use Rattle.gos_types.specs.Events.{Direction}
 use Rattle.gos_plan.specs.Firing.{Phase, Rest, State}
 use Rattle.gos_plan.specs.Plans.{End, same_end}
@@ -75,10 +75,6 @@ exchanged way d held wayb e new q s here =
     none true = refl
     none false = refl
 
--- of what is open
-pub true_is_not_false : (b : Bool) → b ≡ true → b ≡ false → ⊥
-true_is_not_false b up down = let both : true ≡ false = sym up ∙ down in cc both
-
 pub or_false : (b : Bool) → b ≡ true → (b || false) ≡ true
 or_false true e = refl
 or_false false e = e
@@ -87,7 +83,3 @@ pub none_open_at : (a b : Bool) → a ≡ false → b ≡ false → (a || (b || 
 none_open_at true b e f g = cc e
 none_open_at false true e f g = cc f
 none_open_at false false e f g = cc g
-
-pub not_both_open : (a b : Bool) → b ≡ false → (a && b) ≡ false
-not_both_open true b e = e
-not_both_open false b e = refl

@@ -4,8 +4,10 @@ use Rattle.std.specs.Prelude.{◌≡◌, ℕ, zero, suc, ◌^◌, ◌<◌, Bool,
 use Rattle.std.specs.Str.{bytes_eq}
 use Rattle.std.proofs.lemmas.Slice.Eq.{bytes_eq-Decides}
 use Rattle.std.proofs.Common.{refl, sym, ◌∙◌, ap, subst, arith, inl, inr}
+use Rattle.std.proofs.lemmas.Bool.{and_right}
 use Rattle.gos_types.specs.Events.{Direction, Request, Answer}
 use Rattle.gos_types.specs.Types.{Type', Var}
+use Rattle.gos_types.proofs.BoolLemmas.{true_is_not_false}
 use Rattle.gos_model.specs.Terms.{Name, Import, Deref, Wait, Lit}
 use Rattle.gos_model.specs.Typing.{import_type}
 use Rattle.gos_model.specs.Labels.{Label, Taken, given, taken, IsAnswer}
@@ -25,7 +27,7 @@ use Rattle.gos_realises.proofs.realises.SkipLemmas.{run_is_no_output, running_is
 use Rattle.gos_realises.proofs.realises.RingLemmas.{after, told_open, OutputTurns, MayCome, IsFirst}
 use Rattle.gos_supplies.proofs.names.TrackLemmas.{IsTrack, IsProgramTrack, track_ends, track_is_regular, track_realises}
 use Rattle.gos_supplies.proofs.names.WaitLemmas.{wait_is_stalled}
-use Rattle.gos_supplies.proofs.names.PlaceLemmas.{Places, nowhere, placed_at, Holds, put_there, turned_to, emptied, exchanged, true_is_not_false, or_false, none_open_at, not_both_open}
+use Rattle.gos_supplies.proofs.names.PlaceLemmas.{Places, nowhere, placed_at, Holds, put_there, turned_to, emptied, exchanged, or_false, none_open_at}
 use Rattle.gos_supplies.proofs.names.ReadingLemmas.{read_plan}
 
 data Stage : Type 0 where
@@ -409,7 +411,7 @@ module _ (n : Name) (w : ℕ) where
       subst (OutputTurns (read_plan n w) past) (sym next) (
         o.0,
         (
-          not_both_open (is_open past (ImportEnd 0 0)) (is_open past (ImportEnd 0 1)) o.2,
+          and_right (is_open past (ImportEnd 0 0)) (is_open past (ImportEnd 0 1)) o.2,
           tt,
           λ asked. absurd (none_open_at (is_open past (ImportEnd 0 1)) (is_open past (ImportEnd 0 0)) o.2 o.1 asked),
         ),

@@ -1,8 +1,10 @@
 -- The plan of a variable's name is regular: a track that is entered by a read or by a write.
 use Rattle.std.specs.Prelude.{◌≡◌, ℕ, zero, suc, ◌<◌, ◌&&◌, ◌||◌, Bool, true, false, List, ◌⊎◌, Option, Some, None}
 use Rattle.std.proofs.Common.{refl, sym, ◌∙◌, ap, subst, arith, inl, inr}
+use Rattle.std.proofs.lemmas.Bool.{and_right}
 use Rattle.gos_types.specs.Events.{Direction, Request, Answer}
 use Rattle.gos_types.specs.Types.{Var}
+use Rattle.gos_types.proofs.BoolLemmas.{true_is_not_false}
 use Rattle.gos_model.specs.Terms.{Name}
 use Rattle.gos_plan.specs.Kinds.{Contact, asks, serves}
 use Rattle.gos_plan.specs.Firing.{Rest, Slot, Req, Ans}
@@ -13,7 +15,7 @@ use Rattle.gos_realises.specs.realises.Regular.{Pass, pass, way_in, is_open, Kee
 use Rattle.gos_realises.proofs.realises.OneJointLemmas.{not_both}
 use Rattle.gos_realises.proofs.realises.RingLemmas.{after, OutputTurns, IsFirst}
 use Rattle.gos_supplies.specs.names.Names.{name_plan}
-use Rattle.gos_supplies.proofs.names.PlaceLemmas.{Places, nowhere, placed_at, Holds, put_there, emptied, true_is_not_false, not_both_open}
+use Rattle.gos_supplies.proofs.names.PlaceLemmas.{Places, nowhere, placed_at, Holds, put_there, emptied}
 use Rattle.gos_supplies.proofs.names.TrackLemmas.{IsTrack, track_is_regular}
 
 data Stage : Type 0 where
@@ -294,7 +296,7 @@ module _ (n : Name) (w : ℕ) where
         o.2,
         (
           o.3,
-          not_both_open (is_open past (ResultEnd 0)) (is_open past (ResultEnd 1)) o.1,
+          and_right (is_open past (ResultEnd 0)) (is_open past (ResultEnd 1)) o.1,
           λ asked. either (is_open past (ResultEnd 0)) (is_open past (ResultEnd 1)) (inl o.0),
         ),
       )
@@ -311,7 +313,7 @@ module _ (n : Name) (w : ℕ) where
       subst (OutputTurns (name_plan n (Var w)) past) (sym next) (
         o.0,
         (
-          not_both_open (is_open past (ImportEnd 0 0)) (is_open past (ImportEnd 0 1)) o.3,
+          and_right (is_open past (ImportEnd 0 0)) (is_open past (ImportEnd 0 1)) o.3,
           refl,
           λ asked. absurd (none_open (is_open past (ImportEnd 0 0)) (is_open past (ImportEnd 0 1)) o.2 o.3 asked),
         ),
@@ -320,7 +322,7 @@ module _ (n : Name) (w : ℕ) where
       subst (OutputTurns (name_plan n (Var w)) past) (sym next) (
         o.1,
         (
-          not_both_open (is_open past (ImportEnd 0 0)) (is_open past (ImportEnd 0 1)) o.3,
+          and_right (is_open past (ImportEnd 0 0)) (is_open past (ImportEnd 0 1)) o.3,
           not_both_left (is_open past (ResultEnd 0)) false o.0,
           λ asked. absurd (none_open (is_open past (ImportEnd 0 0)) (is_open past (ImportEnd 0 1)) o.2 o.3 asked),
         ),

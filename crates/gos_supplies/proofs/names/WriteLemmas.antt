@@ -4,8 +4,10 @@ use Rattle.std.specs.Prelude.{◌≡◌, ℕ, zero, suc, ◌<◌, ◌&&◌, Bool
 use Rattle.std.specs.Str.{bytes_eq}
 use Rattle.std.proofs.lemmas.Slice.Eq.{bytes_eq-Decides}
 use Rattle.std.proofs.Common.{refl, sym, ◌∙◌, ap, subst, arith, inl, inr}
+use Rattle.std.proofs.lemmas.Bool.{and_right}
 use Rattle.gos_types.specs.Events.{Direction, Request, Answer}
 use Rattle.gos_types.specs.Types.{Type', Var}
+use Rattle.gos_types.proofs.BoolLemmas.{true_is_not_false}
 use Rattle.gos_model.specs.Terms as terms
 use Rattle.gos_model.specs.Terms.{Name, Import, Assign, Put, Wait, Lit}
 use Rattle.gos_model.specs.Typing.{import_type}
@@ -23,7 +25,7 @@ use Rattle.gos_realises.proofs.realises.OneJointLemmas.{not_both}
 use Rattle.gos_realises.proofs.realises.SkipLemmas.{run_is_no_output, running_is_not_idle}
 use Rattle.gos_realises.proofs.realises.RingLemmas.{after, told_open, OutputTurns, MayCome, IsCircle, IsRing, IsFirst, circle_is_regular, ring_realises}
 use Rattle.gos_supplies.proofs.names.WaitLemmas.{wait_is_stalled}
-use Rattle.gos_supplies.proofs.names.PlaceLemmas.{Places, nowhere, placed_at, Holds, put_there, turned_to, other_turned, emptied, exchanged, true_is_not_false, or_false, none_open_at, not_both_open}
+use Rattle.gos_supplies.proofs.names.PlaceLemmas.{Places, nowhere, placed_at, Holds, put_there, turned_to, other_turned, emptied, exchanged, or_false, none_open_at}
 use Rattle.gos_supplies.proofs.names.WritingLemmas.{write_plan}
 
 data Stage : Type 0 where
@@ -445,7 +447,7 @@ module _ (n : Name) (w m : ℕ) where
   turns Back past o = (
     o.0,
     (
-      not_both_open (is_open past (ImportEnd 0 0)) (is_open past (ImportEnd 0 1)) o.2,
+      and_right (is_open past (ImportEnd 0 0)) (is_open past (ImportEnd 0 1)) o.2,
       tt,
       λ asked. absurd (none_open_at (is_open past (ImportEnd 0 1)) (is_open past (ImportEnd 0 0)) o.2 o.1 asked),
     ),

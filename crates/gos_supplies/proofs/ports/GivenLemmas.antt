@@ -1,11 +1,10 @@
 -- The plan of a name, joined to what is put in, is that.
-use Rattle.std.specs.Prelude.{◌≡◌, ℕ, zero, suc, ◌+◌, ◌<◌, Bool, true, List, [], ◌∷◌, ◌++◌, Option, Some, None, Contains, slice_get, if◌then◌else◌}
+use Rattle.std.specs.Prelude.{◌≡◌, ℕ, zero, suc, ◌+◌, ◌<◌, Bool, List, [], ◌∷◌, ◌++◌, Option, Some, None, Contains, slice_get, if◌then◌else◌}
 use Rattle.std.specs.Str.{bytes_eq}
 use Rattle.std.proofs.Common.{refl, sym, ◌∙◌, ap, subst, arith, inl, inr}
-use Rattle.std.proofs.lemmas.Slice.Eq.{bytes_eq-Decides}
-use Rattle.std.proofs.lemmas.Option.{slice_get_within}
 use Rattle.std.proofs.lemmas.List.{append-nil}
 use Rattle.gos_types.specs.Types.{Type', Com}
+use Rattle.gos_types.proofs.BytesLemmas.{bytes_eq_itself}
 use Rattle.gos_model.specs.Terms.{Name, Import}
 use Rattle.gos_model.specs.Typing.{Imported}
 use Rattle.gos_model.specs.Linking.{or_import}
@@ -20,6 +19,7 @@ use Rattle.gos_realises.specs.realises.Modules.{Supply, imports_linked, supplyin
 use Rattle.gos_realises.specs.realises.SmallRealisers.{NameIsRealised}
 use Rattle.gos_realises.proofs.realises.LeftLemmas.{left_list, left_all, left_at, left_joined}
 use Rattle.gos_realises.proofs.joined.ReachLemmas.{Step, Paths, paths_then, paths_back}
+use Rattle.gos_realises.proofs.realises.CountLemmas.{below_count}
 use Rattle.gos_joining.specs.webs.Webs.{joint}
 use Rattle.gos_joining.proofs.unions.DeepLemmas.{place_of_part}
 use Rattle.gos_joining.specs.renumbered.SmallRewirings.{unchanged}
@@ -45,13 +45,6 @@ given_end (suc k) e = e
 
 abbrev given_home : Place → End
 given_home a = given_end a.plan a.end
-
-result_there : (t : Type') (h : ℕ) (c : Contact) → turned_if (slice_get (contacts_of t) h) ≡ Some c → h < count t
-result_there t h c e = by_contact (slice_get (contacts_of t) h) refl e
-  where
-    by_contact : (o : Option Contact) → slice_get (contacts_of t) h ≡ o → turned_if o ≡ Some c → h < count t
-    by_contact None none there = absurd (cc there)
-    by_contact (Some d) at there = slice_get_within (contacts_of t) h d at
 
 -- of any weight
 abbrev called : ℕ → Name → Type' → Plan
@@ -115,7 +108,7 @@ module _ (n : ℕ) (x : Name) (t : Type') (s : Supply) (outcome : s.plan.outcome
   leads (PartEnd i h) c there = (0, refl)
   leads (ImportEnd i h) c there = (0, refl)
   leads (ResultEnd h) c there =
-      let low : h < count t = result_there t h c (ap (λ (u : Type'). turned_if (slice_get (contacts_of u) h)) (sym outcome) ∙ there) in (
+      let low : h < count t = below_count t h c (ap (λ (u : Type'). turned_if (slice_get (contacts_of u) h)) (sym outcome) ∙ there) in (
         2,
         (
           place 0 (ImportEnd 0 h),
@@ -144,14 +137,11 @@ module _ (n : ℕ) (x : Name) (t : Type') (s : Supply) (outcome : s.plan.outcome
       (shadow_is_it given s.plan r given_stand given_home realised.suits.right joined.joining parts imports
       (joined.joining.outcome ∙ sym outcome) given_shadow) realised
 
-same_name : (x : Name) → bytes_eq x x ≡ true
-same_name x = grind (arith, bytes_eq-Decides)
-
 pub called_is_open : (n : ℕ) (x : Name) (t : Type') → RealisesOpen (called n x t) (Import x)
 called_is_open n x t [] r are joined names = absurd are
 called_is_open n x t (s ∷ []) r are joined names =
     let term : or_import x (if bytes_eq x x then Some s.term else None) ≡ s.term =
-    ap (λ (b : Bool). or_import x (if b then Some s.term else None)) (same_name x)
+    ap (λ (b : Bool). or_import x (if b then Some s.term else None)) (bytes_eq_itself x)
     in
     subst (Realises t r) (sym term) (is_given n x t s are.0.suits.outcome r joined are.0)
 called_is_open n x t (s ∷ u ∷ us) r are joined names = absurd are.1

@@ -6,6 +6,7 @@ use Rattle.std.proofs.lemmas.Option.{slice_get_within}
 use Rattle.std.proofs.lemmas.List.{append-nil}
 use Rattle.gos_types.specs.Types.{Type', Com, Exp, Var, Pair, Fun}
 use Rattle.gos_types.specs.Widths.{HasWidths}
+use Rattle.gos_types.proofs.BytesLemmas.{bytes_eq_same}
 use Rattle.gos_model.specs.Terms.{Name, Term, Skip, Lit, Bound, Import, Lam, App, Both, Fst, Snd, Seq, Par, If, While, Assign, Deref, New, Not, Bin, Loc, Scope, Wait, Held, Put}
 use Rattle.gos_model.specs.Typing.{Imported}
 use Rattle.gos_model.specs.Linking.{or_import, supplied}
@@ -19,7 +20,6 @@ use Rattle.gos_realises.proofs.realises.LeftLemmas.{left_joined}
 use Rattle.gos_realises.proofs.joined.ReachLemmas.{Step, Paths, paths_then, paths_back}
 use Rattle.gos_joining.specs.webs.Webs.{joint}
 use Rattle.gos_joining.proofs.unions.DeepLemmas.{place_of_part}
-use Rattle.gos_joining.proofs.renumbered.ImportLemmas.{name_is}
 use Rattle.gos_joining.proofs.renumbered.SupplyLemmas.{supply_link, OfImports, of_imports, in_imports, plan_at, supply_at, first_joined, supply_free}
 use Rattle.gos_supplies.specs.typing.Supplied.{imports_of}
 use Rattle.gos_supplies.specs.names.Names.{passed_on, name_plan, HasWidth, NameIsRealised}
@@ -59,7 +59,7 @@ own_term (i ∷ is) x = by_test (bytes_eq i.name x) refl (own_term is x)
   where
     by_test : (b : Bool) → bytes_eq i.name x ≡ b → or_import x (term_for is (own_supplies is) x) ≡ Import x
         → or_import x (if b then Some (Import i.name) else term_for is (own_supplies is) x) ≡ Import x
-    by_test true test rest = ap (λ (y : Name). Import y) (name_is i.name x test)
+    by_test true test rest = ap (λ (y : Name). Import y) (bytes_eq_same i.name x test)
     by_test false test rest = rest
 
 module _ (f : Name → Option Term) (own : (x : Name) → or_import x (f x) ≡ Import x) where

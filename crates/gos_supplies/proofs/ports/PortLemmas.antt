@@ -1,10 +1,6 @@
 -- A plan whose imports are ground realises its term where it does so with any supplies, and keeps pace.
 use Rattle.std.specs.Prelude.{◌≡◌}
 use Rattle.std.proofs.Common.{sym, ◌∙◌, subst}
-use Rattle.gos_types.specs.Types.{Type', Com, Exp, Var, Pair, Fun, IsDone}
-use Rattle.gos_model.specs.Terms.{Term}
-use Rattle.gos_plan.specs.Plans.{Plan}
-use Rattle.gos_realises.specs.realises.Matched.{RealisesDone}
 use Rattle.gos_realises.specs.realises.Realises.{NamesDiffer, Realises}
 use Rattle.gos_realises.specs.realises.Modules.{term_for, supplying}
 use Rattle.gos_realises.proofs.joined.WholeLemmas.{supplied_is_joined}
@@ -16,6 +12,7 @@ use Rattle.gos_supplies.specs.names.Names.{NameIsRealised}
 use Rattle.gos_supplies.specs.ports.Ports.{OpenIsRealised, OpenIsDone}
 use Rattle.gos_supplies.proofs.ports.ShadowLemmas.{shadow_is_it}
 use Rattle.gos_supplies.proofs.ports.OwnLemmas.{own_supplies, own_are, own_term, supplied_stays, parts_stay, own_imports, own_stand, own_home, own_shadow}
+use Rattle.gos_supplies.proofs.progress.RealiserLemmas.{means_done}
 
 pub open_is_realised : NameIsRealised → OpenIsRealised
 open_is_realised named p m right ground wide differ any =
@@ -30,13 +27,6 @@ open_is_realised named p m right ground wide differ any =
     let realised = any ss r are joined (subst NamesDiffer (sym imports) differ) in
     renumbered_is_realised unchanged p r p.outcome m (renumbered_back unchanged r p same)
     (subst (Realises p.outcome r) (supplied_stays (term_for p.imports ss) (own_term p.imports) m) realised)
-
-means_done : (t : Type') (p : Plan) (m : Term) → IsDone t → Realises t p m → RealisesDone p m
-means_done Com p m done realised = realised.means
-means_done (Exp w) p m done realised = realised.means
-means_done (Var w) p m done realised = absurd done
-means_done (Pair a b) p m done realised = absurd done
-means_done (Fun a b) p m done realised = absurd done
 
 pub open_is_done : OpenIsRealised → OpenIsDone
 open_is_done law p m right ground wide differ any done =

@@ -1,15 +1,16 @@
 -- Closing a term: closed terms for all its free variables at once.
 --
 -- An argument that is put in for the innermost variable of a closed term is one more of these terms.
-use Rattle.std.specs.Prelude.{◌≡◌, ◌≤◌, ◌<◌, ◌-◌, ℕ, zero, suc, Bool, true, false, List, [], ◌∷◌, length, Some, nat_lt, if◌then◌else◌, slice_get}
+use Rattle.std.specs.Prelude.{◌≡◌, ◌≤◌, ◌<◌, ◌-◌, ℕ, zero, suc, Bool, true, false, List, [], ◌∷◌, length, nat_lt, if◌then◌else◌}
 use Rattle.std.proofs.Common.{arith, refl}
 use Rattle.std.proofs.lemmas.Bool.Decides.{nat_tests}
+use Rattle.std.proofs.lemmas.Bool.{lt-ltb, eq-eqb, ne_eqb}
+use Rattle.std.proofs.lemmas.Option.{slice_get_within}
 use Rattle.gos_types.specs.Types.{Type', Com, Exp, Var, Pair, Fun}
 use Rattle.gos_model.specs.Terms.{Term, Skip, Lit, Bound, Import, Lam, App, Both, Fst, Snd, Seq, Par, If, While, Assign, Deref, New, Not, Bin, Loc, Scope, Wait, Held, Put}
 use Rattle.gos_model.specs.Substitution.{put_at}
 use Rattle.gos_model.specs.Typing.{Imports}
 use Rattle.gos_programs.specs.results.HasTypes.{Widths, HasType}
-use Rattle.gos_programs.proofs.contexts.StoreLemmas.{eq_true, eq_false}
 
 -- the term for a variable, or any closed one
 abbrev pub chosen : List Term → ℕ → Term
@@ -56,12 +57,6 @@ chosen_closed [] h n = λ d q. refl
 chosen_closed (q ∷ qs) h zero = h.0
 chosen_closed (q ∷ qs) h (suc n) = chosen_closed qs h.1 n
 
-lt_true : (n d : ℕ) → n < d → nat_lt n d ≡ true
-lt_true n d h = grind (arith, nat_tests)
-
-pub lt_false : (n d : ℕ) → d ≤ n → nat_lt n d ≡ false
-lt_false n d h = grind (arith, nat_tests)
-
 -- a number is below another one, or it isn't
 below_cases : {P : Type 0} (n d : ℕ) → (n < d → nat_lt n d ≡ true → P) → (d ≤ n → nat_lt n d ≡ false → P) → P
 below_cases {P} n d less more = tested (nat_lt n d) refl
@@ -73,7 +68,7 @@ below_cases {P} n d less more = tested (nat_lt n d) refl
 stays_bound : (n : ℕ) (qs : List Term) → AllClosed qs → (d e : ℕ) (q : Term) → d ≤ e → put_at e q (close d qs (Bound n)) ≡ close d qs (Bound n)
 stays_bound n qs h d e q le =
     below_cases n d
-    (λ less yes. rw yes (rw (eq_false n e (λ same. omega (arith, less, le, same))) refl))
+    (λ less yes. rw yes (rw (ne_eqb n e (λ same. omega (arith, less, le, same))) refl))
     (λ more no. rw no (chosen_closed qs h (n - d) e q))
 
 -- a closed term stays as it is
@@ -105,14 +100,14 @@ stays (Put m k) qs h d e q le = λ i. Put (stays m qs h d e q le i) k
 put_bound : (n : ℕ) (qs : List Term) → AllClosed qs → (d : ℕ) (q : Term) → put_at d q (close (suc d) qs (Bound n)) ≡ close d (q ∷ qs) (Bound n)
 put_bound n qs h d q =
     below_cases n d
-    (λ less yes. rw yes (rw (lt_true n (suc d) (omega (arith, less))) (rw (eq_false n d (λ same. omega (arith, less, same))) refl)))
+    (λ less yes. rw yes (rw (lt-ltb n (suc d) (omega (arith, less))) (rw (ne_eqb n d (λ same. omega (arith, less, same))) refl)))
     (λ more no.
     rw no
     (below_cases n (suc d)
     (λ less yes.
     let same : n ≡ d = omega (arith, less, more) in
     let none : n - d ≡ 0 = omega (arith, less, more) in
-    rw yes (rw (eq_true n d same) (rw none refl)))
+    rw yes (rw (eq-eqb n d same) (rw none refl)))
     (λ past not_yet.
     let rest : n - d ≡ suc (n - suc d) = omega (arith, past) in
     rw not_yet (rw rest (chosen_closed qs h (n - suc d) d q)))))
@@ -143,16 +138,11 @@ put_closes (Wait x s) qs h d q = refl
 put_closes (Held k op m) qs h d q = λ i. Held k op (put_closes m qs h d q i)
 put_closes (Put m k) qs h d q = λ i. Put (put_closes m qs h d q i) k
 
-is_there : (g : List Type') (n : ℕ) (t : Type') → slice_get g n ≡ Some t → n < length g
-is_there [] n t h = absurd (cc h)
-is_there (a ∷ g) zero t h = omega arith
-is_there (a ∷ g) (suc n) t h = let less = is_there g n t h in omega (arith, less)
-
 -- a term without free variables is closed by nothing
 pub closed_by_none : (ws : Widths) (i : Imports) (g : List Type') (m : Term) (t : Type') → HasType ws i g m t → close (length g) [] m ≡ m
 closed_by_none ws i g Skip t h = refl
 closed_by_none ws i g (Lit k w) t h = refl
-closed_by_none ws i g (Bound n) t h = rw (lt_true n (length g) (is_there g n t h)) refl
+closed_by_none ws i g (Bound n) t h = rw (lt-ltb n (length g) (slice_get_within g n t h)) refl
 closed_by_none ws i g (Import x) t h = refl
 closed_by_none ws i g (Lam a m) t (b, e, h) = λ j. Lam a (closed_by_none ws i (a ∷ g) m b h j)
 closed_by_none ws i g (App m n) t (a, h, k) = λ j. App (closed_by_none ws i g m (Fun a t) h j) (closed_by_none ws i g n a k j)

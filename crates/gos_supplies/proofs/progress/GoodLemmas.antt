@@ -4,6 +4,8 @@
 -- type where it makes a good term of each good argument.
 use Rattle.std.specs.Prelude.{◌≡◌, ◌⊎◌, ℕ, zero, suc, ◌-◌, ◌^◌, ◌<◌, IsTrue, List, [], ◌∷◌, Some, slice_get}
 use Rattle.std.proofs.Common.{arith, refl, sym, ap, subst, inl, inr, ◌∙◌}
+use Rattle.std.proofs.lemmas.Bool.{le-ltb}
+use Rattle.std.proofs.lemmas.Option.{same_Some}
 use Rattle.gos_types.specs.Types.{Type', Com, Exp, Var, Pair, Fun, IsGround, IsDone}
 use Rattle.gos_model.specs.Terms.{Name, Term, Skip, Lit, Bound, Import, Lam, App, Both, Fst, Snd, Seq, Par, If, While, Assign, Deref, New, Not, Bin, Loc, Scope, Wait, Held, Put, result_of, complement, result_width}
 use Rattle.gos_model.specs.Substitution.{put_at, instantiate}
@@ -17,7 +19,7 @@ use Rattle.gos_programs.proofs.contexts.PluggedLemmas.{unfoldings_plugged, acts_
 use Rattle.gos_programs.proofs.contexts.RenamedStoreLemmas.{entry_place, above, above_absent}
 use Rattle.gos_programs.specs.results.HasTypes.{widths_of, HasType}
 use Rattle.gos_supplies.specs.progress.Progress.{HasNoWait}
-use Rattle.gos_supplies.proofs.progress.ClosingLemmas.{chosen, close, IsClosed, AllClosed, lt_false, stays, put_closes}
+use Rattle.gos_supplies.proofs.progress.ClosingLemmas.{chosen, close, IsClosed, AllClosed, stays, put_closes}
 
 -- a computation step or an output
 abbrev pub IsOwn : Act → Type 0
@@ -134,9 +136,6 @@ good_import i s x (Var w) g e = (0, Import x, refl, inl (x, refl, e))
 good_import i s x (Pair a b) g e = absurd g
 good_import i s x (Fun a b) g e = absurd g
 
-some_type : (a b : Type') → Some a ≡ Some b → a ≡ b
-some_type a b e = cc
-
 -- good closed terms for these binders
 abbrev pub Suit : Imports → Store → List Type' → List Term → Type 0
 Suit i s [] [] = Unit {0}
@@ -153,13 +152,13 @@ suit_closed i s (a ∷ g) [] f = absurd f
 suit_good : (i : Imports) (s : Store) (g : List Type') (qs : List Term) (n : ℕ) (t : Type') → Suit i s g qs → slice_get g n ≡ Some t → IsGood i s t (chosen qs n)
 suit_good i s [] qs n t f e = absurd (cc e)
 suit_good i s (a ∷ g) [] n t f e = absurd f
-suit_good i s (a ∷ g) (q ∷ qs) zero t f e = subst (λ (x : Type'). IsGood i s x q) (some_type a t e) f.1
+suit_good i s (a ∷ g) (q ∷ qs) zero t f e = subst (λ (x : Type'). IsGood i s x q) (same_Some a t e) f.1
 suit_good i s (a ∷ g) (q ∷ qs) (suc n) t f e = suit_good i s g qs n t f.2 e
 
 all_bound : (qs : List Term) (n : ℕ) → close 0 qs (Bound n) ≡ chosen qs n
 all_bound qs n =
     let same : n - 0 ≡ n = omega arith in
-    rw (lt_false n 0 (omega arith)) (ap (chosen qs) same)
+    rw (le-ltb n 0 (omega arith)) (ap (chosen qs) same)
 
 one_bit : (k : ℕ) → k < 2 ^ 1 → (k ≡ 1) ⊎ (k ≡ 0)
 one_bit zero h = inr refl

@@ -1,6 +1,7 @@
 -- A plan whose result stands in no joint realises no command and no expression: the request is lost.
 use Rattle.std.specs.Prelude.{◌≡◌, ◌⊎◌, ◌^◌, ◌<◌, ℕ, suc, Bool, true, false, IsTrue, List, [], ◌∷◌, Contains, Option, Some, None, slice_get}
 use Rattle.std.proofs.Common.{arith, refl, sym, ap, subst, inl, inr, ◌∙◌}
+use Rattle.std.proofs.lemmas.Option.{none-some}
 use Rattle.gos_types.specs.Types.{Type', Com, Exp, Var, Pair, Fun, IsDone}
 use Rattle.gos_types.specs.Events.{Direction, Request}
 use Rattle.gos_model.specs.Terms.{Term}
@@ -40,21 +41,18 @@ held_none : (o : Option End) (w : Direction) → held_at resting w o ≡ None
 held_none None w = refl
 held_none (Some e) w = refl
 
-none_some : (v : ℕ) → None ≡ Some v → ⊥
-none_some v x = cc x
-
 resting_idle : (p : Plan) → IsIdle p resting
 resting_idle p = (λ w e. refl, λ i. refl)
 
 resting_quiet : (p : Plan) → IsQuiet p resting
 resting_quiet p = (
-  λ i t s' does. none_some does.0 (sym (held_none (places_of p (end_of i t)) (way_of t)) ∙ does.2),
+  λ i t s' does. none-some does.0 (sym (held_none (places_of p (end_of i t)) (way_of t)) ∙ does.2),
   λ e v s' does. passes_none e v s' (contact_at p e) does.1,
 )
   where
     passes_none : (e : End) (v : ℕ) (s' : Tokens) (o : Option Contact) → Passes p (Out e v) o resting s' → ⊥
     passes_none e v s' None h = h
-    passes_none e v s' (Some c) h = none_some v (sym (held_none (places_of p e) (way_taken c.role)) ∙ h.0)
+    passes_none e v s' (Some c) h = none-some v (sym (held_none (places_of p e) (way_taken c.role)) ∙ h.0)
 
 first_contact : (t : Type') → IsDone t → (b : ℕ) × (turned_if (slice_get (contacts_of t) 0) ≡ Some (asks 0 b))
 first_contact Com d = (0, refl)
@@ -91,7 +89,7 @@ never p t m b done r at (acts, Running u s, moves, e, goes, agrees) =
     unasked_runs_go_on (program_of p m) t acts u s r.suits.all_ground r.suits.typed done moves (e ∙ shown p b at) (agrees.0 (resting_quiet p))
 
 -- a command and an expression mean what their lists do
-means_done : (t : Type') (p : Plan) (m : Term) → IsDone t → Realises t p m → RealisesDone p m
+pub means_done : (t : Type') (p : Plan) (m : Term) → IsDone t → Realises t p m → RealisesDone p m
 means_done Com p m d r = r.means
 means_done (Exp w) p m d r = r.means
 means_done (Var w) p m d r = absurd d

@@ -7,6 +7,7 @@ use Rattle.gos_model.specs.SmallPrograms.{c}
 use Rattle.gos_model.specs.Labels.{Label, given, is_output}
 use Rattle.gos_model.specs.Reach.{Unfolds}
 use Rattle.gos_model.specs.Moves.{Program, Config, Idle, Running, Act, Computing, Showing, Unfoldings, ActsTo, Stalled}
+use Rattle.gos_realises.proofs.realises.NameLemmas.{no_unfolding}
 use Rattle.gos_supplies.specs.progress.SmallProgress.{one_run, applied_import, SkipBegins, WaitIsStalled, FunctionImportWaits, WaitsAreSeen}
 
 pub skip_begins : SkipBegins
@@ -27,9 +28,6 @@ still p m none computes shows = (
     from : (n : ℕ) (u : Term) (a : Act) (d : Config) → Unfoldings n m u → ActsTo p.imports a [] u d → ActsTo p.imports a [] m d
     from n u a d us h = subst (λ (v : Term). ActsTo p.imports a [] v d) (sym (same n u us)) h
 
-wait_unfolds : (u : Term) → Unfolds (Wait c 1) u → ⊥
-wait_unfolds u h = grind (arith, h)
-
 wait_computes : (d : Config) → ActsTo one_run.imports Computing [] (Wait c 1) d → ⊥
 wait_computes Idle h = h
 wait_computes (Running m s) h = grind (arith, h)
@@ -39,7 +37,7 @@ wait_shows o Idle out h = grind (arith, h)
 wait_shows o (Running m s) out h = grind (arith, h, out)
 
 pub wait_is_stalled : WaitIsStalled
-wait_is_stalled = still one_run (Wait c 1) wait_unfolds wait_computes wait_shows
+wait_is_stalled = still one_run (Wait c 1) no_unfolding wait_computes wait_shows
 
 applied_unfolds : (u : Term) → Unfolds (App (Import c) Skip) u → ⊥
 applied_unfolds u h = grind (arith, h)

@@ -7,9 +7,10 @@ use Rattle.std.proofs.Common.{◌≡◌, [], ◌∷◌, ◌⊎◌, inl, inr, ref
 use Rattle.gos_types.specs.declared.shakes.Role.TheVariants.{Serve, Ask}
 use Rattle.gos_types.specs.Types.{Type', Com, Exp, Var, Pair, Fun}
 use Rattle.gos_types.specs.Handshakes.{turned}
+use Rattle.gos_types.proofs.ListLemmas.{found_in_front}
 use Rattle.gos_plan.specs.Kinds.{Contact, contacts_of, turned_contact, other_side}
 use Rattle.gos_plan.proofs.SideLemmas.{pairs_join, functions_join}
-use Rattle.gos_plan.proofs.AskingLemmas.{front, behind}
+use Rattle.gos_plan.proofs.AskingLemmas.{behind}
 use Rattle.gos_realises.specs.realises.Regular.{count, some_open, beyond, KeepsTurnsOf}
 use Rattle.gos_realises.proofs.realises.GroundTurnLemmas.{some_there, there_some, count_fun}
 use Rattle.gos_realises.proofs.realises.CountLemmas.{count_pair}
@@ -22,7 +23,7 @@ abbrev Served : Type' → (ℕ → Bool) → Type 0
 Served t f = (g : ℕ) × (c : Contact) × (g < count t) × (slice_get (contacts_of t) g ≡ Some c) × (c.role ≡ Serve) × (f g ≡ true)
 
 pub pair_first : (a b : Type') (h : ℕ) (c : Contact) → slice_get (contacts_of a) h ≡ Some c → slice_get (contacts_of (Pair a b)) h ≡ Some c
-pair_first a b h c there = ap (λ (cs : List Contact). slice_get cs h) (pairs_join a b).joined ∙ front (contacts_of a) (contacts_of b) h c there
+pair_first a b h c there = ap (λ (cs : List Contact). slice_get cs h) (pairs_join a b).joined ∙ found_in_front (contacts_of a) (contacts_of b) h c there
 
 pub pair_second : (a b : Type') (h : ℕ) (c : Contact) → slice_get (contacts_of b) h ≡ Some c → slice_get (contacts_of (Pair a b)) (count a + h) ≡ Some c
 pair_second a b h c there =
@@ -35,7 +36,7 @@ side_at (d ∷ cs) (suc h) c there = side_at cs h c there
 
 pub fun_first : (a b : Type') (h : ℕ) (c : Contact) → slice_get (contacts_of a) h ≡ Some c → slice_get (contacts_of (Fun a b)) h ≡ Some (turned_contact c)
 fun_first a b h c there =
-    ap (λ (cs : List Contact). slice_get cs h) (functions_join a b).joined ∙ front (other_side (contacts_of a)) (contacts_of b) h (turned_contact c) (side_at (contacts_of a) h c there)
+    ap (λ (cs : List Contact). slice_get cs h) (functions_join a b).joined ∙ found_in_front (other_side (contacts_of a)) (contacts_of b) h (turned_contact c) (side_at (contacts_of a) h c there)
 
 fun_second : (a b : Type') (h : ℕ) (c : Contact) → slice_get (contacts_of b) h ≡ Some c → slice_get (contacts_of (Fun a b)) (count a + h) ≡ Some c
 fun_second a b h c there =

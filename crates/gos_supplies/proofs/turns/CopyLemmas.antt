@@ -2,25 +2,29 @@
 --
 -- What comes in at one end of a joint goes out at the other: then both are open, or both are closed. So what is open after an
 -- output lies between what was open at the first ends and at the second.
-use Rattle.std.specs.Prelude.{ℕ, ◌<◌, Bool, true, false, List, Option, Some, None, slice_get, if◌then◌else◌}
+use Rattle.std.specs.Prelude.{ℕ, ◌<◌, Bool, true, false, List, Option, Some, None, slice_get}
 use Rattle.std.proofs.Common.{◌≡◌, [], ◌∷◌, ◌⊎◌, inl, inr, refl, sym, ◌∙◌, ap, subst}
 use Rattle.std.proofs.lemmas.Option.{slice_get_within}
+use Rattle.std.proofs.lemmas.Bool.{false≢true}
 use Rattle.gos_types.specs.declared.shakes.Role.{Role}
 use Rattle.gos_types.specs.declared.shakes.Role.TheVariants.{Serve, Ask}
 use Rattle.gos_types.specs.Types.{Type'}
 use Rattle.gos_types.specs.Handshakes.{turned}
 use Rattle.gos_types.specs.Events.{Direction, Request, Answer}
+use Rattle.gos_types.proofs.ListLemmas.{some_is_not_none}
 use Rattle.gos_plan.specs.Kinds.{Part, Contact, contacts_of, turned_contact}
 use Rattle.gos_plan.specs.Plans.{End, PartEnd, ImportEnd, ResultEnd, Plan, IsRight, contact_at, contacts_of_part}
 use Rattle.gos_plan.specs.Tokens.{Tokens, Element, Fire, Out, In, IsPortEnd, places_of, held_at, token_at, way_taken, way_put, firing_of, Passes, Runs, IsIdle}
 use Rattle.gos_plan.specs.Orderly.{Open, none_open, named_by, after_taken, after_put, ComesWell, AllWelcome, OrderlyFrom}
-use Rattle.gos_plan.proofs.JointLemmas.{IsIn, fits, same_itself, stands_there}
+use Rattle.gos_plan.proofs.JointLemmas.{IsIn, fits, stands_there, asking_stands, serving_stands}
 use Rattle.gos_realises.specs.realises.Regular.{Pass, pass, way_in, way_out, is_open, is_request, count, some_open, KeepsTurnsOf, ComesInTurn, KeepsTurns, InputsKeepTurns, OutputsKeepTurns, IsRegular}
 use Rattle.gos_realises.proofs.realises.InputLemmas.{passed, in_there, out_there}
 use Rattle.gos_realises.proofs.realises.RingLemmas.{after}
 use Rattle.gos_joining.specs.webs.Webs.{joint}
 use Rattle.gos_plan.proofs.HeldLemmas as holding
-use Rattle.gos_supplies.proofs.turns.StandLemmas.{same_apart, names_own, asks_itself, serves_itself, lies_in, Stands, not_empty, open_by_fit, taken_stands, put_stands}
+use Rattle.gos_plan.proofs.ProjectionLemmas.{port_by_itself}
+use Rattle.gos_realises.proofs.realises.PassLemmas.{open_itself, open_otherwise}
+use Rattle.gos_supplies.proofs.turns.StandLemmas.{lies_in, Stands, open_by_fit, taken_stands, put_stands}
 use Rattle.gos_supplies.proofs.turns.GoesLemmas.{IsTurned}
 use Rattle.gos_supplies.proofs.turns.WholeLemmas.{first_turned}
 use Rattle.gos_supplies.specs.turns.Rests.{Rests}
@@ -29,11 +33,8 @@ use Rattle.gos_joining.proofs.renumbered.TurnLemmas.{Agree, some_agree, turns_ag
 use Rattle.gos_supplies.proofs.turns.TypeLemmas.{told_same}
 use Rattle.gos_supplies.proofs.turns.BetweenLemmas.{Leads, Between, busy_to, busy_from, between_keeps}
 
-false_true : false ≡ true → ⊥
-false_true e = cc e
-
 closed_answer : (b : Bool) (q r : Option ℕ) (v : ℕ) → holding.Fits b q r → r ≡ Some v → b ≡ true
-closed_answer false q r v h some = absurd (not_empty v r some h.1)
+closed_answer false q r v h some = absurd (some_is_not_none v r some h.1)
 closed_answer true q r v h some = refl
 
 -- what is open at the ends of a list
@@ -62,12 +63,6 @@ pub record IsCopy (t : Type') (p : Plan) (first second : ℕ → End) : Type 0 w
       (past : List Pass) → KeepsTurnsOf t (shown_at first past) → KeepsTurnsOf t (shown_at second past)
       → (some_open (count t) (shown_at first past) ≡ true → some_open (count t) (shown_at second past) ≡ true) → IsTurned p past
 
-pub passed_same : (e : End) (way : Direction) (past : List Pass) → is_open (pass e way ∷ past) e ≡ is_request way
-passed_same e way past = let one = same_itself e in λ i. if one i then is_request way else is_open past e
-
-pub passed_else : (e d : End) (way : Direction) (past : List Pass) → (e ≡ d → ⊥) → is_open (pass e way ∷ past) d ≡ is_open past d
-passed_else e d way past apart = let other = same_apart e d apart in λ i. if other i then is_request way else is_open past d
-
 module _ (t : Type') (p : Plan) (first second : ℕ → End) (is : IsCopy t p first second) where
   no_part : (i h : ℕ) (c : Contact) → contact_at p (PartEnd i h) ≡ Some c → ⊥
   no_part i h c there =
@@ -79,7 +74,7 @@ module _ (t : Type') (p : Plan) (first second : ℕ → End) (is : IsCopy t p fi
         → IsIn (joint d e) p.joints → is_open past e ≡ true → is_open past d ≡ true
     follows e d c b port there role port_d there_d role_d joined up =
         let (a, named, a_open, request, answer) = st.serves_open e c port there role up in
-        let place : places_of p e ≡ Some d = stands_there p (joint d e) e is.right joined (serves_itself (joint d e)) in
+        let place : places_of p e ≡ Some d = stands_there p (joint d e) e is.right joined (serving_stands (joint d e)) in
         let same : a ≡ d = cc (named, place) in
         sym (st.asks_open d b port_d there_d role_d) ∙ (ap o (sym same) ∙ a_open)
 
@@ -103,7 +98,7 @@ module _ (t : Type') (p : Plan) (first second : ℕ → End) (is : IsCopy t p fi
         at_server : c.role ≡ Serve → token_at p s e Request ≡ Some v → ComesInTurn past e Request × (is_open past d ≡ is_request Request)
         at_server role lies' =
             let (a, named, held) = lies_in p e Request v s lies' in
-            let place : places_of p e ≡ Some d = stands_there p (joint d e) e is.right (serves role) (serves_itself (joint d e)) in
+            let place : places_of p e ≡ Some d = stands_there p (joint d e) e is.right (serves role) (serving_stands (joint d e)) in
             let same : a ≡ d = cc (named, place) in
             let up = (open_by_fit (o a) (s.in_place Request a) (s.in_place Answer a) v (st.fit a) held).0 in
             (by_test a named held (is_open past e) refl, sym (st.asks_open d (turned_contact c) port_d there_d (ap turned role)) ∙ (ap o (sym same) ∙ up))
@@ -113,13 +108,13 @@ module _ (t : Type') (p : Plan) (first second : ℕ → End) (is : IsCopy t p fi
             by_test a named held true up =
                 let (f, also, f_open, request, answer) = st.serves_open e c port there role up in
                 let one : f ≡ a = cc (also, named) in
-                absurd (not_empty v (s.in_place Request a) held (ap (s.in_place Request) (sym one) ∙ request))
+                absurd (some_is_not_none v (s.in_place Request a) held (ap (s.in_place Request) (sym one) ∙ request))
 
         at_asker : c.role ≡ Ask → token_at p s e Answer ≡ Some v → ComesInTurn past e Answer × (is_open past d ≡ is_request Answer)
         at_asker role lies' =
             let (a, named, held) = lies_in p e Answer v s lies' in
-            let place : places_of p e ≡ Some e = stands_there p (joint e d) e is.right (asks role) (asks_itself (joint e d)) in
-            let place_d : places_of p d ≡ Some e = stands_there p (joint e d) d is.right (asks role) (serves_itself (joint e d)) in
+            let place : places_of p e ≡ Some e = stands_there p (joint e d) e is.right (asks role) (asking_stands (joint e d)) in
+            let place_d : places_of p d ≡ Some e = stands_there p (joint e d) d is.right (asks role) (serving_stands (joint e d)) in
             let same : a ≡ e = cc (named, place) in
             let held_e : s.in_place Answer e ≡ Some v = ap (s.in_place Answer) (sym same) ∙ held in
             let up = closed_answer (o e) (s.in_place Request e) (s.in_place Answer e) v (st.fit e) held_e in
@@ -130,7 +125,7 @@ module _ (t : Type') (p : Plan) (first second : ℕ → End) (is : IsCopy t p fi
             by_test held_e place_d true up =
                 let (f, also, f_open, request, answer) = st.serves_open d (turned_contact c) port_d there_d (ap turned role) up in
                 let one : f ≡ e = cc (also, place_d) in
-                absurd (not_empty v (s.in_place Answer e) held_e (ap (s.in_place Answer) (sym one) ∙ answer))
+                absurd (some_is_not_none v (s.in_place Answer e) held_e (ap (s.in_place Answer) (sym one) ∙ answer))
 
         by_role : (role : Role) → c.role ≡ role → ComesInTurn past e way × (is_open past d ≡ is_request way)
         by_role Serve role =
@@ -157,14 +152,14 @@ module _ (t : Type') (p : Plan) (first second : ℕ → End) (is : IsCopy t p fi
         low = slice_get_within (contacts_of t) h c there
 
         stays : shown_at second past ≡ shown_at second (pass (first h) way ∷ past)
-        stays = λ i k. sym (passed_else (first h) (second k) way past (is.apart h k low)) i
+        stays = λ i k. sym (open_otherwise (first h) (second k) way past (is.apart h k low)) i
 
         between : Between (count t) (shown_at first past) (shown_at second past) new
         between k small = by_told (told_same k h)
           where
             by_told : (k ≡ h) ⊎ (k ≡ h → ⊥) → (new k ≡ shown_at first past k) ⊎ (new k ≡ shown_at second past k)
-            by_told (inl is_h) = inr (ap new is_h ∙ (passed_same (first h) way past ∙ (sym same ∙ ap (shown_at second past) (sym is_h))))
-            by_told (inr other) = inl (passed_else (first h) (first k) way past (λ ends. other (sym (is.first_one h k ends))))
+            by_told (inl is_h) = inr (ap new is_h ∙ (open_itself (first h) way past ∙ (sym same ∙ ap (shown_at second past) (sym is_h))))
+            by_told (inr other) = inl (open_otherwise (first h) (first k) way past (λ ends. other (sym (is.first_one h k ends))))
 
     out_second : (h : ℕ) (c : Contact) (way : Direction) → slice_get (contacts_of t) h ≡ Some c → is_open past (first h) ≡ is_request way
         → IsTurned p (pass (second h) way ∷ past)
@@ -178,14 +173,14 @@ module _ (t : Type') (p : Plan) (first second : ℕ → End) (is : IsCopy t p fi
         new = shown_at second (pass (second h) way ∷ past)
 
         stays : Agree (count t) (shown_at first past) (shown_at first (pass (second h) way ∷ past))
-        stays k small = sym (passed_else (second h) (first k) way past (λ ends. is.apart k h small (sym ends)))
+        stays k small = sym (open_otherwise (second h) (first k) way past (λ ends. is.apart k h small (sym ends)))
 
         between : Between (count t) (shown_at first past) (shown_at second past) new
         between k small = by_told (told_same k h)
           where
             by_told : (k ≡ h) ⊎ (k ≡ h → ⊥) → (new k ≡ shown_at first past k) ⊎ (new k ≡ shown_at second past k)
-            by_told (inl is_h) = inl (ap new is_h ∙ (passed_same (second h) way past ∙ (sym same ∙ ap (shown_at first past) (sym is_h))))
-            by_told (inr other) = inr (passed_else (second h) (second k) way past (λ ends. other (sym (is.second_one h k ends))))
+            by_told (inl is_h) = inl (ap new is_h ∙ (open_itself (second h) way past ∙ (sym same ∙ ap (shown_at first past) (sym is_h))))
+            by_told (inr other) = inr (open_otherwise (second h) (second k) way past (λ ends. other (sym (is.second_one h k ends))))
 
     out_keeps : (e : End) (c : Contact) (v : ℕ) (way : Direction) → IsPortEnd e → contact_at p e ≡ Some c → way_taken c.role ≡ way → token_at p s e way ≡ Some v
         → KeepsTurns p past (pass e way)
@@ -211,7 +206,7 @@ module _ (t : Type') (p : Plan) (first second : ℕ → End) (is : IsCopy t p fi
     in_well e c way port there ways turn = by_role c.role refl
       where
         at_asker : c.role ≡ Ask → ComesInTurn past e Request → ComesWell p e Request o s
-        at_asker role shut = ap o (names_own p e c is.right there role) ∙ (st.asks_open e c port there role ∙ shut)
+        at_asker role shut = ap o (port_by_itself p e c is.right there role) ∙ (st.asks_open e c port there role ∙ shut)
 
         at_server : c.role ≡ Serve → ComesInTurn past e Answer → ComesWell p e Answer o s
         at_server role up =
@@ -294,7 +289,7 @@ module _ (t : Type') (p : Plan) (first second : ℕ → End) (is : IsCopy t p fi
       record {
         fit = λ a. (idle.0 Request a, idle.0 Answer a);
         asks_open = λ e c port there role. refl;
-        serves_open = λ e c port there role up. absurd (false_true up);
+        serves_open = λ e c port there role up. absurd (false≢true up);
         only_asks = λ e c there role. refl;
       }
 

@@ -2,6 +2,7 @@
 use Rattle.std.specs.Prelude.{ℕ, true, List, Some, None, slice_get}
 use Rattle.std.proofs.Common.{◌≡◌, inl, inr, sym, ◌∙◌, ap, subst}
 use Rattle.gos_types.specs.Events.{Direction}
+use Rattle.gos_types.proofs.ListLemmas.{some_is_not_none}
 use Rattle.gos_plan.specs.Kinds.{Part, Contact, turned_contact}
 use Rattle.gos_plan.specs.Plans.{End, PartEnd, Plan, contact_at}
 use Rattle.gos_plan.specs.Tokens.{Tokens, IsPortEnd, places_of, with_token}
@@ -11,12 +12,12 @@ use Rattle.gos_plan.proofs.JointLemmas.{IsIn}
 use Rattle.gos_realises.specs.realises.Regular.{Pass, is_open, is_request}
 use Rattle.gos_realises.specs.realises.Links.{contact_of, LinksFit}
 use Rattle.gos_joining.specs.webs.Webs.{joint}
-use Rattle.gos_plan.proofs.DecidedLemmas.{Told}
-use Rattle.gos_realises.proofs.joined.ReachLemmas.{place_is, told_number}
-use Rattle.gos_supplies.proofs.turns.StandLemmas.{placed_here, placed_apart, Passed, passed_here, passed_apart, Stands, not_empty}
-use Rattle.gos_supplies.proofs.turns.TrailLemmas.{LinksArePorts, IsUnlinked, AsksAt, Trail, link_back, link_one, link_ports, link_apart, link_contacts}
-use Rattle.gos_supplies.proofs.turns.FollowLemmas.{Stand, Family, open_at, lying, shown, OnTrail, HasSource, Follows, told_place, is_free, port_there, joint_trail, seat_contact}
-use Rattle.gos_supplies.proofs.turns.OpLemmas.{told_way}
+use Rattle.gos_plan.proofs.DecidedLemmas.{Told, told_way}
+use Rattle.gos_plan.proofs.WiringLemmas.{linked_back, place_is}
+use Rattle.gos_realises.proofs.joined.ReachLemmas.{told_number, told_place}
+use Rattle.gos_supplies.proofs.turns.StandLemmas.{placed_here, placed_apart, Passed, passed_here, passed_apart, Stands}
+use Rattle.gos_supplies.proofs.turns.TrailLemmas.{LinksArePorts, IsUnlinked, AsksAt, Trail, link_one, link_ports, link_apart, link_contacts}
+use Rattle.gos_supplies.proofs.turns.FollowLemmas.{Stand, Family, open_at, lying, shown, OnTrail, HasSource, Follows, is_free, port_there, joint_trail, seat_contact}
 
 -- a token is taken at one place and put at another, which a link joins; x and y are the asking ends of the joints there
 pub record Cross (w : Wiring) (F G : Family) (a b x y : Place) (way : Direction) (v : ℕ) (p q : Plan) : Type 0 where
@@ -73,14 +74,14 @@ module _ (w : Wiring) (r : Plan) (fit : LinksFit w) (ported : LinksArePorts w) (
           let is : b ≡ d = link_one w fit ported a b d cross.linked (subst (λ (z : Place). Linked w z d) same linked) in
           ap (shown G) same ∙ (shown_a ∙ (sym shown_b ∙ ap (shown G) is))
       by_place (inr other) (inl same) =
-          let is : a ≡ d = link_one w fit ported b a d (link_back w a b cross.linked) (subst (λ (z : Place). Linked w z d) same linked) in
+          let is : a ≡ d = link_one w fit ported b a d (linked_back w a b cross.linked) (subst (λ (z : Place). Linked w z d) same linked) in
           ap (shown G) same ∙ (shown_b ∙ (sym shown_a ∙ ap (shown G) is))
       by_place (inr not_a) (inr not_b) =
           let ports = link_ports w fit ported c d linked in
           let d_not_a : d ≡ a → ⊥ = λ same.
-          not_b (link_one w fit ported a c b (subst (λ (z : Place). Linked w z c) same (link_back w c d linked)) cross.linked) in
+          not_b (link_one w fit ported a c b (subst (λ (z : Place). Linked w z c) same (linked_back w c d linked)) cross.linked) in
           let d_not_b : d ≡ b → ⊥ = λ same.
-          not_a (link_one w fit ported b c a (subst (λ (z : Place). Linked w z c) same (link_back w c d linked)) (link_back w a b cross.linked)) in
+          not_a (link_one w fit ported b c a (subst (λ (z : Place). Linked w z c) same (linked_back w c d linked)) (linked_back w a b cross.linked)) in
           shown_else c ports.0 not_a not_b ∙ (so.agree c d linked ∙ sym (shown_else d ports.1 d_not_a d_not_b))
 
   lying_else : (u : Direction) (z : Place) → (u ≡ way → z ≡ x → ⊥) → (u ≡ way → z ≡ y → ⊥) → lying G u z ≡ lying F u z
@@ -124,7 +125,7 @@ module _ (w : Wiring) (r : Plan) (fit : LinksFit w) (ported : LinksArePorts w) (
         ports = λ e c port there. so.ports e c port there
             ∙ sym (shown_else (origin w e) (port_there w r fit ported whole e c there port) (λ same. at_a e c there same) (λ same. at_b e c there same));
         dead = λ z port loose. shown_else z port (λ same. loose.0 b (subst (λ (u : Place). Linked w u b) (sym same) cross.linked))
-            (λ same. loose.0 a (subst (λ (u : Place). Linked w u a) (sym same) (link_back w a b cross.linked))) ∙ so.dead z port loose;
+            (λ same. loose.0 a (subst (λ (u : Place). Linked w u a) (sym same) (linked_back w a b cross.linked))) ∙ so.dead z port loose;
       }
     where
       contact_a : (c : Contact) × (contact_of w a ≡ Some c)
@@ -142,7 +143,7 @@ module _ (w : Wiring) (r : Plan) (fit : LinksFit w) (ported : LinksArePorts w) (
       at_a e c there same = is_free w r fit ported whole e c there b (subst (λ (z : Place). Linked w z b) (sym same) cross.linked)
 
       at_b : (e : End) (c : Contact) → contact_at r e ≡ Some c → origin w e ≡ b → ⊥
-      at_b e c there same = is_free w r fit ported whole e c there a (subst (λ (z : Place). Linked w z a) (sym same) (link_back w a b cross.linked))
+      at_b e c there same = is_free w r fit ported whole e c there a (subst (λ (z : Place). Linked w z a) (sym same) (linked_back w a b cross.linked))
 
       is_free_at : (c d : End) → IsIn (joint c d) r.joints → IsUnlinked w (origin w c)
       is_free_at c d joined =
@@ -160,6 +161,6 @@ module _ (w : Wiring) (r : Plan) (fit : LinksFit w) (ported : LinksArePorts w) (
               let held : Some v ≡ Some z = sym cross.lies ∙ (sym (λ i. lying F (ways i) (same i)) ∙ is) in
               (m, y, led, ap (λ (k : Direction). lying G k y) ways ∙ (lying_there ∙ held))
           by_way (inl ways) (inr not_x) (inl same) =
-              absurd (not_empty z (lying F way y) (sym (λ i. lying F (ways i) (same i)) ∙ is) cross.empty)
+              absurd (some_is_not_none z (lying F way y) (sym (λ i. lying F (ways i) (same i)) ∙ is) cross.empty)
           by_way (inl ways) (inr not_x) (inr not_y) = stays (λ k same. not_x same) (λ k same. not_y same)
           by_way (inr other) first second = stays (λ k same. other k) (λ k same. other k)

@@ -15,11 +15,12 @@ use Rattle.gos_realises.proofs.realises.InputLemmas.{in_there, out_there}
 use Rattle.gos_realises.proofs.realises.RingLemmas.{after}
 use Rattle.gos_plan.proofs.DecidedLemmas.{Told}
 use Rattle.gos_realises.proofs.joined.ReachLemmas.{told_number}
+use Rattle.gos_realises.proofs.realises.PassLemmas.{same_turn}
 use Rattle.gos_supplies.proofs.turns.RunLemmas.{Reached, out_next, in_next}
 use Rattle.gos_supplies.proofs.turns.TrailLemmas.{LinksArePorts, plan_at}
 use Rattle.gos_supplies.proofs.turns.FollowLemmas.{Stand, Family, Follows, Seat, at_place, port_there}
 use Rattle.gos_supplies.proofs.turns.OpLemmas.{Op, follows_took, follows_put}
-use Rattle.gos_supplies.proofs.turns.GoesLemmas.{IsTurned, PassesTurns, Goes, SameStates, setting, set_here, set_else, turn_same}
+use Rattle.gos_supplies.proofs.turns.GoesLemmas.{IsTurned, PassesTurns, Goes, SameStates, setting, set_here, set_else}
 use Rattle.gos_supplies.proofs.turns.ReadyLemmas.{ready, all_welcome}
 
 abbrev pub stand : Open → List Pass → Tokens → Stand
@@ -96,7 +97,7 @@ module _ (w : Wiring) (r : Plan) (fit : LinksFit w) (ported : LinksArePorts w) (
             welcome = all_welcome w r fit ported whole regular literals passes (setting k X G) (after_taken r e way o) (pass e way ∷ past) t goes;
             outputs = (
               subst (λ (u : Direction). KeepsTurns r past (pass e u)) (sym led)
-                  (turn_same (G k).past past (origin w e).end e way (sym (going.follows.ports e c does.0 there)) out.0.0, outer),
+                  (same_turn (G k).past past (origin w e).end e way (sym (going.follows.ports e c does.0 there)) out.0.0, outer),
               tt,
             );
             family = setting k X G;
@@ -212,7 +213,7 @@ module _ (w : Wiring) (r : Plan) (fit : LinksFit w) (ported : LinksArePorts w) (
           come =
               in_next p (origin w e).end c v (F k).opens (F k).past (F k).tokens way (regular k p its.1) (so.reached k p its.1)
               (port_there w r fit ported whole e c there does.0) its.2 refl moves.0
-              (turn_same past (F k).past e (origin w e).end way (so.follows.ports e c does.0 there) turn.0, turned)
+              (same_turn past (F k).past e (origin w e).end way (so.follows.ports e c does.0 there) turn.0, turned)
 
           X : Stand
           X =

@@ -1,6 +1,7 @@
 -- A firing of the whole is one of its part's plan, once the token that it takes is there.
 use Rattle.std.specs.Prelude.{ℕ, ◌+◌, Bool, true, false, List, Option, Some, None, All, slice_get, nat_eq, if◌then◌else◌}
 use Rattle.std.proofs.Common.{◌≡◌, [], ◌∷◌, inl, inr, refl, sym, ◌∙◌, ap, subst, arith}
+use Rattle.std.proofs.lemmas.Bool.{ne_eqb}
 use Rattle.gos_types.specs.Events.{Direction}
 use Rattle.gos_plan.specs.Kinds.{Part, Contact}
 use Rattle.gos_plan.specs.Firing.{Slot, Token, Row, firing}
@@ -25,13 +26,6 @@ use Rattle.gos_supplies.proofs.turns.OpLemmas.{Op, follows_took, follows_put, fo
 use Rattle.gos_supplies.proofs.turns.GoesLemmas.{PassesTurns, Goes, SameStates, setting, set_here, set_else}
 use Rattle.gos_supplies.proofs.turns.ReadyLemmas.{ready, all_welcome}
 use Rattle.gos_supplies.proofs.turns.ElementLemmas.{stand, Went, same_family, goes_then}
-
-not_equal : (m n : ℕ) → (m ≡ n → ⊥) → nat_eq m n ≡ false
-not_equal m n apart = by_test (nat_eq m n) refl
-  where
-    by_test : (b : Bool) → nat_eq m n ≡ b → b ≡ false
-    by_test true t = absurd (apart (grind (arith, t)))
-    by_test false t = refl
 
 -- a part's token passes no port
 part_passed : (F G : End → Bool) (i h : ℕ) (way : Direction) → ((d : End) → IsPortEnd d → G d ≡ F d) → Passed F G (PartEnd i h) way
@@ -277,12 +271,12 @@ module _ (w : Wiring) (r : Plan) (fit : LinksFit w) (ported : LinksArePorts w) (
                   ap (λ (b : Bool). if b then row.next v else s.state i') one
                   ∙ sym ((λ z. (setting k Z G (plans z)).tokens.state (parts z)) ∙ (ap (λ (y : Stand). y.tokens.state j) (set_here k Z G) ∙ fired_here))
               by_number (inr apart) =
-                  let other : nat_eq i' i ≡ false = not_equal i' i apart in
+                  let other : nat_eq i' i ≡ false = ne_eqb i' i apart in
                   ap (λ (b : Bool). if b then row.next v else s.state i') other ∙ (going.states i' f' q' at' ∙ sym (by_plan (told_number q'.plan k)))
                 where
                   by_plan : Told (q'.plan ≡ k) → (setting k Z G q'.plan).tokens.state q'.part ≡ (G q'.plan).tokens.state q'.part
                   by_plan (inl plans) =
-                      let different : nat_eq q'.part j ≡ false = not_equal q'.part j (λ parts. apart (seats plans parts)) in
+                      let different : nat_eq q'.part j ≡ false = ne_eqb q'.part j (λ parts. apart (seats plans parts)) in
                       ap (λ (n : ℕ). (setting k Z G n).tokens.state q'.part) plans
                       ∙ (ap (λ (y : Stand). y.tokens.state q'.part) (set_here k Z G)
                       ∙ (fired_state p j row v (G k).tokens q'.part

@@ -3,27 +3,26 @@
 -- What is open at an asking end of the whole is so where it stands in its plan; a token of the whole lies on some joint of the
 -- trail; each open joint of a plan has a trail that leads to it; linked ports are open together. So where the last joint of a
 -- trail is open the first one is, and those between are empty.
-use Rattle.std.specs.Prelude.{ℕ, zero, suc, ◌+◌, Bool, true, false, List, Option, Some, None, Contains, slice_get}
-use Rattle.std.proofs.Common.{◌≡◌, [], ◌∷◌, ◌⊎◌, inl, inr, refl, sym, ◌∙◌, ap, arith}
+use Rattle.std.specs.Prelude.{ℕ, zero, suc, ◌+◌, Bool, true, false, List, Option, Some, None, slice_get}
+use Rattle.std.proofs.Common.{◌≡◌, ◌⊎◌, inl, inr, refl, sym, ◌∙◌, ap, arith}
 use Rattle.gos_types.specs.declared.shakes.Role.TheVariants.{Serve, Ask}
 use Rattle.gos_types.specs.Handshakes.{turned}
 use Rattle.gos_types.specs.Events.{Direction, Request, Answer}
 use Rattle.gos_plan.specs.Kinds.{Part, Contact, asks, serves, turned_contact}
-use Rattle.gos_plan.specs.Plans.{End, PartEnd, ImportEnd, ResultEnd, Joint, Plan, contact_at, contacts_of_part}
+use Rattle.gos_plan.specs.Plans.{End, PartEnd, ImportEnd, ResultEnd, Plan, contact_at, contacts_of_part}
 use Rattle.gos_plan.specs.Tokens.{Tokens, IsPortEnd, places_of}
 use Rattle.gos_plan.specs.Orderly.{Open}
 use Rattle.gos_plan.specs.Joining.{Place, place, Wiring, JoinedWithin, Linked, origin, IsJoining}
-use Rattle.gos_plan.proofs.JointLemmas.{IsIn, stands_there, contained}
+use Rattle.gos_plan.proofs.JointLemmas.{IsIn, stands_there, contained, listed, serving_stands}
 use Rattle.gos_realises.specs.realises.Regular.{Pass, is_open}
 use Rattle.gos_realises.specs.realises.Links.{contact_of, LinksFit}
 use Rattle.gos_joining.specs.webs.Webs.{joint}
-use Rattle.gos_plan.proofs.DecidedLemmas.{Told}
-use Rattle.gos_realises.proofs.joined.ReachLemmas.{Paths, paths_then, place_is, told_number, told_end}
+use Rattle.gos_realises.proofs.joined.ReachLemmas.{Paths, paths_then}
 use Rattle.gos_realises.proofs.joined.StepLemmas.{IsOutside, IsPart}
 use Rattle.gos_realises.proofs.joined.OriginLemmas.{at_origin, sort, sort_of, before, part_of}
 use Rattle.gos_joining.specs.unions.Unions.{HasFieldsOf}
 use Rattle.gos_joining.proofs.unions.PlaceLemmas.{fields_of, same_contact, stands_at, stands_alone}
-use Rattle.gos_supplies.proofs.turns.StandLemmas.{serves_itself, Stands}
+use Rattle.gos_supplies.proofs.turns.StandLemmas.{Stands}
 use Rattle.gos_supplies.proofs.turns.TrailLemmas.{LinksArePorts, IsUnlinked, AsksAt, Segment, Trail, contact_place, plan_at, link_ports, segment_roles, path_trail}
 
 -- a plan's open handshakes, what passed its ports, and its tokens; of all plans, by number
@@ -67,19 +66,6 @@ pub record Follows (w : Wiring) (r : Plan) (F : Family) (o : Open) (past : List 
       (i h : ℕ) (f : Part) → slice_get r.parts i ≡ Some f → contact_at r (PartEnd i h) ≡ None → o (PartEnd i h) ≡ open_at F (origin w (PartEnd i h))
   pub ports : (e : End) (c : Contact) → IsPortEnd e → contact_at r e ≡ Some c → is_open past e ≡ shown F (origin w e)
   pub dead : (a : Place) → IsPortEnd a.end → IsLoose w r a → shown F a ≡ false
-
-pub told_place : (a b : Place) → Told (a ≡ b)
-told_place a b = by_plan (told_number a.plan b.plan) (told_end a.end b.end)
-  where
-    by_plan : Told (a.plan ≡ b.plan) → Told (a.end ≡ b.end) → Told (a ≡ b)
-    by_plan (inl k) (inl e) = inl (place_is a b k e)
-    by_plan (inl k) (inr apart) = inr (λ same. apart (ap (λ (x : Place). x.end) same))
-    by_plan (inr apart) other = inr (λ same. apart (ap (λ (x : Place). x.plan) same))
-
-pub listed : (js : List Joint) (j : Joint) → IsIn j js → Contains js j
-listed [] j h = absurd h
-listed (x ∷ xs) j (inl e) = (0, omega arith, sym e)
-listed (x ∷ xs) j (inr h) = let (n, within, is) = listed xs j h in (suc n, omega (arith, within), is)
 
 -- where a part of the whole is: its plan and its number there
 pub record Seat (w : Wiring) (i : ℕ) (f : Part) : Type 0 where
@@ -224,7 +210,7 @@ module _ (w : Wiring) (r : Plan) (fit : LinksFit w) (ported : LinksArePorts w) (
           let (cy, at_y, serving) = (segment_roles w fit ported b e (p, is, joined)).1 in
           let at_e : contact_at p e ≡ Some cy = sym (contact_place w (place b.plan e) p is) ∙ at_y in
           let (a, named, a_open, request, answer) = (stands b.plan p is).serves_open e cy port at_e serving also in
-          let here : places_of p e ≡ Some b.end = stands_there p (joint b.end e) e (fit.right b.plan p is) joined (serves_itself (joint b.end e)) in
+          let here : places_of p e ≡ Some b.end = stands_there p (joint b.end e) e (fit.right b.plan p is) joined (serving_stands (joint b.end e)) in
           let same : a ≡ b.end = cc (named, here) in
           (ap (F b.plan).opens (sym same) ∙ a_open, each_way F b (ap ((F b.plan).tokens.in_place Request) (sym same) ∙ request) (ap ((F b.plan).tokens.in_place Answer) (sym same) ∙ answer))
 

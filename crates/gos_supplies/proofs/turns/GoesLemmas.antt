@@ -13,18 +13,22 @@ use Rattle.gos_plan.specs.Tokens.{Tokens, IsPortEnd, places_of, held_at, token_a
 use Rattle.gos_plan.specs.TokenBits.{LiteralFits}
 use Rattle.gos_plan.specs.Orderly.{Open, after_taken, after_put, ComesWell}
 use Rattle.gos_plan.specs.Joining.{Place, place, Wiring, Linked, origin, IsJoining}
-use Rattle.gos_plan.proofs.JointLemmas.{IsIn, stands_there}
+use Rattle.gos_plan.proofs.JointLemmas.{IsIn, stands_there, asking_stands, serving_stands}
 use Rattle.gos_plan.proofs.TurnLemmas.{token_state}
 use Rattle.gos_plan.proofs.TokenBitsLemmas.{all_stay_fit, idle_fits}
 use Rattle.gos_realises.specs.realises.Regular.{Pass, pass, is_open, KeepsTurnsOf, whole_type, whole_end, ComesInTurn, IsRegular}
 use Rattle.gos_realises.specs.realises.Links.{contact_of, LinksFit}
 use Rattle.gos_joining.specs.webs.Webs.{joint}
 use Rattle.gos_plan.proofs.DecidedLemmas.{Told}
-use Rattle.gos_realises.proofs.joined.ReachLemmas.{place_is, told_number}
-use Rattle.gos_supplies.proofs.turns.StandLemmas.{asks_own, names_own, serves_in, asks_itself, serves_itself, opened_here, Stands, open_by_fit, taken_stands, put_stands, taken_apart, put_apart, well_empty}
+use Rattle.gos_plan.proofs.ContactLemmas.{turned_bits, turned_put}
+use Rattle.gos_plan.proofs.WiringLemmas.{linked_back, place_is}
+use Rattle.gos_plan.proofs.ProjectionLemmas.{port_by_itself}
+use Rattle.gos_realises.proofs.joined.ReachLemmas.{told_number, told_place}
+use Rattle.gos_realises.proofs.realises.PassLemmas.{same_turn}
+use Rattle.gos_supplies.proofs.turns.StandLemmas.{asks_own, serves_in, opened_here, Stands, open_by_fit, taken_stands, put_stands, taken_apart, put_apart, well_empty}
 use Rattle.gos_supplies.proofs.turns.RunLemmas.{Reached, out_next, in_next}
-use Rattle.gos_supplies.proofs.turns.TrailLemmas.{LinksArePorts, IsUnlinked, AsksAt, Segment, Trail, contact_place, link_back, link_one, link_ports, link_apart, link_contacts, segment_roles, trail_first}
-use Rattle.gos_supplies.proofs.turns.FollowLemmas.{Stand, Family, open_at, lying, HasSource, IsLoose, Follows, told_place, Seat}
+use Rattle.gos_supplies.proofs.turns.TrailLemmas.{LinksArePorts, IsUnlinked, AsksAt, Segment, Trail, contact_place, link_one, link_ports, link_apart, link_contacts, segment_roles, trail_first}
+use Rattle.gos_supplies.proofs.turns.FollowLemmas.{Stand, Family, open_at, lying, HasSource, IsLoose, Follows, Seat}
 use Rattle.gos_supplies.proofs.turns.CrossLemmas.{Cross, lying_there, follows_across}
 
 -- what is open at a plan's ports keeps its turns
@@ -92,19 +96,6 @@ set_else k x F m apart = by_test (nat_eq m k) refl
     by_test true t = absurd (apart (grind (arith, t)))
     by_test false t = refl
 
--- a token comes in turn wherever the same is open
-pub turn_same : (P Q : List Pass) (d e : End) (way : Direction) → is_open P d ≡ is_open Q e → ComesInTurn P d way → ComesInTurn Q e way
-turn_same P Q d e Request same turn = sym same ∙ turn
-turn_same P Q d e Answer same turn = sym same ∙ turn
-
-turned_ways : (role : Role) → way_put (turned role) ≡ way_taken role
-turned_ways Serve = refl
-turned_ways Ask = refl
-
-turned_bits : (c : Contact) (way : Direction) → bits_of (turned_contact c) way ≡ bits_of c way
-turned_bits c Request = refl
-turned_bits c Answer = refl
-
 module _ (w : Wiring) (r : Plan) (fit : LinksFit w) (ported : LinksArePorts w) (whole : IsJoining w r)
     (regular : (k : ℕ) (p : Plan) → slice_get w.plans k ≡ Some p → IsRegular p)
     (literals : (k : ℕ) (p : Plan) → slice_get w.plans k ≡ Some p → All LiteralFits p.parts) (passes : PassesTurns w r) where
@@ -141,7 +132,7 @@ module _ (w : Wiring) (r : Plan) (fit : LinksFit w) (ported : LinksArePorts w) (
           sym (contact_place w b q is_q) ∙ (other ∙ ap (λ (x : Contact). Some (turned_contact x)) same)
 
       is_b : way_put (turned_contact c).role ≡ way
-      is_b = turned_ways c.role ∙ is
+      is_b = turned_put c.role ∙ is
 
       lies_a : token_at p (F a.plan).tokens a.end way ≡ Some v
       lies_a = ap (held_at (F a.plan).tokens way) named_a ∙ lies
@@ -161,7 +152,7 @@ module _ (w : Wiring) (r : Plan) (fit : LinksFit w) (ported : LinksArePorts w) (
           in_next q b.end (turned_contact c) v (F b.plan).opens (F b.plan).past (F b.plan).tokens way (regular b.plan q is_q) (so.reached b.plan q is_q) port_b there_b is_b
           (subst (λ (n : ℕ). v < 2 ^ n) (sym (turned_bits c way))
           (small p (F a.plan).opens (F a.plan).past (F a.plan).tokens a.plan is_p (so.reached a.plan p is_p) a.end c way v there lies_a))
-          (turn_same (F a.plan).past (F b.plan).past a.end b.end way (so.follows.agree a b linked) out.0, turned_b)
+          (same_turn (F a.plan).past (F b.plan).past a.end b.end way (so.follows.agree a b linked) out.0, turned_b)
 
       A : Stand
       A =
@@ -260,10 +251,10 @@ module _ (w : Wiring) (r : Plan) (fit : LinksFit w) (ported : LinksArePorts w) (
           before : c.role ≡ Ask → (n : ℕ) → Trail w n z a → (m : ℕ) × Trail w m z (place b.plan ya)
           before role zero e = absurd (free b (subst (λ (y : Place). Linked w y b) (sym e) linked))
           before role (suc n) (b0, e0, t0, (p0, is0, has0), linked0, asks0) =
-              let same : b ≡ place b0.plan e0 = link_one w fit ported a b (place b0.plan e0) linked (link_back w (place b0.plan e0) a linked0) in
+              let same : b ≡ place b0.plan e0 = link_one w fit ported a b (place b0.plan e0) linked (linked_back w (place b0.plan e0) a linked0) in
               let plans : b.plan ≡ b0.plan = ap (λ (y : Place). y.plan) same in
               let ends : b.end ≡ e0 = ap (λ (y : Place). y.end) same in
-              let placed : places_of p0 e0 ≡ Some b0.end = stands_there p0 (joint b0.end e0) e0 (fit.right b0.plan p0 is0) has0 (serves_itself (joint b0.end e0)) in
+              let placed : places_of p0 e0 ≡ Some b0.end = stands_there p0 (joint b0.end e0) e0 (fit.right b0.plan p0 is0) has0 (serving_stands (joint b0.end e0)) in
               let those : p0 ≡ q = cc (is0, is_q, plans) in
               let named : places_of q b.end ≡ Some b0.end = (λ i. places_of (sym those i) (ends i)) ∙ placed in
               let names : ya ≡ b0.end = cc (named, named_b) in
@@ -289,7 +280,7 @@ module _ (w : Wiring) (r : Plan) (fit : LinksFit w) (ported : LinksArePorts w) (
               let ways : Answer ≡ way = sym (ap way_taken role) ∙ is in
               let shut : after_taken p a.end way (F a.plan).opens a.end ≡ false =
               subst (λ (u : Direction). after_taken p a.end u (F a.plan).opens a.end ≡ false) ways
-              (opened_here _ a.end false (F a.plan).opens (names_own p a.end c right_p there role)) in
+              (opened_here _ a.end false (F a.plan).opens (port_by_itself p a.end c right_p there role)) in
               let never : true ≡ false = sym up ∙ (ap (open_at G) same ∙ (ap (λ (t : Stand). t.opens a.end) at_a ∙ shut)) in
               cc never
           by_place (inr other) (inl same) =
@@ -339,8 +330,8 @@ module _ (w : Wiring) (r : Plan) (fit : LinksFit w) (ported : LinksArePorts w) (
   placed_ends b e (p, is, has) = (
     p,
     is,
-    stands_there p (joint b.end e) b.end (fit.right b.plan p is) has (asks_itself (joint b.end e)),
-    stands_there p (joint b.end e) e (fit.right b.plan p is) has (serves_itself (joint b.end e)),
+    stands_there p (joint b.end e) b.end (fit.right b.plan p is) has (asking_stands (joint b.end e)),
+    stands_there p (joint b.end e) e (fit.right b.plan p is) has (serving_stands (joint b.end e)),
   )
 
   -- each place of a trail to a joint asks in a joint
@@ -364,7 +355,7 @@ module _ (w : Wiring) (r : Plan) (fit : LinksFit w) (ported : LinksArePorts w) (
       let (q, is_q, named_b, named_e) = placed_ends b e seg in
       let (p, is, named_x, named_g) = placed_ends x g next in
       let (c, at, role) = (segment_roles w fit ported x g next).0 in
-      cross_goes F o past s so x (place b.plan e) p q c Answer x.end b.end v (link_back w (place b.plan e) x linked) is is_q
+      cross_goes F o past s so x (place b.plan e) p q c Answer x.end b.end v (linked_back w (place b.plan e) x linked) is is_q
       (sym (contact_place w x p is) ∙ at) (ap way_taken role) named_x named_e lies
 
   -- and so on, to the last joint or to the first one

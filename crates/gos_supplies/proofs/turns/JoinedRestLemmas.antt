@@ -2,6 +2,7 @@
 use Rattle.std.specs.Prelude.{ℕ, zero, suc, ◌+◌, ◌<◌, true, false, List, Option, Some, None, All, slice_get}
 use Rattle.std.proofs.Common.{◌≡◌, [], ◌⊎◌, inl, inr, refl, sym, ◌∙◌, ap, subst}
 use Rattle.gos_types.specs.Events.{Direction}
+use Rattle.gos_types.proofs.ListLemmas.{some_is_not_none}
 use Rattle.gos_plan.specs.Kinds.{Part}
 use Rattle.gos_plan.specs.Firing.{Rest, State}
 use Rattle.gos_plan.specs.Plans.{End, ResultEnd, Plan}
@@ -25,9 +26,6 @@ use Rattle.gos_supplies.proofs.turns.TurnedLemmas.{res}
 use Rattle.gos_supplies.proofs.turns.PassLemmas.{Composes, passes_turns, giver_busy, result_agree}
 use Rattle.gos_joining.proofs.renumbered.TurnLemmas.{some_agree}
 use Rattle.gos_supplies.proofs.turns.WholeLemmas.{goes_all}
-
-no_value : (v : ℕ) (h : Option ℕ) → h ≡ Some v → h ≡ None → ⊥
-no_value v h some none = let never : Some v ≡ None = sym some ∙ none in cc never
 
 module _ (w : Wiring) (r : Plan) (fit : LinksFit w) (ported : LinksArePorts w) (whole : IsJoining w r)
     (regular : (k : ℕ) (p : Plan) → slice_get w.plans k ≡ Some p → IsRegular p)
@@ -89,7 +87,7 @@ module _ (w : Wiring) (r : Plan) (fit : LinksFit w) (ported : LinksArePorts w) (
             let (x, at_a, asks) = (joint_trail w r fit ported whole a b has).0 in
             let (q, is_q, has_q) = plan_at w (origin w a) x (at_place w r fit ported whole a x at_a) in
             let (p, is) = trail_plan n (origin w a) c (q, is_q) trail in
-            absurd (no_value v (lying F way c) lies ((plan_idle c.plan p is).0 way c.end))
+            absurd (some_is_not_none v (lying F way c) lies ((plan_idle c.plan p is).0 way c.end))
 
     place_empty : (way : Direction) (a : End) → t.in_place way a ≡ None
     place_empty way a = by_joint (told_asker r.joints a)

@@ -1,21 +1,21 @@
 -- Plans of names and of pairs are there: the joints of two lists of ends are right, one after another.
-use Rattle.std.specs.Prelude.{ℕ, zero, suc, ◌+◌, ◌<◌, ◌≤◌, not, ◌&&◌, ◌||◌, true, IsTrue, List, Some, Contains, slice_get}
+use Rattle.std.specs.Prelude.{ℕ, zero, suc, ◌+◌, ◌<◌, ◌≤◌, IsTrue, List, Some, Contains, slice_get}
 use Rattle.std.proofs.Common.{◌≡◌, [], ◌∷◌, refl, sym, ◌∙◌, ap, subst, arith}
 use Rattle.std.proofs.lemmas.Option.{slice_get_within}
 use Rattle.gos_types.specs.declared.shakes.Role.{Role}
 use Rattle.gos_types.specs.declared.shakes.Role.TheVariants.{Serve, Ask}
 use Rattle.gos_types.specs.Types.{Type', Pair, Fun}
 use Rattle.gos_types.specs.Handshakes.{turned}
-use Rattle.gos_plan.specs.Kinds.{Contact, asks, serves, contacts_of, turned_contact}
+use Rattle.gos_plan.specs.Kinds.{Contact, serves, contacts_of, turned_contact}
 use Rattle.gos_plan.specs.Plans.{End, ImportEnd, ResultEnd, Joint, Plan, contact_at, turned_if, is_free, Fits, AreRight}
+use Rattle.gos_plan.proofs.ContactLemmas.{turned_contact_twice, as_asks, as_serves, turned_asks}
+use Rattle.gos_plan.proofs.JointLemmas.{free_of_both, same_result}
 use Rattle.gos_realises.specs.realises.Regular.{count}
 use Rattle.gos_joining.specs.webs.Webs.{joint}
 use Rattle.gos_supplies.specs.turns.Names.{NamePlanIsThere}
 use Rattle.gos_supplies.specs.turns.Pairs.{PairPlanIsThere}
-use Rattle.gos_supplies.proofs.turns.StandLemmas.{same_apart}
-use Rattle.gos_supplies.proofs.turns.TrailLemmas.{turned_twice}
 use Rattle.gos_realises.proofs.realises.CountLemmas.{count_pair}
-use Rattle.gos_supplies.proofs.turns.NameLemmas.{import_number, result_number, import_apart}
+use Rattle.gos_supplies.proofs.turns.NameLemmas.{import_number, import_apart}
 use Rattle.gos_supplies.proofs.turns.PairLemmas.{argument_at, result_same}
 
 -- the joint of a handshake, by the holder's role, and the joints of handshakes h, h + 1, ..
@@ -27,25 +27,8 @@ abbrev copied : (ℕ → End) → (ℕ → End) → ℕ → List Contact → Lis
 copied first second h [] = []
 copied first second h (c ∷ cs) = copied_one c.role (first h) (second h) ∷ copied first second (suc h) cs
 
-as_asks : (c : Contact) → c.role ≡ Ask → c ≡ asks c.ask_bits c.answer_bits
-as_asks c role = λ i. record c { role = role i }
-
-as_serves : (c : Contact) → c.role ≡ Serve → c ≡ serves c.ask_bits c.answer_bits
-as_serves c role = λ i. record c { role = role i }
-
-turned_asks : (c : Contact) → c.role ≡ Serve → turned_contact c ≡ asks c.ask_bits c.answer_bits
-turned_asks c role = λ i. record c { role = turned (role i) }
-
 turned_serves : (c : Contact) → c.role ≡ Ask → turned_contact c ≡ serves c.ask_bits c.answer_bits
 turned_serves c role = λ i. record c { role = turned (role i) }
-
--- an end apart from both of a joint's is free of it
-free_then : (e : End) (j : Joint) (js : List Joint) → (e ≡ j.asking → ⊥) → (e ≡ j.serving → ⊥) → IsTrue (is_free e js) → IsTrue (is_free e (j ∷ js))
-free_then e j js one other free =
-    let a = same_apart e j.asking one in
-    let b = same_apart e j.serving other in
-    let f : is_free e js ≡ true = free in
-    (λ i. not (a i || b i) && f i)
 
 copied_there : (first second : ℕ → End) (h m : ℕ) (cs : List Contact) (c : Contact) → slice_get cs m ≡ Some c
     → Contains (copied first second h cs) (copied_one c.role (first (h + m)) (second (h + m)))
@@ -73,13 +56,13 @@ module _ (p : Plan) (t : Type') (first second : ℕ → End)
   next_free : (h : ℕ) (role : Role) (before : List Joint) → h < count t → LaterFree h before → LaterFree (suc h) (copied_one role (first h) (second h) ∷ before)
   next_free h Serve before low free k above small =
       let both = free k (omega (arith, above)) small in (
-        free_then (first k) (joint (second h) (first h)) before (λ e. apart k h small e) (λ e. (let same = first_one k h e in omega (arith, same, above))) both.0,
-        free_then (second k) (joint (second h) (first h)) before (λ e. (let same = second_one k h e in omega (arith, same, above))) (λ e. apart h k low (sym e)) both.1,
+        free_of_both (first k) (joint (second h) (first h)) before (λ e. apart k h small e) (λ e. (let same = first_one k h e in omega (arith, same, above))) both.0,
+        free_of_both (second k) (joint (second h) (first h)) before (λ e. (let same = second_one k h e in omega (arith, same, above))) (λ e. apart h k low (sym e)) both.1,
       )
   next_free h Ask before low free k above small =
       let both = free k (omega (arith, above)) small in (
-        free_then (first k) (joint (first h) (second h)) before (λ e. (let same = first_one k h e in omega (arith, same, above))) (λ e. apart k h small e) both.0,
-        free_then (second k) (joint (first h) (second h)) before (λ e. apart h k low (sym e)) (λ e. (let same = second_one k h e in omega (arith, same, above))) both.1,
+        free_of_both (first k) (joint (first h) (second h)) before (λ e. (let same = first_one k h e in omega (arith, same, above))) (λ e. apart k h small e) both.0,
+        free_of_both (second k) (joint (first h) (second h)) before (λ e. apart h k low (sym e)) (λ e. (let same = second_one k h e in omega (arith, same, above))) both.1,
       )
 
   one_fits : (h : ℕ) (c : Contact) → slice_get (contacts_of t) h ≡ Some c → (role : Role) → c.role ≡ role → Fits p (copied_one role (first h) (second h))
@@ -129,7 +112,7 @@ pub name_plan_is_there : NamePlanIsThere
 name_plan_is_there x = (
   p,
   record {
-    right = right_from_first p x.ty (ImportEnd 0) ResultEnd (λ h c at. at) (λ h c at. ap turned_if at) import_number result_number (λ h k low. import_apart h k);
+    right = right_from_first p x.ty (ImportEnd 0) ResultEnd (λ h c at. at) (λ h c at. ap turned_if at) import_number same_result (λ h k low. import_apart h k);
     imports = refl;
     outcome = refl;
     parts = refl;
@@ -146,10 +129,10 @@ pair_plan_is_there a b = (
   p,
   record {
     right =
-        right_from_first p (Pair a b) ResultEnd second (λ h c at. ap turned_if (argument_at a b h c at) ∙ ap Some (turned_twice c))
-        (λ h c at. ap turned_if (result_same a b h ∙ at)) (λ h k e. result_number h k e)
-        (λ h k e. (let same = result_number (count a + (count b + h)) (count a + (count b + k)) e in omega (arith, same)))
-        (λ h k low e. (let same = result_number h (count a + (count b + k)) e in let sum = count_pair a b in omega (arith, low, same, sum)));
+        right_from_first p (Pair a b) ResultEnd second (λ h c at. ap turned_if (argument_at a b h c at) ∙ ap Some (turned_contact_twice c))
+        (λ h c at. ap turned_if (result_same a b h ∙ at)) (λ h k e. same_result h k e)
+        (λ h k e. (let same = same_result (count a + (count b + h)) (count a + (count b + k)) e in omega (arith, same)))
+        (λ h k low e. (let same = same_result h (count a + (count b + k)) e in let sum = count_pair a b in omega (arith, low, same, sum)));
     imports = refl;
     outcome = refl;
     parts = refl;

@@ -6,25 +6,22 @@ use Rattle.gos_model.specs.Typing.{Imported}
 use Rattle.gos_plan.specs.Kinds.{Contact, contacts_of, turned_contact}
 use Rattle.gos_plan.specs.Plans.{End, PartEnd, ImportEnd, ResultEnd, Plan, contact_at, contacts_of_import, turned_if}
 use Rattle.gos_plan.specs.Tokens.{IsPortEnd}
-use Rattle.gos_plan.proofs.JointLemmas.{contained}
+use Rattle.gos_plan.proofs.JointLemmas.{contained, same_result}
+use Rattle.gos_plan.proofs.ContactLemmas.{turned_contact_twice}
 use Rattle.gos_realises.specs.realises.Regular.{Pass, count, some_open, KeepsTurnsOf}
 use Rattle.gos_joining.specs.webs.Webs.{joint}
 use Rattle.gos_supplies.specs.turns.Resting.{NameRests}
 use Rattle.gos_supplies.specs.turns.Names.{IsNamePlan, NameIsRegular}
-use Rattle.gos_supplies.proofs.turns.TrailLemmas.{turned_twice}
 use Rattle.gos_supplies.proofs.turns.GoesLemmas.{IsTurned}
 use Rattle.gos_supplies.proofs.turns.TurnedLemmas.{imp, res, to_each, from_each}
 use Rattle.gos_supplies.proofs.turns.CopyLemmas.{copy_rests, IsCopy, copy_is_regular}
 
 pub unturned : (o : Option Contact) (c : Contact) → turned_if o ≡ Some c → o ≡ Some (turned_contact c)
 unturned None c e = absurd (cc e)
-unturned (Some d) c e = let same : turned_contact d ≡ c = cc e in ap Some (sym (turned_twice d) ∙ ap turned_contact same)
+unturned (Some d) c e = let same : turned_contact d ≡ c = cc e in ap Some (sym (turned_contact_twice d) ∙ ap turned_contact same)
 
 pub import_number : (h k : ℕ) → ImportEnd 0 h ≡ ImportEnd 0 k → h ≡ k
 import_number h k e = cc e
-
-pub result_number : (h k : ℕ) → ResultEnd h ≡ ResultEnd k → h ≡ k
-result_number h k e = cc e
 
 pub import_apart : (h k : ℕ) → ImportEnd 0 h ≡ ResultEnd k → ⊥
 import_apart h k e = cc e
@@ -76,7 +73,7 @@ module _ (x : Imported) (p : Plan) (is : IsNamePlan x p) where
         serving = λ h c there role. contained p.joints (joint (ResultEnd h) (ImportEnd 0 h)) (is.serving h c there role);
         asking = λ h c there role. contained p.joints (joint (ImportEnd 0 h) (ResultEnd h)) (is.asking h c there role);
         first_one = import_number;
-        second_one = result_number;
+        second_one = same_result;
         apart = λ h k low. import_apart h k;
         reads = λ past turned leads. reads past turned;
         makes = makes;

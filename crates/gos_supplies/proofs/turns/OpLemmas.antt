@@ -7,27 +7,24 @@ use Rattle.std.proofs.lemmas.Bool.Decides.{nat_tests}
 use Rattle.gos_types.specs.declared.shakes.Role.{Role}
 use Rattle.gos_types.specs.declared.shakes.Role.TheVariants.{Serve, Ask}
 use Rattle.gos_types.specs.Events.{Direction, Request, Answer}
+use Rattle.gos_types.proofs.ListLemmas.{some_is_not_none}
 use Rattle.gos_plan.specs.Kinds.{Part, Contact}
 use Rattle.gos_plan.specs.Plans.{End, PartEnd, Joint, Plan, contact_at, IsRight}
 use Rattle.gos_plan.specs.Tokens.{Tokens, IsPortEnd, places_of, token_at, held_at, with_held, with_token, way_taken, way_put}
 use Rattle.gos_plan.specs.Orderly.{Open, named_by, handshake_at, with_open, after_taken, after_put, ComesWell}
 use Rattle.gos_plan.specs.Joining.{Place, place, Wiring, Linked, origin, IsJoining}
-use Rattle.gos_plan.proofs.JointLemmas.{IsIn, stands_there, found, joined}
+use Rattle.gos_plan.proofs.JointLemmas.{IsIn, stands_there, found, joined, asking_stands, serving_stands}
 use Rattle.gos_plan.proofs.HeldLemmas as holding
 use Rattle.gos_realises.specs.realises.Regular.{Pass, is_open}
 use Rattle.gos_realises.specs.realises.Links.{contact_of, LinksFit}
 use Rattle.gos_joining.specs.webs.Webs.{joint}
-use Rattle.gos_plan.proofs.DecidedLemmas.{Told}
-use Rattle.gos_realises.proofs.joined.ReachLemmas.{place_is, told_number, told_end}
-use Rattle.gos_supplies.proofs.turns.StandLemmas.{asks_own, names_own, serves_in, asks_itself, serves_itself, placed_here, placed_apart, lies_in, opened_here, opened_apart, Passed, passed_here, passed_apart, Stands, not_empty, stands_same, took_answer, took_request, put_request, put_answer}
-use Rattle.gos_supplies.proofs.turns.TrailLemmas.{LinksArePorts, IsUnlinked, AsksAt, Segment, Trail, contact_place, link_back, link_ports, segment_roles, segment_one, trail_rest, trail_first, trail_start}
-use Rattle.gos_supplies.proofs.turns.FollowLemmas.{Stand, Family, open_at, lying, shown, OnTrail, HasSource, Follows, told_place, at_place, is_free, is_alone, port_there, joint_trail, trail_joint, chain, seat_contact, one_seat}
-
-pub told_way : (a b : Direction) → Told (a ≡ b)
-told_way Request Request = inl refl
-told_way Request Answer = inr (λ e. cc e)
-told_way Answer Request = inr (λ e. cc e)
-told_way Answer Answer = inl refl
+use Rattle.gos_plan.proofs.DecidedLemmas.{Told, told_way}
+use Rattle.gos_plan.proofs.WiringLemmas.{linked_back, place_is}
+use Rattle.gos_plan.proofs.ProjectionLemmas.{port_by_itself}
+use Rattle.gos_realises.proofs.joined.ReachLemmas.{told_number, told_end, told_place}
+use Rattle.gos_supplies.proofs.turns.StandLemmas.{asks_own, serves_in, placed_here, placed_apart, lies_in, opened_here, opened_apart, Passed, passed_here, passed_apart, Stands, stands_same, took_answer, took_request, put_request, put_answer}
+use Rattle.gos_supplies.proofs.turns.TrailLemmas.{LinksArePorts, IsUnlinked, AsksAt, Segment, Trail, contact_place, link_ports, segment_roles, segment_one, trail_rest, trail_first, trail_start}
+use Rattle.gos_supplies.proofs.turns.FollowLemmas.{Stand, Family, open_at, lying, shown, OnTrail, HasSource, Follows, at_place, is_free, is_alone, port_there, joint_trail, trail_joint, chain, seat_contact, one_seat}
 
 -- one plan takes or puts a token where an end of the whole stands, and what passes is seen by both
 pub record Op (w : Wiring) (r : Plan) (F G : Family) (past after : List Pass) (e : End) (c : Contact) (way : Direction) (h : Option ℕ) (p : Plan) : Type 0 where
@@ -70,7 +67,7 @@ module _ (w : Wiring) (r : Plan) (fit : LinksFit w) (ported : LinksArePorts w) (
   agree_then a b linked =
       let both = link_ports w fit ported a b linked in
       shown_apart a both.0 (λ same. free b (subst (λ (x : Place). Linked w x b) same linked))
-      ∙ (so.agree a b linked ∙ sym (shown_apart b both.1 (λ same. free a (subst (λ (x : Place). Linked w x a) same (link_back w a b linked)))))
+      ∙ (so.agree a b linked ∙ sym (shown_apart b both.1 (λ same. free a (subst (λ (x : Place). Linked w x a) same (linked_back w a b linked)))))
 
   ports_then : (x : End) (b : Contact) → IsPortEnd x → contact_at r x ≡ Some b → is_open after x ≡ shown G (origin w x)
   ports_then x b port there = by_end (told_end e x)
@@ -153,19 +150,19 @@ module _ (w : Wiring) (r : Plan) (fit : LinksFit w) (ported : LinksArePorts w) (
       by_plan (inl same) =
           ap (λ (m : ℕ). (G m).opens x.end) same
           ∙ ((λ i. opens i x.end)
-          ∙ (opened_apart (handshake_at p d) x.end b (F k).opens (λ is. apart (place_is x (origin w e) same (is ∙ names_own p d c right at asks)))
+          ∙ (opened_apart (handshake_at p d) x.end b (F k).opens (λ is. apart (place_is x (origin w e) same (is ∙ port_by_itself p d c right at asks)))
           ∙ ap (λ (m : ℕ). (F m).opens x.end) (sym same)))
       by_plan (inr other) = ap (λ (y : Stand). y.opens x.end) (op.others x.plan other)
 
   open_here : (b : Bool) → c.role ≡ Ask → (G k).opens ≡ with_open (handshake_at p d) b (F k).opens → open_at G (origin w e) ≡ b
-  open_here b asks opens = (λ i. opens i d) ∙ opened_here (handshake_at p d) d b (F k).opens (names_own p d c right at asks)
+  open_here b asks opens = (λ i. opens i d) ∙ opened_here (handshake_at p d) d b (F k).opens (port_by_itself p d c right at asks)
 
   opens_asking : (b : Bool) → c.role ≡ Ask → (G k).opens ≡ with_open (handshake_at p d) b (F k).opens
       → (x : End) (y : Contact) → contact_at r x ≡ Some y → y.role ≡ Ask → with_open (handshake_at r e) b o x ≡ open_at G (origin w x)
   opens_asking b asks opens x y there role = by_end (told_end e x)
     where
       own : handshake_at r e ≡ e
-      own = names_own r e c whole.right op.there asks
+      own = port_by_itself r e c whole.right op.there asks
 
       by_end : Told (e ≡ x) → with_open (handshake_at r e) b o x ≡ open_at G (origin w x)
       by_end (inl same) =
@@ -191,7 +188,7 @@ module _ (w : Wiring) (r : Plan) (fit : LinksFit w) (ported : LinksArePorts w) (
       → contact_at r (PartEnd i g) ≡ None → with_open (handshake_at r e) b o (PartEnd i g) ≡ open_at G (origin w (PartEnd i g))
   lost_asking b asks opens i g f is none =
       opened_apart (handshake_at r e) (PartEnd i g) b o
-      (λ same. (let never : None ≡ Some c = sym none ∙ (ap (contact_at r) (same ∙ names_own r e c whole.right op.there asks) ∙ op.there) in cc never))
+      (λ same. (let never : None ≡ Some c = sym none ∙ (ap (contact_at r) (same ∙ port_by_itself r e c whole.right op.there asks) ∙ op.there) in cc never))
       ∙ (so.lost i g f is none ∙ sym (open_apart b asks opens (origin w (PartEnd i g)) (lost_apart i g f is none)))
 
   abbrev LiesThen : Type 0
@@ -239,7 +236,7 @@ module _ (w : Wiring) (r : Plan) (fit : LinksFit w) (ported : LinksArePorts w) (
       (let same : y ≡ origin w e = place_is y (origin w e) plan (asks_own p d y.end c right at asks named) in
       let starts = trail_start w fit ported m 0 (origin w a) (origin w e) y (is_free w r fit ported whole a x there) free t (sym same) in
       let ends : a ≡ e = is_alone w r fit ported whole a e x c there op.there starts in
-      let placed : places_of r a ≡ Some a = stands_there r (joint a b) a whole.right joined (asks_itself (joint a b)) in
+      let placed : places_of r a ≡ Some a = stands_there r (joint a b) a whole.right joined (asking_stands (joint a b)) in
       let never : None ≡ Some a = sym none ∙ (ap (places_of r) (sym ends) ∙ placed) in
       cc never)
       in
@@ -292,8 +289,8 @@ module _ (w : Wiring) (r : Plan) (fit : LinksFit w) (ported : LinksArePorts w) (
   follows_put_request F G past after e c v p o s op so asks well opens =
       let right = right_then w r fit ported whole F G past after e c Request (Some v) p op o s so in
       let at = at_then w r fit ported whole F G past after e c Request (Some v) p op o s so in (
-        ap o (names_own r e c whole.right op.there asks)
-            ∙ (so.opens e c op.there asks ∙ (ap (F (origin w e).plan).opens (sym (names_own p (origin w e).end c right at asks)) ∙ well)),
+        ap o (port_by_itself r e c whole.right op.there asks)
+            ∙ (so.opens e c op.there asks ∙ (ap (F (origin w e).plan).opens (sym (port_by_itself p (origin w e).end c right at asks)) ∙ well)),
         then_asking w r fit ported whole F G past after e c Request (Some v) p op o s so true asks opens
             (put_request p (origin w e).end c v (F (origin w e).plan).opens (is_open (F (origin w e).plan).past) (is_open (G (origin w e).plan).past)
             (F (origin w e).plan).tokens right at asks well op.own (so.stands (origin w e).plan p op.is))
@@ -321,7 +318,7 @@ module _ (w : Wiring) (r : Plan) (fit : LinksFit w) (ported : LinksArePorts w) (
           let (g, (q, is_q, has_q)) = first_segment n d f t seg in
           let plans : q ≡ p = cc (is_q, op.is) in
           stands_there p (joint (origin w e).end g) (origin w e).end right (subst (λ (x : Plan). IsIn (joint (origin w e).end g) x.joints) plans has_q)
-          (asks_itself (joint (origin w e).end g))
+          (asking_stands (joint (origin w e).end g))
 
       by_place : IsRight p → (f : Option End) → places_of r e ≡ f → LiesThen w r fit ported whole F G past after e c Request (Some v) p op o s so
       by_place right None none = lies_nowhere w r fit ported whole F G past after e c Request (Some v) p op o s so asks none
@@ -357,7 +354,7 @@ module _ (w : Wiring) (r : Plan) (fit : LinksFit w) (ported : LinksArePorts w) (
           let ends : f ≡ (origin w e).end = ap (λ (y : Place). y.end) (sym is) in
           let those : q ≡ p = cc (is_q, op.is, plans) in
           let in_p : IsIn (joint x.end f) p.joints = subst (λ (y : Plan). IsIn (joint x.end f) y.joints) those has_q in
-          (plans, ap (places_of p) (sym ends) ∙ stands_there p (joint x.end f) f right in_p (serves_itself (joint x.end f)))
+          (plans, ap (places_of p) (sym ends) ∙ stands_there p (joint x.end f) f right in_p (serving_stands (joint x.end f)))
 
   -- an answer is put: the whole may put it, and it follows
   pub follows_put_answer : (F G : Family) (past after : List Pass) (e : End) (c : Contact) (v : ℕ) (p : Plan) (o : Open) (s : Tokens)
@@ -390,7 +387,7 @@ module _ (w : Wiring) (r : Plan) (fit : LinksFit w) (ported : LinksArePorts w) (
           joined = trail_joint w r fit ported whole a e b c n (place (origin w e).plan x) (origin w e).end at_a asks_a op.there serving t seg refl
 
           named : places_of r e ≡ Some a
-          named = stands_there r (joint a e) e whole.right joined (serves_itself (joint a e))
+          named = stands_there r (joint a e) e whole.right joined (serving_stands (joint a e))
 
           up : open_at F (place (origin w e).plan x) ≡ true
           up = subst (λ (f : Option End). (F (origin w e).plan).opens (named_by f (origin w e).end) ≡ true) at well.0
@@ -417,8 +414,8 @@ module _ (w : Wiring) (r : Plan) (fit : LinksFit w) (ported : LinksArePorts w) (
                   let sum : n ≡ n - m + m = omega (arith, large) in
                   let rest = trail_rest w fit ported (n - m) m n (origin w a) z (place (origin w e).plan x) sum t' t in
                   elim (chain w r fit ported whole F so.stands so.agree (n - m) z (place (origin w e).plan x) rest up).1 [
-                    | inl same ↦ not_empty y (lying F u z) lies (ap (lying F u) same ∙ none_here u)
-                    | inr none ↦ not_empty y (lying F u z) lies (none u)
+                    | inl same ↦ some_is_not_none y (lying F u z) lies (ap (lying F u) same ∙ none_here u)
+                    | inr none ↦ some_is_not_none y (lying F u z) lies (none u)
                   ]
 
           empty : (u : Direction) (h : Option ℕ) → s.in_place u a ≡ h → s.in_place u a ≡ None

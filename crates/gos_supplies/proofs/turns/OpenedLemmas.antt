@@ -1,24 +1,24 @@
 -- The plan of a function is regular exactly where that of its body is: the argument is the body's last import, by other names.
-use Rattle.std.specs.Prelude.{ℕ, zero, suc, ◌+◌, ◌-◌, ◌<◌, ◌≤◌, Bool, true, false, List, Option, Some, None, slice_get, nat_eq, nat_lt, length, if◌then◌else◌}
+use Rattle.std.specs.Prelude.{ℕ, suc, ◌+◌, ◌-◌, ◌<◌, ◌≤◌, Bool, true, false, List, Option, Some, None, slice_get, nat_eq, nat_lt, length, if◌then◌else◌}
 use Rattle.std.proofs.Common.{◌≡◌, [], ◌∷◌, ◌++◌, refl, sym, ◌∙◌, ap, subst, arith}
 use Rattle.std.proofs.lemmas.Bool.Decides.{nat_tests}
 use Rattle.std.proofs.lemmas.Option.{slice_get_past}
 use Rattle.gos_types.specs.Types.{Type', Fun}
+use Rattle.gos_types.proofs.ListLemmas.{same_in_front}
 use Rattle.gos_model.specs.Typing.{Imported}
 use Rattle.gos_plan.specs.Kinds.{Part, Contact, contacts_of, other_side}
 use Rattle.gos_plan.specs.Plans.{End, PartEnd, ImportEnd, ResultEnd, Joint, Plan, contact_at, contacts_of_part, contacts_of_import, turned_if, same_end, stands_in}
 use Rattle.gos_plan.specs.Tokens.{IsPortEnd, places_of}
-use Rattle.gos_plan.proofs.JointLemmas.{IsIn, same_is, same_itself, Found, found, fits, stands_there, contained}
+use Rattle.gos_plan.proofs.JointLemmas.{IsIn, same_is, same_itself, Found, found, fits, stands_there, contained, listed}
 use Rattle.gos_plan.proofs.SideLemmas.{functions_join}
+use Rattle.gos_plan.proofs.ContactLemmas.{turned_contact_twice, other_side_at}
 use Rattle.gos_realises.specs.realises.Regular.{count, whole_type, whole_end}
 use Rattle.gos_joining.specs.webs.Webs.{joint}
 use Rattle.gos_supplies.specs.applications.Opened.{opened, IsFunctionOf}
-use Rattle.gos_realises.proofs.joined.OriginLemmas.{front_at, behind_at}
+use Rattle.gos_realises.proofs.joined.OriginLemmas.{behind_at}
 use Rattle.gos_supplies.specs.turns.Composed.{FunctionIsRegular}
 use Rattle.gos_supplies.specs.turns.Resting.{FunctionRests}
 use Rattle.gos_supplies.proofs.turns.TypeLemmas.{sides}
-use Rattle.gos_supplies.proofs.turns.TrailLemmas.{turned_twice}
-use Rattle.gos_supplies.proofs.turns.FollowLemmas.{listed}
 use Rattle.gos_supplies.proofs.turns.RelabelLemmas.{Relabels, relabels_back, relabelled_is_regular, relabelled_rests, moved_if}
 
 -- the ends of the function as the body has them, and back, for argument k with n handshakes: one to one also beyond what there is
@@ -132,12 +132,7 @@ one_end i k (y ∷ is) x h sum = by_test (nat_lt h (count y.ty)) refl (one_end (
 
 pub twice_turned : (o : Option Contact) → turned_if (turned_if o) ≡ o
 twice_turned None = refl
-twice_turned (Some c) = ap Some (turned_twice c)
-
-pub turned_side : (cs : List Contact) (h : ℕ) → slice_get (other_side cs) h ≡ turned_if (slice_get cs h)
-turned_side [] h = refl
-turned_side (c ∷ cs) zero = refl
-turned_side (c ∷ cs) (suc h) = turned_side cs h
+twice_turned (Some c) = ap Some (turned_contact_twice c)
 
 module _ (x : Imported) (p q : Plan) (is : IsFunctionOf x p q) where
   abbrev k : ℕ
@@ -147,7 +142,7 @@ module _ (x : Imported) (p q : Plan) (is : IsFunctionOf x p q) where
   n = count x.ty
 
   low_import : (i : ℕ) → i < k → slice_get q.imports i ≡ slice_get p.imports i
-  low_import i low = ap (λ (xs : List Imported). slice_get xs i) is.imports ∙ front_at p.imports (x ∷ []) i low
+  low_import i low = ap (λ (xs : List Imported). slice_get xs i) is.imports ∙ same_in_front p.imports (x ∷ []) i low
 
   last_import : slice_get q.imports k ≡ Some x
   last_import =
@@ -192,7 +187,7 @@ module _ (x : Imported) (p q : Plan) (is : IsFunctionOf x p q) where
           ap (λ (b : Bool). contact_at q (if b then ImportEnd k h else ResultEnd (h - n))) t
           ∙ (ap (λ (o : Option Imported). slice_get (contacts_of_import o) h) last_import
           ∙ sym (ap turned_if (ap (λ (cs : List Contact). slice_get cs h) joined
-          ∙ (front_at (other_side (contacts_of x.ty)) (contacts_of q.outcome) h (omega (arith, low, long)) ∙ turned_side (contacts_of x.ty) h))
+          ∙ (same_in_front (other_side (contacts_of x.ty)) (contacts_of q.outcome) h (omega (arith, low, long)) ∙ other_side_at (contacts_of x.ty) h))
           ∙ twice_turned (slice_get (contacts_of x.ty) h)))
       by_test false t =
           let high : n ≤ h = grind (arith, nat_tests, t) in

@@ -3,29 +3,30 @@ use Rattle.std.specs.Prelude.{ℕ, zero, suc, ◌+◌, ◌-◌, ◌<◌, ◌≤�
 use Rattle.std.proofs.Common.{◌≡◌, [], ◌∷◌, ◌++◌, ◌⊎◌, inl, inr, refl, sym, ◌∙◌, ap, subst, arith}
 use Rattle.std.proofs.lemmas.Bool.Decides.{nat_tests}
 use Rattle.gos_types.specs.Types.{Type', Pair, Fun}
+use Rattle.gos_types.proofs.ListLemmas.{same_in_front}
 use Rattle.gos_model.specs.Typing.{Imported}
 use Rattle.gos_plan.specs.Kinds.{Contact, contacts_of, turned_contact, other_side}
 use Rattle.gos_plan.specs.Plans.{End, PartEnd, ImportEnd, ResultEnd, Plan, contact_at, contacts_of_import, turned_if}
 use Rattle.gos_plan.specs.Tokens.{IsPortEnd}
 use Rattle.gos_plan.specs.TokenBits.{LiteralFits}
-use Rattle.gos_plan.proofs.JointLemmas.{contained}
+use Rattle.gos_plan.proofs.JointLemmas.{contained, same_result}
 use Rattle.gos_plan.proofs.SideLemmas.{pairs_join, functions_join}
 use Rattle.gos_plan.proofs.AskingLemmas.{behind}
+use Rattle.gos_plan.proofs.ContactLemmas.{turned_contact_twice}
 use Rattle.gos_realises.specs.realises.Regular.{Pass, count, some_open, beyond, KeepsTurnsOf}
 use Rattle.gos_realises.proofs.realises.GroundTurnLemmas.{some_there, there_some}
 use Rattle.gos_realises.proofs.realises.LiteralLemmas.{no_literals, literals_same, literals_append, literals_joined}
 use Rattle.gos_joining.specs.webs.Webs.{joint}
-use Rattle.gos_realises.proofs.joined.OriginLemmas.{front_at, behind_at}
+use Rattle.gos_realises.proofs.joined.OriginLemmas.{behind_at}
 use Rattle.gos_supplies.specs.turns.Resting.{PairPlanRests, PairRests}
 use Rattle.gos_supplies.specs.turns.Pairs.{IsPairPlan, PairPlanIsRegular, PairIsRegular}
-use Rattle.gos_supplies.proofs.turns.TrailLemmas.{turned_twice}
 use Rattle.gos_supplies.proofs.turns.GoesLemmas.{IsTurned}
 use Rattle.gos_realises.proofs.realises.CountLemmas.{count_pair}
 use Rattle.gos_supplies.proofs.turns.TypeLemmas.{sides}
 use Rattle.gos_supplies.proofs.turns.TurnedLemmas.{res, to_each, from_each, busy_fun}
 use Rattle.gos_supplies.proofs.turns.BetweenLemmas.{Leads, busy_to, pair_first, pair_second, fun_first, both_up, not_both}
 use Rattle.gos_supplies.proofs.turns.CopyLemmas.{copy_rests, IsCopy, shown_at, copy_is_regular}
-use Rattle.gos_supplies.proofs.turns.NameLemmas.{unturned, result_number}
+use Rattle.gos_supplies.proofs.turns.NameLemmas.{unturned}
 use Rattle.gos_supplies.proofs.turns.ApplyLemmas.{applying_is_regular, applying_rests}
 
 first_busy : (a b : Type') (f : ℕ → Bool) → some_open (count a) f ≡ true → some_open (count (Pair a b)) f ≡ true
@@ -55,7 +56,7 @@ module _ (a b : Type') where
       by_test : (t : Bool) → nat_lt h (count a) ≡ t → slice_get (contacts_of whole) h ≡ Some (turned_contact c)
       by_test true test =
           let low : h < count a = grind (arith, nat_tests, test) in
-          fun_first a (Fun b (Pair a b)) h c (sym (front_at (contacts_of a) (contacts_of b) h low) ∙ at)
+          fun_first a (Fun b (Pair a b)) h c (sym (same_in_front (contacts_of a) (contacts_of b) h low) ∙ at)
       by_test false test =
           let high : count a ≤ h = grind (arith, nat_tests, test) in
           let long = sides a (Fun b (Pair a b)) in
@@ -83,7 +84,7 @@ module _ (a b : Type') (p : Plan) (is : IsPairPlan a b p) where
   there_is (c ∷ cs) (suc h) low = there_is cs h (omega (arith, low))
 
   first_contact : (h : ℕ) (c : Contact) → slice_get (contacts_of (Pair a b)) h ≡ Some c → contact_at p (ResultEnd h) ≡ Some c
-  first_contact h c there = at_end h ∙ (ap turned_if (argument_at a b h c there) ∙ ap Some (turned_twice c))
+  first_contact h c there = at_end h ∙ (ap turned_if (argument_at a b h c there) ∙ ap Some (turned_contact_twice c))
 
   cover : (e : End) (c : Contact) → IsPortEnd e → contact_at p e ≡ Some c
       → ((h : ℕ) × (ResultEnd h ≡ e) × (slice_get (contacts_of (Pair a b)) h ≡ Some c))
@@ -159,9 +160,9 @@ module _ (a b : Type') (p : Plan) (is : IsPairPlan a b p) where
         second_there = λ h c there. (tt, at_end (after a b h) ∙ ap turned_if (result_same a b h ∙ there));
         serving = λ h c there role. contained p.joints (joint (ResultEnd (after a b h)) (ResultEnd h)) (is.serving h c there role);
         asking = λ h c there role. contained p.joints (joint (ResultEnd h) (ResultEnd (after a b h))) (is.asking h c there role);
-        first_one = λ h k e. result_number h k e;
-        second_one = λ h k e. (let same = result_number (after a b h) (after a b k) e in omega (arith, same));
-        apart = λ h k low e. (let same = result_number h (after a b k) e in let sum = count_pair a b in omega (arith, low, same, sum));
+        first_one = λ h k e. same_result h k e;
+        second_one = λ h k e. (let same = same_result (after a b h) (after a b k) e in omega (arith, same));
+        apart = λ h k low e. (let same = same_result h (after a b k) e in let sum = count_pair a b in omega (arith, low, same, sum));
         reads = reads;
         makes = makes;
       }

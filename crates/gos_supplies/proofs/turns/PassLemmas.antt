@@ -1,13 +1,12 @@
 -- Turns pass through a wiring in which each link joins an import, or the argument of a function, to the result of a plan that
 -- stands for it.
-use Rattle.std.specs.Prelude.{ℕ, zero, suc, ◌+◌, ◌<◌, Bool, true, false, List, Option, Some, None, slice_get, nat_eq, length, if◌then◌else◌, option_map}
-use Rattle.std.proofs.Common.{◌≡◌, [], ◌∷◌, ◌⊎◌, inl, inr, refl, sym, ◌∙◌, ap, subst, arith}
+use Rattle.std.specs.Prelude.{ℕ, ◌+◌, ◌<◌, Bool, true, false, List, Option, Some, None, slice_get, nat_eq, if◌then◌else◌, option_map}
+use Rattle.std.proofs.Common.{◌≡◌, ◌∷◌, ◌⊎◌, inl, inr, refl, sym, ◌∙◌, ap, subst, arith}
 use Rattle.std.proofs.lemmas.Option.{slice_get-map, slice_get_within}
-use Rattle.gos_types.specs.declared.shakes.Role.{Role}
-use Rattle.gos_types.specs.declared.shakes.Role.TheVariants.{Serve, Ask}
 use Rattle.gos_types.specs.Types.{Type', Fun}
 use Rattle.gos_types.specs.Handshakes.{turned}
 use Rattle.gos_types.specs.Events.{Direction}
+use Rattle.gos_types.proofs.ListLemmas.{element_at}
 use Rattle.gos_model.specs.Typing.{Imported}
 use Rattle.gos_plan.specs.Kinds.{Contact, contacts_of, turned_contact}
 use Rattle.gos_plan.specs.Plans.{End, PartEnd, ImportEnd, ResultEnd, Plan, contact_at, contacts_of_import, turned_if}
@@ -17,11 +16,12 @@ use Rattle.gos_realises.specs.realises.Regular.{Pass, pass, is_open, is_request,
 use Rattle.gos_realises.specs.realises.Links.{contact_of, LinksFit}
 use Rattle.gos_realises.proofs.realises.GroundTurnLemmas.{some_there, there_some, count_fun}
 use Rattle.gos_plan.proofs.DecidedLemmas.{Told}
-use Rattle.gos_realises.proofs.joined.ReachLemmas.{place_is, told_number, told_end}
+use Rattle.gos_realises.proofs.joined.ReachLemmas.{told_number, told_end}
 use Rattle.gos_realises.proofs.joined.OriginLemmas.{left_at}
-use Rattle.gos_plan.proofs.JointLemmas.{same_itself}
-use Rattle.gos_supplies.proofs.turns.StandLemmas.{same_apart}
-use Rattle.gos_supplies.proofs.turns.TrailLemmas.{LinksArePorts, contact_place, link_contacts, link_back, turned_twice}
+use Rattle.gos_plan.proofs.JointLemmas.{same_itself, apart_is_not_same}
+use Rattle.gos_plan.proofs.ContactLemmas.{turned_contact_twice, turned_put, turned_taken}
+use Rattle.gos_plan.proofs.WiringLemmas.{linked_back, place_is}
+use Rattle.gos_supplies.proofs.turns.TrailLemmas.{LinksArePorts, contact_place, link_contacts}
 use Rattle.gos_supplies.proofs.turns.FollowLemmas.{is_free, is_alone}
 use Rattle.gos_supplies.proofs.turns.GoesLemmas.{IsTurned, AllTurned, AllAgree, PortsAgree, LooseShut, PassesTurns}
 use Rattle.gos_joining.proofs.renumbered.TurnLemmas.{Agree, some_agree, turns_agree}
@@ -64,23 +64,10 @@ pub record Composes (w : Wiring) (r : Plan) : Type 0 where
       → LooseShut w r P → IsTurned giver (P w.giver) → some_open (count giver.outcome) (res (P w.giver)) ≡ true
       → some_open (count w.outcome) (λ g. res (P w.giver) (w.skipped + g)) ≡ true
 
-there_is : {X : Type 0} (xs : List X) (h : ℕ) → h < length xs → (x : X) × (slice_get xs h ≡ Some x)
-there_is [] h low = absurd (omega (arith, low))
-there_is (x ∷ xs) zero low = (x, refl)
-there_is (x ∷ xs) (suc h) low = there_is xs h (omega (arith, low))
-
 unturn : (o : Option Contact) (c : Contact) → turned_if o ≡ Some (turned_contact c) → o ≡ Some c
 unturn None c e = absurd (cc e)
 unturn (Some d) c e =
-    let same : turned_contact d ≡ turned_contact c = cc e in ap Some (sym (turned_twice d) ∙ (ap turned_contact same ∙ turned_twice c))
-
-turned_taken : (role : Role) → way_taken (turned role) ≡ way_put role
-turned_taken Serve = refl
-turned_taken Ask = refl
-
-turned_put : (role : Role) → way_put (turned role) ≡ way_taken role
-turned_put Serve = refl
-turned_put Ask = refl
+    let same : turned_contact d ≡ turned_contact c = cc e in ap Some (sym (turned_contact_twice d) ∙ (ap turned_contact same ∙ turned_contact_twice c))
 
 -- one more has passed a port of one plan
 abbrev adding : ℕ → Pass → (ℕ → List Pass) → ℕ → List Pass
@@ -102,7 +89,7 @@ shown_else k d way P a apart = by_told (told_number a.plan k)
   where
     by_told : Told (a.plan ≡ k) → is_open (adding k (pass d way) P a.plan) a.end ≡ is_open (P a.plan) a.end
     by_told (inl same) =
-        let other = same_apart d a.end (λ ends. apart (place_is a (place k d) same (sym ends))) in
+        let other = apart_is_not_same d a.end (λ ends. apart (place_is a (place k d) same (sym ends))) in
         ap (λ (q : List Pass). is_open q a.end) (adding_here k (pass d way) P a.plan same) ∙ (λ i. if other i then is_request way else is_open (P a.plan) a.end)
     by_told (inr other) = ap (λ (q : List Pass). is_open q a.end) (adding_else k (pass d way) P a.plan other)
 
@@ -148,12 +135,12 @@ module _ (w : Wiring) (r : Plan) (fit : LinksFit w) (ported : LinksArePorts w) (
   import_agree : (P : ℕ → List Pass) (past : List Pass) → PortsAgree w r P past → (i : ℕ) (x : Imported) (v : ImportView w i x) → slice_get r.imports i ≡ Some x
       → Agree (count x.ty) (imp past i) (imp (P v.plan) v.number)
   import_agree P past ports i x v at h low =
-      let (c, there) = there_is (contacts_of x.ty) h low in
+      let (c, there) = element_at (contacts_of x.ty) h low in
       ports (ImportEnd i h) c tt (import_contact i h x c at there) ∙ ap (λ (z : Place). is_open (P z.plan) z.end) (v.stands h)
 
   pub result_agree : (P : ℕ → List Pass) (past : List Pass) → PortsAgree w r P past → Agree (count w.outcome) (res past) (λ g. res (P w.giver) (w.skipped + g))
   result_agree P past ports h low =
-      let (c, there) = there_is (contacts_of w.outcome) h low in
+      let (c, there) = element_at (contacts_of w.outcome) h low in
       ports (ResultEnd h) (turned_contact c) tt (ap (λ (t : Type'). turned_if (slice_get (contacts_of t) h)) whole.outcome ∙ ap turned_if there)
 
   -- where a plan's result is busy the giver's is
@@ -219,7 +206,7 @@ module _ (w : Wiring) (r : Plan) (fit : LinksFit w) (ported : LinksArePorts w) (
           shown_else (origin w e).plan (origin w e).end way P a (λ same. is_free w r fit ported whole e c there b (subst (λ (z : Place). Linked w z b) same linked))
           ∙ (agree a b linked
           ∙ sym (shown_else (origin w e).plan (origin w e).end way P b
-          (λ same. is_free w r fit ported whole e c there a (subst (λ (z : Place). Linked w z a) same (link_back w a b linked)))))
+          (λ same. is_free w r fit ported whole e c there a (subst (λ (z : Place). Linked w z a) same (linked_back w a b linked)))))
 
       shut_then : LooseShut w r Q
       shut_then a port_a loose =
@@ -235,7 +222,7 @@ module _ (w : Wiring) (r : Plan) (fit : LinksFit w) (ported : LinksArePorts w) (
               ∙ sym (ap (λ (q : List Pass). is_open q (origin w e).end) (adding_here (origin w e).plan (pass (origin w e).end way) P (origin w e).plan refl)
               ∙ (let two = same_itself (origin w e).end in λ i. if two i then is_request way else is_open (P (origin w e).plan) (origin w e).end)))
           by_told (inr apart) =
-              (let other = same_apart e x apart in λ i. if other i then is_request way else is_open past x)
+              (let other = apart_is_not_same e x apart in λ i. if other i then is_request way else is_open past x)
               ∙ (ports x d port_x at_x
               ∙ sym (shown_else (origin w e).plan (origin w e).end way P (origin w x) (λ same. apart (is_alone w r fit ported whole e x c d there at_x (sym same)))))
 
@@ -303,7 +290,7 @@ module _ (w : Wiring) (r : Plan) (fit : LinksFit w) (ported : LinksArePorts w) (
       contact : slice_get (contacts_of w.outcome) h ≡ Some (turned_contact c)
       contact =
           unturn (slice_get (contacts_of w.outcome) h) (turned_contact c)
-          (sym (ap (λ (t : Type'). turned_if (slice_get (contacts_of t) h)) whole.outcome) ∙ (there ∙ ap Some (sym (turned_twice c))))
+          (sym (ap (λ (t : Type'). turned_if (slice_get (contacts_of t) h)) whole.outcome) ∙ (there ∙ ap Some (sym (turned_contact_twice c))))
 
       agree_then : Agree (count w.outcome) (res (pass (ResultEnd h) way ∷ past)) (λ g. res (pass (ResultEnd (w.skipped + h)) way ∷ P w.giver) (w.skipped + g))
       agree_then g low = by_told (told_same g h)
@@ -450,7 +437,7 @@ module _ (w : Wiring) (r : Plan) (fit : LinksFit w) (ported : LinksArePorts w) (
       by_pair : IsPair w a b ⊎ IsPair w b a → IsTurned q (pass b.end way ∷ P b.plan)
       by_pair (inl pair) = to_result P agree turned a b p q c way pair linked is_p is_q at ways new
       by_pair (inr pair) =
-          from_result P agree turned b a q p (turned_contact c) way pair (link_back w a b linked) is_q is_p at_b (turned_put c.role ∙ ways) new
+          from_result P agree turned b a q p (turned_contact c) way pair (linked_back w a b linked) is_q is_p at_b (turned_put c.role ∙ ways) new
 
   pub passes_turns : PassesTurns w r
   passes_turns = record { crosses = crosses; enters = enters; leaves = leaves }

@@ -11,11 +11,11 @@ use Rattle.gos_plan.specs.Tokens.{Tokens, places_of, held_at, token_at, end_of, 
 use Rattle.gos_plan.specs.TokenBits.{LiteralFits}
 use Rattle.gos_plan.specs.Orderly.{Open, AllWelcome}
 use Rattle.gos_plan.specs.Joining.{Place, place, Wiring, Linked, origin, IsJoining}
-use Rattle.gos_plan.proofs.JointLemmas.{IsIn, found, stands_there}
+use Rattle.gos_plan.proofs.JointLemmas.{IsIn, found, stands_there, asking_stands, serving_stands}
 use Rattle.gos_realises.specs.realises.Regular.{Pass, IsRegular}
 use Rattle.gos_realises.specs.realises.Links.{LinksFit}
 use Rattle.gos_joining.specs.webs.Webs.{joint}
-use Rattle.gos_supplies.proofs.turns.StandLemmas.{asks_own, serves_in, asks_itself, serves_itself, lies_in}
+use Rattle.gos_supplies.proofs.turns.StandLemmas.{asks_own, serves_in, lies_in}
 use Rattle.gos_supplies.proofs.turns.TrailLemmas.{LinksArePorts, IsUnlinked, Segment, Trail, trail_rest, trail_first, segment_one}
 use Rattle.gos_supplies.proofs.turns.FollowLemmas.{Family, lying, is_free, joint_trail, seat}
 use Rattle.gos_supplies.proofs.turns.GoesLemmas.{PassesTurns, Goes, SameStates, on_the_way, goes_on, goes_home}
@@ -42,8 +42,8 @@ module _ (w : Wiring) (r : Plan) (fit : LinksFit w) (ported : LinksArePorts w) (
   placed_at d f p is (q, is_q, has) =
       let those : q ≡ p = cc (is_q, is) in
       let in_p : IsIn (joint d.end f) p.joints = subst (λ (y : Plan). IsIn (joint d.end f) y.joints) those has in (
-        stands_there p (joint d.end f) d.end (fit.right d.plan p is) in_p (asks_itself (joint d.end f)),
-        stands_there p (joint d.end f) f (fit.right d.plan p is) in_p (serves_itself (joint d.end f)),
+        stands_there p (joint d.end f) d.end (fit.right d.plan p is) in_p (asking_stands (joint d.end f)),
+        stands_there p (joint d.end f) f (fit.right d.plan p is) in_p (serving_stands (joint d.end f)),
       )
 
   -- a token on the joint of an end is at the end

@@ -3,6 +3,7 @@ use Rattle.std.specs.Prelude.{ℕ, Bool, true, false, ◌&&◌, List, Option, So
 use Rattle.std.proofs.Common.{◌≡◌, [], ◌∷◌, refl, sym, ◌∙◌, ap, subst}
 use Rattle.gos_types.specs.Types.{Type'}
 use Rattle.gos_types.specs.Events.{Direction, Request, Answer}
+use Rattle.gos_types.proofs.BoolLemmas.{same_tests}
 use Rattle.gos_plan.specs.Kinds.{Part, Contact}
 use Rattle.gos_plan.specs.Firing.{Slot, Token, Row}
 use Rattle.gos_plan.specs.Plans.{End, PartEnd, Plan, contact_at, same_end}
@@ -10,7 +11,6 @@ use Rattle.gos_plan.specs.Tokens.{Tokens, Element, Fire, Out, In, IsPortEnd, pla
 use Rattle.gos_plan.specs.Orderly.{Open, none_open, named_by, handshake_at, with_open, after_taken, after_put, after_puts, ComesWell, AllComeWell, ComesInOrder, AllWelcome, OrderlyFrom, IsOrderly}
 use Rattle.gos_plan.proofs.JointLemmas.{same_itself, same_is}
 use Rattle.gos_realises.specs.realises.Regular.{Pass, pass, way_in, way_out, is_open, is_request, KeepsTurnsOf, whole_type, whole_end, ComesInTurn, KeepsTurns, InputsKeepTurns, OutputsKeepTurns, IsRegular}
-use Rattle.gos_joining.proofs.webs.MovedLemmas.{same_bool}
 use Rattle.gos_supplies.specs.turns.Rests.{passes, AllShut, Rests}
 
 abbrev pub moved_if : (End → End) → Option End → Option End
@@ -74,7 +74,7 @@ whole_open p past h = is_open past (whole_end 0 p.imports h)
 
 module _ (m b : End → End) (p q : Plan) (is : Relabels m b p q) where
   same_moved : (d a : End) → same_end d (m a) ≡ same_end (b d) a
-  same_moved d a = same_bool (same_end d (m a)) (same_end (b d) a) to from
+  same_moved d a = same_tests (same_end d (m a)) (same_end (b d) a) to from
     where
       to : same_end d (m a) ≡ true → same_end (b d) a ≡ true
       to h =

@@ -4,14 +4,16 @@
 use Rattle.std.specs.Prelude.{ℕ, Bool, true, false, List, Option, Some, None, slice_get, nat_eq, if◌then◌else◌}
 use Rattle.std.proofs.Common.{◌≡◌, [], ◌∷◌, ◌⊎◌, inl, inr, refl, sym, ◌∙◌, ap, subst, arith}
 use Rattle.std.proofs.lemmas.Option.{slice_get_within}
+use Rattle.std.proofs.lemmas.Bool.{false_from_ne_true}
 use Rattle.gos_types.specs.Events.{Direction}
 use Rattle.gos_model.specs.Typing.{Imported}
 use Rattle.gos_plan.specs.Kinds.{Part, Contact, contacts_of}
 use Rattle.gos_plan.specs.Firing.{Rest, State, Slot, Token, Row}
-use Rattle.gos_plan.specs.Plans.{End, PartEnd, ImportEnd, ResultEnd, Joint, Plan, contact_at, contacts_of_import, turned_if, same_end}
+use Rattle.gos_plan.specs.Plans.{End, PartEnd, ImportEnd, ResultEnd, Joint, Plan, contact_at, contacts_of_import, same_end}
 use Rattle.gos_plan.specs.Tokens.{Tokens, Element, Fire, Out, In, IsPortEnd, with_token, with_state, with_puts, end_of, way_of, fired, firing_of, way_taken, way_put, Passes, Does, Runs, IsIdle}
 use Rattle.gos_plan.proofs.JointLemmas.{IsIn, Found, found, same_is, same_itself}
 use Rattle.gos_plan.proofs.TurnLemmas.{token_state}
+use Rattle.gos_plan.proofs.ContactLemmas.{turned_some}
 use Rattle.gos_realises.specs.realises.Regular.{Pass, pass, way_in, way_out, is_open, is_request, count, some_open}
 use Rattle.gos_realises.proofs.realises.GroundTurnLemmas.{there_some}
 use Rattle.gos_realises.proofs.realises.InputLemmas.{passed, in_there, out_there}
@@ -135,15 +137,11 @@ open_ports p (In d v ∷ xs) s t past e (y, does, runs) up = afterwards (open_po
     afterwards (inr port) = inr port
 
 -- where the result is closed all is, since turns are kept
-some_contact : (o : Option Contact) (c : Contact) → turned_if o ≡ Some c → (d : Contact) × (o ≡ Some d)
-some_contact None c e = absurd (cc e)
-some_contact (Some d) c e = (d, refl)
-
 pub shut_ports : (p : Plan) (past : List Pass) → IsTurned p past → (some_open (count p.outcome) (res past) ≡ true → ⊥) → (e : End) → IsPortThere p e
     → is_open past e ≡ true → ⊥
 shut_ports p past turned shut (PartEnd i h) (port, there) up = port
 shut_ports p past turned shut (ResultEnd h) (port, (c, there)) up =
-    let (d, at) = some_contact (slice_get (contacts_of p.outcome) h) c there in
+    let (d, at) = turned_some (slice_get (contacts_of p.outcome) h) c there in
     shut (there_some (count p.outcome) (res past) h (slice_get_within (contacts_of p.outcome) h d at) up)
 shut_ports p past turned shut (ImportEnd i h) (port, (c, there)) up = by_import (slice_get p.imports i) refl
   where
@@ -154,17 +152,13 @@ shut_ports p past turned shut (ImportEnd i h) (port, (c, there)) up = by_import 
         let contact : slice_get (contacts_of x.ty) h ≡ Some c = sym (ap (λ (o : Option Imported). slice_get (contacts_of_import o) h) at) ∙ there in
         shut (((to_each p past turned).0 i x at).1 (there_some (count x.ty) (imp past i) h (slice_get_within (contacts_of x.ty) h c contact) up))
 
-pub not_open : (b : Bool) → (b ≡ true → ⊥) → b ≡ false
-not_open true never = absurd (never refl)
-not_open false never = refl
-
 none_open_at_first : (e : End) → is_open [] e ≡ true → ⊥
 none_open_at_first e up = cc up
 
 pub all_shut : (p : Plan) (xs : List Element) (s t : Tokens) → Runs p xs s t → IsTurned p (passed p [] xs)
     → (some_open (count p.outcome) (res (passed p [] xs)) ≡ true → ⊥) → AllShut (passes p [] xs)
 all_shut p xs s t runs turned shut e =
-    subst (λ (past : List Pass). is_open past e ≡ false) (sym (passes_are p [] xs)) (not_open (is_open (passed p [] xs) e) never)
+    subst (λ (past : List Pass). is_open past e ≡ false) (sym (passes_are p [] xs)) (false_from_ne_true (is_open (passed p [] xs) e) never)
   where
     never : is_open (passed p [] xs) e ≡ true → ⊥
     never up = by_port (open_ports p xs s t [] e runs up)

@@ -2,22 +2,16 @@
 use Rattle.std.specs.Prelude.{ℕ, ◌<◌, ◌^◌, List, [], ◌∷◌, ◌++◌, Option, Some, None}
 use Rattle.std.proofs.Common.{◌≡◌, refl, sym, ◌∙◌, ap, subst}
 use Rattle.gos_types.specs.Events.{Direction}
+use Rattle.gos_types.proofs.ListLemmas.{some_is_not_none}
 use Rattle.gos_plan.specs.Kinds.{Contact}
 use Rattle.gos_plan.specs.Plans.{End, Plan, contact_at}
 use Rattle.gos_plan.specs.Tokens.{Tokens, Element, Out, In, IsPortEnd, end_of, way_of, bits_of, way_taken, way_put, token_at, with_token, Passes, Does, Runs, IsIdle}
 use Rattle.gos_plan.specs.Orderly.{Open, none_open, after_taken, after_put, ComesWell, ComesInOrder, AllWelcome, OrderlyFrom}
+use Rattle.gos_plan.proofs.ElementLemmas.{orderly_then}
 use Rattle.gos_realises.specs.realises.Regular.{Pass, pass, way_in, way_out, KeepsTurns, InputsKeepTurns, OutputsKeepTurns, IsRegular}
 use Rattle.gos_realises.proofs.realises.InputLemmas.{passed, passed_then, inputs_then, outputs_last, last_order, runs_then}
 use Rattle.gos_realises.proofs.realises.RingLemmas.{after}
-use Rattle.gos_supplies.proofs.turns.StandLemmas.{lies_in, not_empty}
-
--- an orderly list, and then one more
-order_then : (p : Plan) (xs ys : List Element) (o m u : Open) (s w t : Tokens) → OrderlyFrom p xs o s m w → OrderlyFrom p ys m w u t
-    → OrderlyFrom p (xs ++ ys) o s u t
-order_then p [] ys o m u s w t h k =
-    subst (λ (y : Open). OrderlyFrom p ys y s u t) h.0 (subst (λ (y : Tokens). OrderlyFrom p ys m y u t) h.1 k)
-order_then p (x ∷ xs) ys o m u s w t (n, z, does, comes, welcome, rest) k =
-    (n, z, does, comes, welcome, order_then p xs ys n m u z w t rest k)
+use Rattle.gos_supplies.proofs.turns.StandLemmas.{lies_in}
 
 -- A list so far, from an idle state, whose inputs keep turns: what it leaves open, what passed, and the tokens.
 pub record Reached (p : Plan) (o : Open) (past : List Pass) (s : Tokens) : Type 0 where
@@ -41,7 +35,7 @@ at_first p s idle =
       orderly = (refl, refl);
       is_past = refl;
       welcome = λ i t c v there way lies.
-          (let (a, named, is) = lies_in p (end_of i t) (way_of t) v s lies in absurd (not_empty v (s.in_place (way_of t) a) is (idle.0 (way_of t) a)));
+          (let (a, named, is) = lies_in p (end_of i t) (way_of t) v s lies in absurd (some_is_not_none v (s.in_place (way_of t) a) is (idle.0 (way_of t) a)));
     }
 
 -- one more element
@@ -71,7 +65,7 @@ next p x o past s t regular so does keeps =
             idle = so.idle;
             runs = runs;
             inputs = inputs;
-            orderly = order_then p so.list (x ∷ []) none_open o m so.first s t so.orderly (m, t, does, comes, welcome, (refl, refl));
+            orderly = orderly_then p so.list (x ∷ []) none_open o m so.first s t so.orderly (m, t, does, comes, welcome, (refl, refl));
             is_past = passed_then p [] so.list x ∙ ap (after p x) so.is_past;
             welcome = welcome;
           };

@@ -11,6 +11,7 @@ use Rattle.gos_realises.specs.realises.Regular.{count, IsRegular}
 use Rattle.gos_realises.specs.realises.Wirings.{link}
 use Rattle.gos_realises.specs.realises.Realises.{Realises}
 use Rattle.gos_realises.specs.realises.Modules.{Supply, plans_of, AreSupplied, imports_linked, supplying}
+use Rattle.gos_realises.proofs.realises.FittingLemmas.{supply_at}
 use Rattle.gos_supplies.specs.instances.Served.{serving}
 use Rattle.gos_supplies.specs.turns.Composed.{ServingIsRegular, SuppliedIsRegular}
 use Rattle.gos_supplies.proofs.turns.TrailLemmas.{LinksArePorts}
@@ -97,13 +98,6 @@ serving_rests k x p q r at q_type p_literals q_literals p_regular q_regular p_re
     (served_composes k x p q r at q_type)
 
 -- the supply of an import, and the import of a supply
-supply_of : (is : List Imported) (ss : List Supply) (k : ℕ) (x : Imported) → AreSupplied is ss → slice_get is k ≡ Some x
-    → (s : Supply) × (slice_get (plans_of ss) k ≡ Some s.plan) × Realises x.ty s.plan s.term
-supply_of [] ss k x are at = absurd (cc at)
-supply_of (i ∷ is) [] k x are at = absurd are
-supply_of (i ∷ is) (s ∷ ss) zero x are at = let same : i ≡ x = cc at in (s, refl, subst (λ (y : Imported). Realises y.ty s.plan s.term) same are.0)
-supply_of (i ∷ is) (s ∷ ss) (suc k) x are at = supply_of is ss k x are.1 at
-
 import_of : (is : List Imported) (ss : List Supply) (k : ℕ) (z : Plan) → AreSupplied is ss → slice_get (plans_of ss) k ≡ Some z
     → (x : Imported) × (s : Supply) × (slice_get is k ≡ Some x) × (s.plan ≡ z) × Realises x.ty s.plan s.term
 import_of [] [] k z are at = absurd (cc at)
@@ -139,7 +133,7 @@ module _ (p r : Plan) (ss : List Supply) (are : AreSupplied p.imports ss) where
   unfolding all_stand
   all_pairs c d (l, has, ways) =
       let (k, x, h, at, low, same) = of_imports 0 p.imports l has in
-      let (s, at_s, real) = supply_of p.imports ss k x are at in
+      let (s, at_s, real) = supply_at p.imports ss k x are at in
       let e : 0 + k ≡ k = omega arith in
       of_ends all c d l k (suc k) h ways (same ∙ ap (λ (n : ℕ). link 0 (ImportEnd n h) (suc n) (ResultEnd h)) e)
       (p, s.plan, h, refl, at_s, refl, subst (λ (t : Type'). h < count t) (sym real.suits.outcome) low, inl (all_stand k x s at real, refl))

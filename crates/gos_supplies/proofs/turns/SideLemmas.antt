@@ -1,17 +1,19 @@
 -- Each side of a regular plan of a product is regular.
 use Rattle.std.specs.Prelude.{ℕ, zero, suc, ◌+◌, ◌-◌, ◌<◌, Bool, true, false, ◌&&◌, IsFalse, List, Option, Some, None, All, slice_get, nat_lt}
 use Rattle.std.proofs.lemmas.Bool.Decides.{nat_tests}
-use Rattle.std.proofs.Common.{◌≡◌, [], ◌∷◌, ◌⊎◌, inl, inr, refl, sym, ◌∙◌, ap, subst, arith}
+use Rattle.std.proofs.Common.{◌≡◌, [], ◌∷◌, ◌⊎◌, inl, inr, refl, sym, ◌∙◌, ap, subst, arith, zero-add}
 use Rattle.std.proofs.lemmas.Option.{slice_get_within}
+use Rattle.std.proofs.lemmas.Bool.{and_right, and_left}
 use Rattle.gos_types.specs.Types.{Type', Pair}
 use Rattle.gos_types.specs.Events.{Direction}
+use Rattle.gos_types.proofs.ListLemmas.{found_in_front}
 use Rattle.gos_plan.specs.Kinds.{Contact, contacts_of}
 use Rattle.gos_plan.specs.Plans.{End, PartEnd, ImportEnd, ResultEnd, Plan, contact_at, turned_if}
 use Rattle.gos_plan.specs.Tokens.{way_taken}
 use Rattle.gos_plan.specs.TokenBits.{LiteralFits}
 use Rattle.gos_plan.specs.Joining.{Place, place, Linked, origin, IsJoining}
 use Rattle.gos_plan.proofs.SideLemmas.{pairs_join}
-use Rattle.gos_plan.proofs.AskingLemmas.{front, behind}
+use Rattle.gos_plan.proofs.AskingLemmas.{behind}
 use Rattle.gos_realises.specs.realises.Regular.{Pass, pass, count, some_open, beyond, KeepsTurnsOf, IsRegular}
 use Rattle.gos_realises.specs.realises.Links.{LinksFit}
 use Rattle.gos_realises.specs.realises.Wirings.{side}
@@ -30,21 +32,14 @@ use Rattle.gos_supplies.specs.turns.Rests.{Rests}
 use Rattle.gos_supplies.specs.turns.Resting.{SidesRest}
 use Rattle.gos_supplies.proofs.turns.JoinedRestLemmas.{joining_rests}
 
-none_some : (n : ℕ) (f : ℕ → Bool) → ((h : ℕ) → h < n → f h ≡ false) → some_open n f ≡ false
-none_some n f shut = by_test (some_open n f) refl
+pub none_open : (n : ℕ) (f : ℕ → Bool) → ((h : ℕ) → h < n → f h ≡ false) → some_open n f ≡ false
+none_open n f shut = by_test (some_open n f) refl
   where
     by_test : (b : Bool) → some_open n f ≡ b → b ≡ false
     by_test false t = refl
     by_test true t =
         let (k, low, up) = some_there n f t in
         let never : true ≡ false = sym up ∙ shut k low in cc never
-
-and_false : (b c : Bool) → c ≡ false → (b && c) ≡ false
-and_false true c shut = shut
-and_false false c shut = refl
-
-false_and : (b c : Bool) → b ≡ false → (b && c) ≡ false
-false_and b c shut = ap (λ (x : Bool). x && c) shut
 
 -- a product of which one side is closed is busy where the other is
 pub pair_busy : (a b : Type') (f : ℕ → Bool) → some_open (count (Pair a b)) f ≡ true → (some_open (count a) f ≡ true) ⊎ (some_open (count b) (beyond (count a) f) ≡ true)
@@ -59,9 +54,6 @@ pair_busy a b f busy = of_open (some_there (count (Pair a b)) f busy)
             let high : count a + (k - count a) ≡ k = grind (arith, nat_tests, test) in
             let sum = count_pair a b in
             inr (there_some (count b) (beyond (count a) f) (k - count a) (omega (arith, low, sum, high)) (ap f high ∙ up))
-
-zeros : (n : ℕ) → 0 + n ≡ n
-zeros n = omega arith
 
 module _ (a b : Type') (p : Plan) (p_type : p.outcome ≡ Pair a b) where
   pair_turns : (P : List Pass) → IsTurned p P → KeepsTurnsOf (Pair a b) (res P)
@@ -105,7 +97,7 @@ module _ (a b : Type') (p : Plan) (p_type : p.outcome ≡ Pair a b) where
     first_shut : LinksFit (side 0 a p) → IsJoining (side 0 a p) r → (P : ℕ → List Pass) → LooseShut (side 0 a p) r P
         → some_open (count b) (beyond (count a) (res (P 0))) ≡ false
     first_shut fit whole P shut =
-        none_some (count b) (beyond (count a) (res (P 0)))
+        none_open (count b) (beyond (count a) (res (P 0)))
         (λ h low. shut (place 0 (ResultEnd (count a + h))) tt (loose 0 a r fit whole (count a + h) (λ g small same. omega (arith, small, same))))
 
     pub first_composes : LinksFit (side 0 a p) → IsJoining (side 0 a p) r → Composes (side 0 a p) r
@@ -116,14 +108,14 @@ module _ (a b : Type') (p : Plan) (p_type : p.outcome ≡ Pair a b) where
           pairs = λ c d linked. absurd (no_link 0 a c d linked);
           parent = parent 0 a;
           in_rest = in_rest;
-          out_rest = λ P turned. turns_agree a (res P) (λ g. res P (0 + g)) (λ g low. ap (res P) (sym (zeros g))) (pair_turns P turned).0;
+          out_rest = λ P turned. turns_agree a (res P) (λ g. res P (0 + g)) (λ g low. ap (res P) (sym (zero-add g))) (pair_turns P turned).0;
           busy_rest = busy_rest;
         }
       where
         in_rest : (P : ℕ → List Pass) (h : ℕ) (c : Contact) (way : Direction) → LooseShut (side 0 a p) r P → IsTurned p (P 0) → slice_get (contacts_of a) h ≡ Some c
             → way_taken c.role ≡ way → KeepsTurnsOf a (λ g. res (pass (ResultEnd (0 + h)) way ∷ P 0) (0 + g)) → IsTurned p (pass (ResultEnd (0 + h)) way ∷ P 0)
         in_rest P h c way shut turned there ways keeps =
-            let same = zeros h in
+            let same = zero-add h in
             subst (λ (n : ℕ). IsTurned p (pass (ResultEnd n) way ∷ P 0)) (sym same)
             (in_result p (P 0) h c way turned contact ways (subst (λ (t : Type'). KeepsTurnsOf t new) (sym p_type) (of_a, of_b, apart)))
           where
@@ -133,7 +125,7 @@ module _ (a b : Type') (p : Plan) (p_type : p.outcome ≡ Pair a b) where
             contact : slice_get (contacts_of p.outcome) h ≡ Some c
             contact =
                 ap (λ (t : Type'). slice_get (contacts_of t) h) p_type
-                ∙ (ap (λ (cs : List Contact). slice_get cs h) (pairs_join a b).joined ∙ front (contacts_of a) (contacts_of b) h c there)
+                ∙ (ap (λ (cs : List Contact). slice_get cs h) (pairs_join a b).joined ∙ found_in_front (contacts_of a) (contacts_of b) h c there)
 
             low : h < count a
             low = slice_get_within (contacts_of a) h c there
@@ -141,7 +133,7 @@ module _ (a b : Type') (p : Plan) (p_type : p.outcome ≡ Pair a b) where
             of_a : KeepsTurnsOf a new
             of_a =
                 turns_agree a (λ g. res (pass (ResultEnd (0 + h)) way ∷ P 0) (0 + g)) new
-                (λ g small. (let one = zeros h in let two = zeros g in λ i. res (pass (ResultEnd (one i)) way ∷ P 0) (two i))) keeps
+                (λ g small. (let one = zero-add h in let two = zero-add g in λ i. res (pass (ResultEnd (one i)) way ∷ P 0) (two i))) keeps
 
             agree : Agree (count b) (beyond (count a) (res (P 0))) (beyond (count a) new)
             agree g small =
@@ -152,13 +144,13 @@ module _ (a b : Type') (p : Plan) (p_type : p.outcome ≡ Pair a b) where
 
             apart : IsFalse (some_open (count a) new && some_open (count b) (beyond (count a) new))
             apart =
-                and_false (some_open (count a) new) (some_open (count b) (beyond (count a) new))
+                and_right (some_open (count a) new) (some_open (count b) (beyond (count a) new))
                 (sym (some_agree (count b) (beyond (count a) (res (P 0))) (beyond (count a) new) agree) ∙ first_shut fit whole P shut)
 
         busy_rest : (P : ℕ → List Pass) → LooseShut (side 0 a p) r P → IsTurned p (P 0) → some_open (count p.outcome) (res (P 0)) ≡ true
             → some_open (count a) (λ g. res (P 0) (0 + g)) ≡ true
         busy_rest P shut turned busy =
-            some_agree (count a) (λ g. res (P 0) (0 + g)) (res (P 0)) (λ g low. ap (res (P 0)) (zeros g))
+            some_agree (count a) (λ g. res (P 0) (0 + g)) (res (P 0)) (λ g low. ap (res (P 0)) (zero-add g))
             ∙ by_side (pair_busy a b (res (P 0)) (subst (λ (t : Type'). some_open (count t) (res (P 0)) ≡ true) p_type busy))
           where
             by_side : (some_open (count a) (res (P 0)) ≡ true) ⊎ (some_open (count b) (beyond (count a) (res (P 0))) ≡ true) → some_open (count a) (res (P 0)) ≡ true
@@ -168,7 +160,7 @@ module _ (a b : Type') (p : Plan) (p_type : p.outcome ≡ Pair a b) where
     second_shut : LinksFit (side (count a) b p) → IsJoining (side (count a) b p) r → (P : ℕ → List Pass) → LooseShut (side (count a) b p) r P
         → some_open (count a) (res (P 0)) ≡ false
     second_shut fit whole P shut =
-        none_some (count a) (res (P 0)) (λ h low. shut (place 0 (ResultEnd h)) tt (loose (count a) b r fit whole h (λ g small same. omega (arith, low, same))))
+        none_open (count a) (res (P 0)) (λ h low. shut (place 0 (ResultEnd h)) tt (loose (count a) b r fit whole h (λ g small same. omega (arith, low, same))))
 
     pub second_composes : LinksFit (side (count a) b p) → IsJoining (side (count a) b p) r → Composes (side (count a) b p) r
     second_composes fit whole =
@@ -209,7 +201,7 @@ module _ (a b : Type') (p : Plan) (p_type : p.outcome ≡ Pair a b) where
 
             apart : IsFalse (some_open (count a) new && some_open (count b) (beyond (count a) new))
             apart =
-                false_and (some_open (count a) new) (some_open (count b) (beyond (count a) new))
+                and_left (some_open (count a) new) (some_open (count b) (beyond (count a) new))
                 (sym (some_agree (count a) (res (P 0)) new agree) ∙ second_shut fit whole P shut)
 
         busy_rest : (P : ℕ → List Pass) → LooseShut (side (count a) b p) r P → IsTurned p (P 0) → some_open (count p.outcome) (res (P 0)) ≡ true

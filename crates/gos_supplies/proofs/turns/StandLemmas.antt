@@ -7,25 +7,18 @@ use Rattle.std.proofs.Common.{◌≡◌, inl, inr, refl, sym, ◌∙◌, ap, sub
 use Rattle.gos_types.specs.declared.shakes.Role.{Role}
 use Rattle.gos_types.specs.declared.shakes.Role.TheVariants.{Serve, Ask}
 use Rattle.gos_types.specs.Events.{Direction, Request, Answer}
+use Rattle.gos_types.proofs.ListLemmas.{some_is_not_none}
+use Rattle.gos_types.proofs.RoleLemmas.{ask_is_not_serve, request_is_not_answer}
 use Rattle.gos_plan.specs.Kinds.{Contact}
 use Rattle.gos_plan.specs.Plans.{End, Joint, Plan, contact_at, same_end, stands_in, IsRight}
 use Rattle.gos_plan.specs.Tokens.{Tokens, IsPortEnd, places_of, held_at, with_held, token_at, with_token, same_way, way_taken, way_put}
 use Rattle.gos_plan.specs.Orderly.{Open, named_by, handshake_at, with_open, after_taken, after_put, ComesWell}
 use Rattle.gos_plan.proofs.HeldLemmas as holding
 use Rattle.gos_plan.proofs.HeldLemmas.{nothing_there}
-use Rattle.gos_plan.proofs.JointLemmas.{IsIn, same_itself, same_is, fits, one_joint, Found, found, asking_role, serving_role}
+use Rattle.gos_plan.proofs.JointLemmas.{IsIn, same_itself, same_is, fits, one_joint, Found, found, asking_role, serving_role, apart_is_not_same, asking_stands}
+use Rattle.gos_plan.proofs.ProjectionLemmas.{port_by_itself}
 use Rattle.gos_realises.specs.realises.Regular.{is_request}
 use Rattle.gos_realises.proofs.joined.ReachLemmas.{told_end}
-
-pub ask_not_serve : Ask ≡ Serve → ⊥
-ask_not_serve e = cc e
-
-pub same_apart : (d e : End) → (d ≡ e → ⊥) → same_end d e ≡ false
-same_apart d e apart = by_test (same_end d e) refl
-  where
-    by_test : (b : Bool) → same_end d e ≡ b → b ≡ false
-    by_test true t = absurd (apart (same_is d e t))
-    by_test false t = refl
 
 -- an end that asks gives its joint the name; two that serve in one joint are one
 pub asks_own : (p : Plan) (e a : End) (c : Contact) → IsRight p → contact_at p e ≡ Some c → c.role ≡ Ask → places_of p e ≡ Some a → a ≡ e
@@ -38,14 +31,7 @@ asks_own p e a c right there role at = by_test (same_end e f.joint.asking) refl
     by_test true t = sym f.named ∙ sym (same_is e f.joint.asking t)
     by_test false t =
         let s : same_end e f.joint.serving ≡ true = grind (arith, f.stands, t) in
-        absurd (ask_not_serve (sym role ∙ serving_role p f.joint c (fits p [] p.joints f.joint right f.is_in) (ap (contact_at p) (sym (same_is e f.joint.serving s)) ∙ there)))
-
-pub names_own : (p : Plan) (e : End) (c : Contact) → IsRight p → contact_at p e ≡ Some c → c.role ≡ Ask → handshake_at p e ≡ e
-names_own p e c right there role = by_place (places_of p e) refl
-  where
-    by_place : (f : Option End) → places_of p e ≡ f → named_by f e ≡ e
-    by_place None none = refl
-    by_place (Some a) at = asks_own p e a c right there role at
+        absurd (ask_is_not_serve (sym role ∙ serving_role p f.joint c (fits p [] p.joints f.joint right f.is_in) (ap (contact_at p) (sym (same_is e f.joint.serving s)) ∙ there)))
 
 pub serves_in : (p : Plan) (e a : End) (c : Contact) → IsRight p → contact_at p e ≡ Some c → c.role ≡ Serve → places_of p e ≡ Some a
     → (j : Joint) × IsIn j p.joints × (j.asking ≡ a) × (j.serving ≡ e)
@@ -56,15 +42,9 @@ serves_in p e a c right there role at = by_test (same_end e f.joint.asking) refl
 
     by_test : (b : Bool) → same_end e f.joint.asking ≡ b → (j : Joint) × IsIn j p.joints × (j.asking ≡ a) × (j.serving ≡ e)
     by_test true t =
-        absurd (ask_not_serve (sym (asking_role p f.joint c (fits p [] p.joints f.joint right f.is_in) (ap (contact_at p) (sym (same_is e f.joint.asking t)) ∙ there)) ∙ role))
+        absurd (ask_is_not_serve (sym (asking_role p f.joint c (fits p [] p.joints f.joint right f.is_in) (ap (contact_at p) (sym (same_is e f.joint.asking t)) ∙ there)) ∙ role))
     by_test false t =
         let s : same_end e f.joint.serving ≡ true = grind (arith, f.stands, t) in (f.joint, f.is_in, f.named, sym (same_is e f.joint.serving s))
-
-pub asks_itself : (j : Joint) → stands_in j.asking j ≡ true
-asks_itself j = let h = same_itself j.asking in grind (arith, h)
-
-pub serves_itself : (j : Joint) → stands_in j.serving j ≡ true
-serves_itself j = let h = same_itself j.serving in grind (arith, h)
 
 pub one_server : (p : Plan) (d e a : End) (b c : Contact) → IsRight p → contact_at p d ≡ Some b → b.role ≡ Serve → contact_at p e ≡ Some c → c.role ≡ Serve
     → places_of p d ≡ Some a → places_of p e ≡ Some a → d ≡ e
@@ -72,8 +52,8 @@ one_server p d e a b c right at_d d_serves at_e e_serves named also =
     let (j, has, asking, serving) = serves_in p d a b right at_d d_serves named in
     let (k, has_too, asking_too, serving_too) = serves_in p e a c right at_e e_serves also in
     let one : j ≡ k =
-    one_joint p [] p.joints j k a right has has_too (subst (λ (x : End). stands_in x j ≡ true) asking (asks_itself j))
-    (subst (λ (x : End). stands_in x k ≡ true) asking_too (asks_itself k))
+    one_joint p [] p.joints j k a right has has_too (subst (λ (x : End). stands_in x j ≡ true) asking (asking_stands j))
+    (subst (λ (x : End). stands_in x k ≡ true) asking_too (asking_stands k))
     in
     sym serving ∙ (ap (λ (x : Joint). x.serving) one ∙ serving_too)
 
@@ -117,7 +97,7 @@ pub opened_here : (n e : End) (b : Bool) (o : Open) → n ≡ e → with_open n 
 opened_here n e b o same = subst (λ (x : End). (if same_end e x then b else o e) ≡ b) (sym same) (let one = same_itself e in rw one refl)
 
 pub opened_apart : (n d : End) (b : Bool) (o : Open) → (d ≡ n → ⊥) → with_open n b o d ≡ o d
-opened_apart n d b o apart = let other = same_apart d n apart in rw other refl
+opened_apart n d b o apart = let other = apart_is_not_same d n apart in rw other refl
 
 pub only_closes : (n d : End) (o : Open) → o d ≡ false → with_open n false o d ≡ false
 only_closes n d o shut = by_test (same_end d n)
@@ -134,7 +114,7 @@ pub passed_here : (F G : End → Bool) (e : End) (way : Direction) → Passed F 
 passed_here F G e way so port = so e port ∙ (let one = same_itself e in rw one refl)
 
 pub passed_apart : (F G : End → Bool) (e d : End) (way : Direction) → Passed F G e way → IsPortEnd d → (e ≡ d → ⊥) → G d ≡ F d
-passed_apart F G e d way so port apart = so d port ∙ (let other = same_apart e d apart in rw other refl)
+passed_apart F G e d way so port apart = so d port ∙ (let other = apart_is_not_same e d apart in rw other refl)
 
 -- the joint of an end is open, and nothing lies there
 abbrev pub OpenAndEmpty : Plan → End → Open → Tokens → Type 0
@@ -150,18 +130,12 @@ pub record Stands (p : Plan) (o : Open) (F : End → Bool) (s : Tokens) : Type 0
 pub role_apart : (p : Plan) (d e : End) (b c : Contact) → contact_at p d ≡ Some b → b.role ≡ Ask → contact_at p e ≡ Some c → c.role ≡ Serve → d ≡ e → ⊥
 role_apart p d e b c at_d asks at_e serves same =
     let one : Some b ≡ Some c = sym at_d ∙ (ap (contact_at p) same ∙ at_e) in
-    let is : b ≡ c = cc one in ask_not_serve (sym asks ∙ (ap (λ (x : Contact). x.role) is ∙ serves))
-
-pub not_empty : (v : ℕ) (x : Option ℕ) → x ≡ Some v → x ≡ None → ⊥
-not_empty v x some none = let never : Some v ≡ None = sym some ∙ none in cc never
+    let is : b ≡ c = cc one in ask_is_not_serve (sym asks ∙ (ap (λ (x : Contact). x.role) is ∙ serves))
 
 pub open_by_fit : (b : Bool) (q r : Option ℕ) (v : ℕ) → holding.Fits b q r → q ≡ Some v → (b ≡ true) × (r ≡ None)
-open_by_fit false q r v h some = absurd (not_empty v q some h.0)
-open_by_fit true q r v (inl none) some = absurd (not_empty v q some none)
+open_by_fit false q r v h some = absurd (some_is_not_none v q some h.0)
+open_by_fit true q r v (inl none) some = absurd (some_is_not_none v q some none)
 open_by_fit true q r v (inr none) some = (refl, none)
-
-pub ways_apart : Request ≡ Answer → ⊥
-ways_apart e = cc e
 
 pub both_ways : Answer ≡ Request → ⊥
 both_ways e = cc e
@@ -178,7 +152,7 @@ took_answer p e c v o F G s right there asks lies passed st =
     }
   where
     own : handshake_at p e ≡ e
-    own = names_own p e c right there asks
+    own = port_by_itself p e c right there asks
 
     held : s.in_place Answer e ≡ Some v
     held = let (a, at, is) = lies_in p e Answer v s lies in ap (s.in_place Answer) (sym (asks_own p e a c right there asks at)) ∙ is
@@ -197,11 +171,11 @@ took_answer p e c v o F G s right there asks lies passed st =
     serves_open d b port at role up =
         let apart = role_apart p e d c b there asks at role in
         let (a, named, a_open, request, answer) = st.serves_open d b port at role (sym (passed_apart F G e d Answer passed port apart) ∙ up) in
-        let other : a ≡ e → ⊥ = λ same. not_empty v (s.in_place Answer e) held (ap (s.in_place Answer) (sym same) ∙ answer) in (
+        let other : a ≡ e → ⊥ = λ same. some_is_not_none v (s.in_place Answer e) held (ap (s.in_place Answer) (sym same) ∙ answer) in (
           a,
           named,
           opened_apart (handshake_at p e) a false o (λ same. other (same ∙ own)) ∙ a_open,
-          placed_apart p e a Answer Request None s (λ same. absurd (ways_apart same)) ∙ request,
+          placed_apart p e a Answer Request None s (λ same. absurd (request_is_not_answer same)) ∙ request,
           placed_apart p e a Answer Answer None s (λ same is. other (asks_own p e a c right there asks is)) ∙ answer,
         )
 
@@ -252,7 +226,7 @@ put_request p e c v o F G s right there asks well passed st =
     }
   where
     own : handshake_at p e ≡ e
-    own = names_own p e c right there asks
+    own = port_by_itself p e c right there asks
 
     shut : o e ≡ false
     shut = ap o (sym own) ∙ well
@@ -302,7 +276,7 @@ put_answer p e c v o F G s right there serves well passed st =
           a,
           named,
           a_open,
-          placed_apart p e a Answer Request (Some v) s (λ same. absurd (ways_apart same)) ∙ request,
+          placed_apart p e a Answer Request (Some v) s (λ same. absurd (request_is_not_answer same)) ∙ request,
           placed_apart p e a Answer Answer (Some v) s (λ same is. apart (one_server p e d a c b right there serves at role is named)) ∙ answer,
         )
 
@@ -355,7 +329,7 @@ taken_apart p e d c o way right there is apart = by_role c.role refl
     by_role : (role : Role) → c.role ≡ role → after_taken p e way o d ≡ o d
     by_role Ask role =
         subst (λ (u : Direction). after_taken p e u o d ≡ o d) (sym (ap way_taken role) ∙ is)
-        (opened_apart (handshake_at p e) d false o (λ same. apart (same ∙ names_own p e c right there role)))
+        (opened_apart (handshake_at p e) d false o (λ same. apart (same ∙ port_by_itself p e c right there role)))
     by_role Serve role = subst (λ (u : Direction). after_taken p e u o d ≡ o d) (sym (ap way_taken role) ∙ is) refl
 
 pub put_apart : (p : Plan) (e d : End) (c : Contact) (o : Open) (way : Direction) → IsRight p → contact_at p e ≡ Some c → way_put c.role ≡ way → (d ≡ e → ⊥)
@@ -365,7 +339,7 @@ put_apart p e d c o way right there is apart = by_role c.role refl
     by_role : (role : Role) → c.role ≡ role → after_put p e way o d ≡ o d
     by_role Ask role =
         subst (λ (u : Direction). after_put p e u o d ≡ o d) (sym (ap way_put role) ∙ is)
-        (opened_apart (handshake_at p e) d true o (λ same. apart (same ∙ names_own p e c right there role)))
+        (opened_apart (handshake_at p e) d true o (λ same. apart (same ∙ port_by_itself p e c right there role)))
     by_role Serve role = subst (λ (u : Direction). after_put p e u o d ≡ o d) (sym (ap way_put role) ∙ is) refl
 
 -- what comes well finds its place empty

@@ -6,17 +6,18 @@ use Rattle.std.specs.Prelude.{ℕ, zero, suc, ◌+◌, true, Option, Some, None,
 use Rattle.std.proofs.Common.{◌≡◌, [], ◌⊎◌, inl, inr, refl, sym, ◌∙◌, ap, subst, arith}
 use Rattle.gos_types.specs.declared.shakes.Role.TheVariants.{Serve, Ask}
 use Rattle.gos_types.specs.Handshakes.{turned}
+use Rattle.gos_types.proofs.RoleLemmas.{ask_is_not_serve}
 use Rattle.gos_plan.specs.Kinds.{Contact, turned_contact}
 use Rattle.gos_plan.specs.Plans.{End, PartEnd, ImportEnd, ResultEnd, Joint, Plan, contact_at, stands_in, IsRight}
 use Rattle.gos_plan.specs.Tokens.{IsPortEnd}
 use Rattle.gos_plan.specs.Joining.{Place, place, Link, Wiring, JoinedWithin, Linked, Path}
-use Rattle.gos_plan.proofs.JointLemmas.{IsIn, fits, one_joint, serving_role, contained}
+use Rattle.gos_plan.proofs.JointLemmas.{IsIn, fits, one_joint, serving_role, contained, asking_stands, serving_stands}
+use Rattle.gos_plan.proofs.ContactLemmas.{turned_contact_twice}
+use Rattle.gos_plan.proofs.WiringLemmas.{linked_back, place_is}
 use Rattle.gos_realises.specs.realises.Links.{contact_in, contact_of, EndsFit, LinkFits, LinksFit}
 use Rattle.gos_joining.specs.webs.Webs.{joint}
-use Rattle.gos_realises.proofs.joined.ReachLemmas.{place_is}
 use Rattle.gos_realises.proofs.realises.PlaceLemmas.{place_of}
-use Rattle.gos_realises.proofs.joined.StepLemmas.{role_twice, linked_one}
-use Rattle.gos_supplies.proofs.turns.StandLemmas.{ask_not_serve, asks_itself, serves_itself}
+use Rattle.gos_realises.proofs.joined.StepLemmas.{linked_one}
 
 -- every link joins two ports
 abbrev pub LinksArePorts : Wiring → Type 0
@@ -51,9 +52,6 @@ ends_turn w a b c d (ResultEnd h) (PartEnd j g) port also fit = absurd also
 ends_turn w a b c d (ResultEnd h) (ImportEnd j g) port also fit = fit
 ends_turn w a b c d (ResultEnd h) (ResultEnd g) port also fit = fit
 
-pub turned_twice : (c : Contact) → turned_contact (turned_contact c) ≡ c
-turned_twice c = λ i. record c { role = role_twice c.role i }
-
 pub contact_place : (w : Wiring) (a : Place) (p : Plan) → slice_get w.plans a.plan ≡ Some p → contact_of w a ≡ contact_at p a.end
 contact_place w a p is = ap (λ (o : Option Plan). contact_in o a.end) is
 
@@ -68,9 +66,6 @@ plan_at w a c there = by_plan (slice_get w.plans a.plan) refl there
 
 abbrev Between : Link → Place → Place → Type 0
 Between l a b = ((a ≡ l.one) × (b ≡ l.other)) ⊎ ((a ≡ l.other) × (b ≡ l.one))
-
-pub link_back : (w : Wiring) (a b : Place) → Linked w a b → Linked w b a
-link_back w a b (l, has, ways) = (l, has, elim ways [ inl (e, f) ↦ inr (f, e) | inr (e, f) ↦ inl (f, e) ])
 
 module _ (w : Wiring) (fit : LinksFit w) (ported : LinksArePorts w) where
   link_fits : (l : Link) → Contains w.links l → LinkFits w l
@@ -101,7 +96,7 @@ module _ (w : Wiring) (fit : LinksFit w) (ported : LinksArePorts w) where
       by_way (apart, (c, d, at_one, at_other, ends)) (inr (e, f)) =
           let both = ported l has in
           let turn = ends_turn w l.one l.other c d l.one.end l.other.end both.0 both.1 ends in
-          (d, ap (contact_of w) e ∙ at_other, ap (contact_of w) f ∙ (at_one ∙ ap Some (sym (turned_twice c) ∙ ap turned_contact (sym turn))))
+          (d, ap (contact_of w) e ∙ at_other, ap (contact_of w) f ∙ (at_one ∙ ap Some (sym (turned_contact_twice c) ∙ ap turned_contact (sym turn))))
 
   pub link_asks : (a b : Place) → Linked w a b → ServesAt w a → AsksAt w b
   link_asks a b linked (x, at, serves) =
@@ -123,14 +118,14 @@ module _ (w : Wiring) (fit : LinksFit w) (ported : LinksArePorts w) where
 
   pub not_both_roles : (a : Place) → AsksAt w a → ServesAt w a → ⊥
   not_both_roles a (c, there, asks) (d, also, serves) =
-      let same : c ≡ d = cc (there, also) in ask_not_serve (sym asks ∙ (ap (λ (x : Contact). x.role) same ∙ serves))
+      let same : c ≡ d = cc (there, also) in ask_is_not_serve (sym asks ∙ (ap (λ (x : Contact). x.role) same ∙ serves))
 
   pub segment_one : (b : Place) (e f : End) → Segment w b e → Segment w b f → e ≡ f
   segment_one b e f (p, is, has) (q, is_too, has_too) =
       let plans : q ≡ p = cc (is, is_too) in
       let in_p : IsIn (joint b.end f) p.joints = subst (λ (x : Plan). IsIn (joint b.end f) x.joints) plans has_too in
       let same : joint b.end e ≡ joint b.end f =
-      one_joint p [] p.joints (joint b.end e) (joint b.end f) b.end (fit.right b.plan p is) has in_p (asks_itself (joint b.end e)) (asks_itself (joint b.end f))
+      one_joint p [] p.joints (joint b.end e) (joint b.end f) b.end (fit.right b.plan p is) has in_p (asking_stands (joint b.end e)) (asking_stands (joint b.end f))
       in
       ap (λ (x : Joint). x.serving) same
 
@@ -139,7 +134,7 @@ module _ (w : Wiring) (fit : LinksFit w) (ported : LinksArePorts w) where
       let those : q ≡ p = cc (is, is_too, plans) in
       let in_p : IsIn (joint c.end e) p.joints = subst (λ (x : Plan). IsIn (joint c.end e) x.joints) those has_too in
       let same : joint b.end e ≡ joint c.end e =
-      one_joint p [] p.joints (joint b.end e) (joint c.end e) e (fit.right b.plan p is) has in_p (serves_itself (joint b.end e)) (serves_itself (joint c.end e))
+      one_joint p [] p.joints (joint b.end e) (joint c.end e) e (fit.right b.plan p is) has in_p (serving_stands (joint b.end e)) (serving_stands (joint c.end e))
       in
       place_is b c plans (ap (λ (x : Joint). x.asking) same)
 
@@ -170,11 +165,11 @@ module _ (w : Wiring) (fit : LinksFit w) (ported : LinksArePorts w) where
   pub trail_start : (n m : ℕ) (a b c : Place) → IsUnlinked w a → IsUnlinked w b → Trail w n a c → Trail w m b c → a ≡ b
   trail_start zero zero a b c free also e f = e ∙ sym f
   trail_start zero (suc m) a b c free also e (x, d, t, seg, linked, asks) =
-      absurd (free (place x.plan d) (subst (λ (y : Place). Linked w y (place x.plan d)) (sym e) (link_back w (place x.plan d) c linked)))
+      absurd (free (place x.plan d) (subst (λ (y : Place). Linked w y (place x.plan d)) (sym e) (linked_back w (place x.plan d) c linked)))
   trail_start (suc n) zero a b c free also (x, d, t, seg, linked, asks) f =
-      absurd (also (place x.plan d) (subst (λ (y : Place). Linked w y (place x.plan d)) (sym f) (link_back w (place x.plan d) c linked)))
+      absurd (also (place x.plan d) (subst (λ (y : Place). Linked w y (place x.plan d)) (sym f) (linked_back w (place x.plan d) c linked)))
   trail_start (suc n) (suc m) a b c free also (x, d, t, seg, linked, asks) (y, e, u, seg', linked', asks') =
-      let same = link_one c (place x.plan d) (place y.plan e) (link_back w (place x.plan d) c linked) (link_back w (place y.plan e) c linked') in
+      let same = link_one c (place x.plan d) (place y.plan e) (linked_back w (place x.plan d) c linked) (linked_back w (place y.plan e) c linked') in
       let plans : x.plan ≡ y.plan = ap (λ (z : Place). z.plan) same in
       let ends : d ≡ e = ap (λ (z : Place). z.end) same in
       let one : x ≡ y = segment_back x y e (subst (Segment w x) ends seg) seg' plans in
@@ -185,14 +180,14 @@ module _ (w : Wiring) (fit : LinksFit w) (ported : LinksArePorts w) where
   At a c = ((n : ℕ) × Trail w n a c × AsksAt w c) ⊎ ((n : ℕ) × (b : Place) × (e : End) × Trail w n a b × Segment w b e × (c ≡ place b.plan e))
 
   stands_either : (j : Joint) (e b : End) → ((e ≡ j.asking) × (b ≡ j.serving)) ⊎ ((e ≡ j.serving) × (b ≡ j.asking)) → stands_in e j ≡ true
-  stands_either j e b (inl (at, is)) = subst (λ (x : End). stands_in x j ≡ true) (sym at) (asks_itself j)
-  stands_either j e b (inr (at, is)) = subst (λ (x : End). stands_in x j ≡ true) (sym at) (serves_itself j)
+  stands_either j e b (inl (at, is)) = subst (λ (x : End). stands_in x j ≡ true) (sym at) (asking_stands j)
+  stands_either j e b (inr (at, is)) = subst (λ (x : End). stands_in x j ≡ true) (sym at) (serving_stands j)
 
   by_joint : (a c d : Place) → At a c → JoinedWithin w c d → At a d
   by_joint a c d (inl (n, t, asks)) (p, j, same, is, has, inl (e, f)) =
       inr (n, c, d.end, t, (p, is, subst (λ (x : Joint). IsIn x p.joints) (λ i. joint (sym e i) (sym f i)) (contained p.joints j has)), place_is d (place c.plan d.end) (sym same) refl)
   by_joint a c d (inl (n, t, (x, there, asks))) (p, j, same, is, has, inr (e, f)) =
-      absurd (ask_not_serve (sym asks
+      absurd (ask_is_not_serve (sym asks
       ∙ serving_role p j x (fits p [] p.joints j (fit.right c.plan p is) (contained p.joints j has))
       (ap (contact_at p) (sym e) ∙ (sym (contact_place w c p is) ∙ there))))
   by_joint a c d (inr (n, b, e, t, seg, at)) joined = by_ways (subst (λ (x : Place). JoinedWithin w x d) at joined) seg
@@ -210,7 +205,7 @@ module _ (w : Wiring) (fit : LinksFit w) (ported : LinksArePorts w) where
           in_p = subst (λ (x : Plan). IsIn k x.joints) plans (contained q.joints k has_too)
 
           one : k ≡ joint b.end e
-          one = one_joint p [] p.joints k (joint b.end e) e right in_p has (stands_either k e d.end ways) (serves_itself (joint b.end e))
+          one = one_joint p [] p.joints k (joint b.end e) e right in_p has (stands_either k e d.end ways) (serving_stands (joint b.end e))
 
           of_joint : ((e ≡ k.asking) × (d.end ≡ k.serving)) ⊎ ((e ≡ k.serving) × (d.end ≡ k.asking)) → At a d
           of_joint (inl (f, g)) =
@@ -224,7 +219,7 @@ module _ (w : Wiring) (fit : LinksFit w) (ported : LinksArePorts w) where
   by_link : (a c d : Place) → IsUnlinked w a → At a c → Linked w c d → At a d
   by_link a c d free (inl (zero, t, asks)) linked = absurd (free d (subst (λ (x : Place). Linked w x d) (sym t) linked))
   by_link a c d free (inl (suc n, (b, e, t, seg, back, asks_c), asks)) linked =
-      inr (n, b, e, t, seg, link_one c d (place b.plan e) linked (link_back w (place b.plan e) c back))
+      inr (n, b, e, t, seg, link_one c d (place b.plan e) linked (linked_back w (place b.plan e) c back))
   by_link a c d free (inr (n, b, e, t, seg, at)) linked =
       let led : Linked w (place b.plan e) d = subst (λ (x : Place). Linked w x d) at linked in
       let asks = link_asks (place b.plan e) d led (segment_roles b e seg).1 in

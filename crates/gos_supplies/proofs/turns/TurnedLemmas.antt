@@ -3,8 +3,10 @@ use Rattle.std.specs.Prelude.{ℕ, ◌+◌, ◌-◌, ◌<◌, Bool, true, false,
 use Rattle.std.proofs.lemmas.Bool.Decides.{nat_tests}
 use Rattle.std.proofs.Common.{◌≡◌, ◌∷◌, ◌⊎◌, inl, inr, refl, sym, ◌∙◌, ap, subst, arith}
 use Rattle.std.proofs.lemmas.Option.{slice_get_within}
+use Rattle.std.proofs.lemmas.Bool.{eq-eqb, ne_eqb}
 use Rattle.gos_types.specs.Types.{Type', Fun}
 use Rattle.gos_types.specs.Events.{Direction}
+use Rattle.gos_types.proofs.BoolLemmas.{and_false}
 use Rattle.gos_model.specs.Typing.{Imported}
 use Rattle.gos_plan.specs.Kinds.{Contact, contacts_of}
 use Rattle.gos_plan.specs.Plans.{ImportEnd, ResultEnd, Plan}
@@ -52,40 +54,26 @@ from_each p P (each, result) =
         subst (λ (k : ℕ). KeepsTurnsOf x.ty (imp P k) × (some_open (count x.ty) (imp P k) ≡ true → some_open (count p.outcome) (res P) ≡ true)) same keeps
 
 -- what passes an import or the result changes one handshake there
-equal_true : (m n : ℕ) → m ≡ n → nat_eq m n ≡ true
-equal_true m n same = grind (arith, same)
-
-equal_false : (m n : ℕ) → (m ≡ n → ⊥) → nat_eq m n ≡ false
-equal_false m n apart = by_test (nat_eq m n) refl
-  where
-    by_test : (b : Bool) → nat_eq m n ≡ b → b ≡ false
-    by_test true t = absurd (apart (grind (arith, t)))
-    by_test false t = refl
-
-and_false : (b : Bool) → (b && false) ≡ false
-and_false true = refl
-and_false false = refl
-
 pub import_changed : (P : List Pass) (n h k : ℕ) (way : Direction) → h < k → Changed k (imp P n) (imp (pass (ImportEnd n h) way ∷ P) n) h way
 import_changed P n h k way low =
     record {
       low = low;
-      here = (let one = equal_true n n refl in let two = equal_true h h refl in λ i. if one i && two i then is_request way else imp P n h);
+      here = (let one = eq-eqb n n refl in let two = eq-eqb h h refl in λ i. if one i && two i then is_request way else imp P n h);
       else_same = λ g small apart.
-          (let two = equal_false h g (λ same. apart (sym same)) in
+          (let two = ne_eqb h g (λ same. apart (sym same)) in
           (λ i. if nat_eq n n && two i then is_request way else imp P n g) ∙ (λ i. if and_false (nat_eq n n) i then is_request way else imp P n g));
     }
 
 pub import_else : (P : List Pass) (n h m : ℕ) (way : Direction) → (m ≡ n → ⊥) → imp (pass (ImportEnd n h) way ∷ P) m ≡ imp P m
 import_else P n h m way apart =
-    let other = equal_false n m (λ same. apart (sym same)) in λ i g. if other i && nat_eq h g then is_request way else imp P m g
+    let other = ne_eqb n m (λ same. apart (sym same)) in λ i g. if other i && nat_eq h g then is_request way else imp P m g
 
 pub result_changed : (P : List Pass) (h k : ℕ) (way : Direction) → h < k → Changed k (res P) (res (pass (ResultEnd h) way ∷ P)) h way
 result_changed P h k way low =
     record {
       low = low;
-      here = (let one = equal_true h h refl in λ i. if one i then is_request way else res P h);
-      else_same = λ g small apart. (let other = equal_false h g (λ same. apart (sym same)) in λ i. if other i then is_request way else res P g);
+      here = (let one = eq-eqb h h refl in λ i. if one i then is_request way else res P h);
+      else_same = λ g small apart. (let other = ne_eqb h g (λ same. apart (sym same)) in λ i. if other i then is_request way else res P g);
     }
 
 -- an input at an import

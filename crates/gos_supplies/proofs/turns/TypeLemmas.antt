@@ -10,13 +10,15 @@ use Rattle.gos_types.specs.declared.shakes.Role.{Role}
 use Rattle.gos_types.specs.declared.shakes.Role.TheVariants.{Serve, Ask}
 use Rattle.gos_types.specs.Types.{Type', Com, Exp, Var, Pair, Fun}
 use Rattle.gos_types.specs.Events.{Direction}
+use Rattle.gos_types.proofs.ListLemmas.{same_in_front}
+use Rattle.gos_types.proofs.RoleLemmas.{serve_is_not_ask}
 use Rattle.gos_plan.specs.Kinds.{Contact, contacts_of, other_side}
 use Rattle.gos_plan.specs.Tokens.{way_taken, way_put}
 use Rattle.gos_plan.proofs.SideLemmas.{pairs_join, functions_join}
 use Rattle.gos_realises.specs.realises.Regular.{count, some_open, beyond, KeepsTurnsOf, is_request}
 use Rattle.gos_realises.proofs.realises.GroundTurnLemmas.{some_there, there_some, count_fun}
 use Rattle.gos_realises.proofs.realises.CountLemmas.{count_pair}
-use Rattle.gos_realises.proofs.joined.OriginLemmas.{front_at, behind_at}
+use Rattle.gos_realises.proofs.joined.OriginLemmas.{behind_at}
 
 -- another handshake is open
 abbrev Beside : ℕ → (ℕ → Bool) → ℕ → Type 0
@@ -29,20 +31,17 @@ sides a b =
     let sum = count_fun a b in
     omega (arith, joined, both, sum)
 
-only_serves : Serve ≡ Ask → ⊥
-only_serves e = cc e
-
 role_is : (c d : Contact) → Some c ≡ Some d → d.role ≡ Ask → c.role ≡ Ask
 role_is c d same role = let is : c ≡ d = cc same in ap (λ (x : Contact). x.role) is ∙ role
 
 -- an open handshake by which the holder asks has another beside it
 pub beside : (t : Type') (f : ℕ → Bool) (h : ℕ) (c : Contact) → KeepsTurnsOf t f → slice_get (contacts_of t) h ≡ Some c → c.role ≡ Ask → f h ≡ true → Beside (count t) f h
-beside Com f zero c keeps there role up = absurd (only_serves (role_is _ c there role))
+beside Com f zero c keeps there role up = absurd (serve_is_not_ask (role_is _ c there role))
 beside Com f (suc h) c keeps there role up = absurd (none-some c there)
-beside (Exp w) f zero c keeps there role up = absurd (only_serves (role_is _ c there role))
+beside (Exp w) f zero c keeps there role up = absurd (serve_is_not_ask (role_is _ c there role))
 beside (Exp w) f (suc h) c keeps there role up = absurd (none-some c there)
-beside (Var w) f zero c keeps there role up = absurd (only_serves (role_is _ c there role))
-beside (Var w) f (suc zero) c keeps there role up = absurd (only_serves (role_is _ c there role))
+beside (Var w) f zero c keeps there role up = absurd (serve_is_not_ask (role_is _ c there role))
+beside (Var w) f (suc zero) c keeps there role up = absurd (serve_is_not_ask (role_is _ c there role))
 beside (Var w) f (suc (suc h)) c keeps there role up = absurd (none-some c there)
 beside (Pair a b) f h c (first, second, shut) there role up = by_test (nat_lt h (count a)) refl (beside a f h c first) (beside b (beyond (count a) f) (h - count a) c second)
   where
@@ -54,7 +53,7 @@ beside (Pair a b) f h c (first, second, shut) there role up = by_test (nat_lt h 
         → Beside (count (Pair a b)) f h
     by_test true test of_a of_b =
         let low : h < count a = grind (arith, nat_tests, test) in
-        let (g, small, apart, open_g) = of_a (sym (front_at (contacts_of a) (contacts_of b) h low) ∙ at) role up in
+        let (g, small, apart, open_g) = of_a (sym (same_in_front (contacts_of a) (contacts_of b) h low) ∙ at) role up in
         let sum = count_pair a b in
         (g, omega (arith, small, sum), apart, open_g)
     by_test false test of_a of_b =

@@ -1,7 +1,9 @@
 -- A joining of regular plans is regular where turns pass through its wiring.
-use Rattle.std.specs.Prelude.{ℕ, zero, suc, ◌+◌, Bool, true, false, ◌&&◌, ◌||◌, List, Option, Some, None, All, slice_get}
+use Rattle.std.specs.Prelude.{ℕ, zero, suc, ◌+◌, Bool, true, false, ◌&&◌, ◌||◌, List, Some, None, All, slice_get}
 use Rattle.std.proofs.Common.{◌≡◌, [], ◌∷◌, refl, sym, ◌∙◌, ap, subst}
+use Rattle.std.proofs.lemmas.Bool.{false≢true}
 use Rattle.gos_types.specs.Types.{Type', Com, Exp, Var, Pair, Fun}
+use Rattle.gos_types.proofs.ListLemmas.{some_is_not_none}
 use Rattle.gos_plan.specs.Plans.{Plan}
 use Rattle.gos_plan.specs.Tokens.{Tokens, Element, Fire, Out, In, Does, Runs, IsIdle}
 use Rattle.gos_plan.specs.TokenBits.{LiteralFits}
@@ -20,7 +22,7 @@ use Rattle.gos_supplies.proofs.turns.ElementLemmas.{stand, Went, went_out, went_
 use Rattle.gos_supplies.proofs.turns.FireLemmas.{went_fire}
 
 -- where nothing is open turns are kept
-none_some : (n : ℕ) (f : ℕ → Bool) → ((h : ℕ) → f h ≡ false) → some_open n f ≡ false
+pub none_some : (n : ℕ) (f : ℕ → Bool) → ((h : ℕ) → f h ≡ false) → some_open n f ≡ false
 none_some zero f shut = refl
 none_some (suc n) f shut = let rest = none_some n f shut in λ i. shut n i || rest i
 
@@ -42,15 +44,9 @@ shut_turned (Fun a b) f shut = (
 pub first_turned : (p : Plan) → IsTurned p []
 first_turned p = shut_turned (whole_type p.imports p.outcome) _ (λ h. refl)
 
-false_true : false ≡ true → ⊥
-false_true e = cc e
-
 -- the plans' tokens at first
 abbrev first_family : Wiring → Tokens → Family
 first_family w s k = stand none_open [] (record { in_place = λ way e. None; state = λ j. s.state (before w.plans k + j) })
-
-none_lies : (v : ℕ) (h : Option ℕ) → h ≡ Some v → h ≡ None → ⊥
-none_lies v h some none = let never : Some v ≡ None = sym some ∙ none in cc never
 
 outputs_then : (r : Plan) (x : Element) (xs : List Element) (past : List Pass) → OutputsKeepTurns r past (x ∷ []) → OutputsKeepTurns r (after r x past) xs
     → OutputsKeepTurns r past (x ∷ xs)
@@ -70,13 +66,13 @@ module _ (w : Wiring) (r : Plan) (fit : LinksFit w) (ported : LinksArePorts w) (
                   record {
                     fit = λ a. (refl, refl);
                     asks_open = λ e c port there role. refl;
-                    serves_open = λ e c port there role up. absurd (false_true up);
+                    serves_open = λ e c port there role up. absurd (false≢true up);
                     only_asks = λ e c there role. refl;
                   };
               agree = λ a b linked. refl;
               opens = λ e c there role. refl;
-              lies = λ a b joined way v held. absurd (none_lies v (s.in_place way a) held (idle.0 way a));
-              source = λ c asks up. absurd (false_true up);
+              lies = λ a b joined way v held. absurd (some_is_not_none v (s.in_place way a) held (idle.0 way a));
+              source = λ c asks up. absurd (false≢true up);
               lost = λ i h f is none. refl;
               ports = λ e c port there. refl;
               dead = λ a port loose. refl;

@@ -4,9 +4,9 @@ use Rattle.std.proofs.Common.{refl, ◌∙◌, subst, arith}
 use Rattle.std.proofs.lemmas.List.{append-nil}
 use Rattle.std.proofs.lemmas.List.Elements.{Contains-append_left, Contains-append_right}
 use Rattle.gos_types.specs.Types.{Type', Com, Exp, Var, Pair, Fun}
+use Rattle.gos_types.proofs.ListLemmas.{found_in_front}
 use Rattle.gos_model.specs.Terms.{Name, Term, Skip, Lit, Bound, Import, Lam, App, Both, Fst, Snd, Seq, Par, If, While, Assign, Deref, New, Not, Bin}
 use Rattle.gos_model.specs.Typing.{Imports, import_type, Thing, Named, things, Typed}
-use Rattle.gos_joining.proofs.unions.LeftLemmas.{front}
 use Rattle.gos_supplies.specs.typing.Names.{TypedUnderFewer}
 
 module _ (i j : Imports) where
@@ -23,7 +23,7 @@ module _ (i j : Imports) where
   pub typed_under : (m : Term) (d : ℕ) (g h : List Type') (t : Type') → Same (things d m) → Typed i g m t → Typed j (g ++ h) m t
   typed_under Skip d g h t s e = e
   typed_under (Lit k w) d g h t s e = e
-  typed_under (Bound n) d g h t s e = front g h n t e
+  typed_under (Bound n) d g h t s e = found_in_front g h n t e
   typed_under (Import x) d g h t s e = s x (0, omega arith, refl) ∙ e
   typed_under (Lam a m) d g h t s (b, e, of_m) = (b, e, typed_under m (suc d) (a ∷ g) h b s of_m)
   typed_under (App m n) d g h t s (a, of_m, of_n, apart) = (

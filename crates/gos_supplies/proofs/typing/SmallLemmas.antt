@@ -3,10 +3,10 @@ use Rattle.std.specs.Prelude.{◌≡◌, zero, suc, Bool, true, false, [], ◌�
 use Rattle.std.specs.Str.{bytes_eq}
 use Rattle.std.proofs.Common.{refl, sym, ◌∙◌, ap, subst, arith, inl, inr}
 use Rattle.gos_types.specs.Types.{Type', Com}
+use Rattle.gos_types.proofs.BytesLemmas.{bytes_eq_same}
 use Rattle.gos_model.specs.Terms.{Name, Term, Import}
 use Rattle.gos_model.specs.Typing.{import_type, Named, Apart, Typed}
 use Rattle.gos_model.specs.SmallPrograms.{c, d, two_commands}
-use Rattle.gos_joining.proofs.renumbered.ImportLemmas.{name_is}
 use Rattle.gos_supplies.specs.typing.SmallTypings.{OneIsEnough, OneIsTooFew, changed, ChangedAreTyped, ChangedShareNothing, SharedAreTyped, SharedAreShared, SharedHasNoType}
 
 pub one_is_enough : OneIsEnough
@@ -25,11 +25,11 @@ two_names : (x : Name) (t : Type') → import_type two_commands x ≡ Some t →
 two_names x t e = by_first (bytes_eq c x) refl e
   where
     by_second : (b : Bool) → bytes_eq d x ≡ b → (if b then Some Com else None) ≡ Some t → IsOne x t
-    by_second true test h = (inr (sym (name_is d x test)), (let same : Com ≡ t = cc h in sym same))
+    by_second true test h = (inr (sym (bytes_eq_same d x test)), (let same : Com ≡ t = cc h in sym same))
     by_second false test h = absurd (cc h)
 
     by_first : (b : Bool) → bytes_eq c x ≡ b → (if b then Some Com else if bytes_eq d x then Some Com else None) ≡ Some t → IsOne x t
-    by_first true test h = (inl (sym (name_is c x test)), (let same : Com ≡ t = cc h in sym same))
+    by_first true test h = (inl (sym (bytes_eq_same c x test)), (let same : Com ≡ t = cc h in sym same))
     by_first false test h = by_second (bytes_eq d x) refl h
 
 not_one : c ≡ d → ⊥

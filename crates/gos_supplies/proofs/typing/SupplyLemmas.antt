@@ -2,15 +2,14 @@
 use Rattle.std.specs.Prelude.{◌≡◌, ◌≢◌, ℕ, zero, suc, Bool, true, false, List, [], ◌∷◌, Some, Contains, slice_get, if◌then◌else◌}
 use Rattle.std.specs.Str.{bytes_eq}
 use Rattle.std.proofs.Common.{refl, sym, ◌∙◌, ap, subst, arith}
-use Rattle.std.proofs.lemmas.Slice.Eq.{bytes_eq-Decides}
 use Rattle.std.proofs.lemmas.List.Elements.{Contains-append_left, Contains-append_right}
 use Rattle.gos_types.specs.Types.{Type'}
+use Rattle.gos_types.proofs.BytesLemmas.{bytes_eq_itself, bytes_eq_same}
 use Rattle.gos_model.specs.Terms.{Name, Term}
 use Rattle.gos_model.specs.Typing.{Imported, Imports, import_type, Named, things, Typed}
 use Rattle.gos_realises.specs.realises.Realises.{NamesDiffer, HaveOtherNames, Realises}
 use Rattle.gos_realises.specs.realises.Modules.{Supply, AreSupplied, term_for}
 use Rattle.gos_realises.proofs.realises.PlaceLemmas.{differ_second, differ_between}
-use Rattle.gos_joining.proofs.renumbered.ImportLemmas.{name_is}
 use Rattle.gos_supplies.specs.typing.Supplied.{AreTyped, ShareNothing, imports_of, SuppliedIsTyped}
 use Rattle.gos_supplies.proofs.typing.NameLemmas.{typed_under}
 use Rattle.gos_supplies.proofs.typing.WhenceLemmas.{named, with_supplies}
@@ -39,19 +38,16 @@ others (x ∷ ss) (suc m) (suc n) r s differ at_r at_s apart i j in_i in_j =
     others ss m n r s (differ_second x.plan.imports (imports_of ss) differ) at_r at_s (λ e. apart (ap suc e)) i j in_i in_j
 
 -- the type of a name is that of the import that has it
-own_name : (x : Name) → bytes_eq x x ≡ true
-own_name x = grind (arith, bytes_eq-Decides)
-
-type_of : (is : Imports) → NamesDiffer is → (i : Imported) → Contains is i → import_type is i.name ≡ Some i.ty
+pub type_of : (is : Imports) → NamesDiffer is → (i : Imported) → Contains is i → import_type is i.name ≡ Some i.ty
 type_of [] differ i (k, small, at) = absurd (omega (arith, small))
 type_of (y ∷ is) differ i (zero, small, at) =
     let same : y ≡ i = at in
-    let test : bytes_eq y.name i.name ≡ true = ap (λ (z : Imported). bytes_eq z.name i.name) same ∙ own_name i.name in
+    let test : bytes_eq y.name i.name ≡ true = ap (λ (z : Imported). bytes_eq z.name i.name) same ∙ bytes_eq_itself i.name in
     (λ k. if test k then Some y.ty else import_type is i.name) ∙ ap (λ (z : Imported). Some z.ty) same
 type_of (y ∷ is) differ i (suc k, small, at) = by_test (bytes_eq y.name i.name) refl (type_of is differ.1 i (k, omega (arith, small), at))
   where
     by_test : (b : Bool) → bytes_eq y.name i.name ≡ b → import_type is i.name ≡ Some i.ty → (if b then Some y.ty else import_type is i.name) ≡ Some i.ty
-    by_test true test rest = absurd (differ.0 i (k, omega (arith, small), at) (name_is y.name i.name test))
+    by_test true test rest = absurd (differ.0 i (k, omega (arith, small), at) (bytes_eq_same y.name i.name test))
     by_test false test rest = rest
 
 -- the term and the supply of an import that has a type
@@ -137,7 +133,7 @@ module _ (is : List Imported) (ss : List Supply) (j : Imports) (are : AreSupplie
       not_one one two e =
           let at : Some one.import ≡ Some two.import = sym one.at_import ∙ (ap (slice_get is) e ∙ two.at_import) in
           let same : one.import ≡ two.import = cc at in
-          apart (sym (name_is one.import.name x one.test) ∙ (ap (λ (i : Imported). i.name) same ∙ name_is two.import.name y two.test))
+          apart (sym (bytes_eq_same one.import.name x one.test) ∙ (ap (λ (i : Imported). i.name) same ∙ bytes_eq_same two.import.name y two.test))
 
 pub supplied_is_typed : SuppliedIsTyped
 supplied_is_typed p r ss m t are joined differ typed =

@@ -5,15 +5,14 @@ use Rattle.std.proofs.lemmas.Bool.Decides.{nat_tests}
 use Rattle.std.proofs.lemmas.Option.{slice_get_within}
 use Rattle.std.proofs.lemmas.List.Elements.{Contains-append_left, Contains-append_right, Contains-append_cases}
 use Rattle.gos_types.specs.Types.{Type', Com, Exp, Var, Pair, Fun}
+use Rattle.gos_types.proofs.ListLemmas.{none_in_empty}
+use Rattle.gos_types.proofs.BytesLemmas.{bytes_eq_same}
 use Rattle.gos_model.specs.Terms.{Name, Term, Skip, Lit, Bound, Import, Lam, App, Both, Fst, Snd, Seq, Par, If, While, Assign, Deref, New, Not, Bin}
 use Rattle.gos_model.specs.Typing.{Imported, Imports, import_type, Thing, Variable, Named, things, Apart, Typed}
 use Rattle.gos_model.specs.Linking.{or_import, supplied}
-use Rattle.gos_joining.proofs.renumbered.ImportLemmas.{has_type, name_is}
+use Rattle.gos_joining.proofs.renumbered.ImportLemmas.{has_type}
 use Rattle.gos_supplies.specs.typing.Supplied.{AreTyped, ShareNothing, SuppliedTermIsTyped}
 use Rattle.gos_supplies.proofs.typing.NameLemmas.{typed_under}
-
-pub no_member : (X : Type 0) (x : X) → Contains [] x → ⊥
-no_member X x (k, small, at) = omega (arith, small)
 
 pub of_two : (xs ys : List Thing) (x : Thing) (A : Type 0) → (Contains xs x → A) → (Contains ys x → A) → Contains (xs ++ ys) x → A
 of_two xs ys x A f g has = by_side (Contains-append_cases xs ys x has)
@@ -33,18 +32,18 @@ module _ (i : Imports) (x : Thing) where
   one_named y t h (zero, small, at) =
       let (j, has, named, typed) = has_type i y t h in
       let same : Named y ≡ x = at in
-      record { import = j; has = has; same = sym same ∙ ap (λ z. Named z) (sym (name_is j.name y named)) }
+      record { import = j; has = has; same = sym same ∙ ap (λ z. Named z) (sym (bytes_eq_same j.name y named)) }
   one_named y t h (suc k, small, at) = absurd (omega (arith, small))
 
   bound_inside : (g : List Type') (d n : ℕ) (t : Type') → length g ≤ d → slice_get g n ≡ Some t → Contains (things d (Bound n)) x → IsName
   bound_inside g d n t low at has =
       let within = slice_get_within g n t at in
       let test : nat_lt n d ≡ true = grind (arith, nat_tests, low, within) in
-      absurd (no_member Thing x (subst (λ (b : Bool). Contains (if b then [] else Variable (n - d) ∷ []) x) test has))
+      absurd (none_in_empty x (subst (λ (b : Bool). Contains (if b then [] else Variable (n - d) ∷ []) x) test has))
 
   pub named : (m : Term) (d : ℕ) (g : List Type') (t : Type') → length g ≤ d → Typed i g m t → Contains (things d m) x → IsName
-  named Skip d g t low h has = absurd (no_member Thing x has)
-  named (Lit k w) d g t low h has = absurd (no_member Thing x has)
+  named Skip d g t low h has = absurd (none_in_empty x has)
+  named (Lit k w) d g t low h has = absurd (none_in_empty x has)
   named (Bound n) d g t low h has = bound_inside g d n t low h has
   named (Import y) d g t low h has = one_named y t h has
   named (Lam a m) d g t low (b, e, h) has = named m (suc d) (a ∷ g) b (omega (arith, low)) h has
@@ -182,7 +181,7 @@ module _ (i j : Imports) (f : Name → Option Term) (all : AreTyped i j f) where
     no_name d n has x e = by_test (nat_lt n d) has
       where
         by_test : (b : Bool) → Contains (if b then [] else Variable (n - d) ∷ []) z → ⊥
-        by_test true h = no_member Thing z h
+        by_test true h = none_in_empty z h
         by_test false (zero, small, at) = let no : Variable (n - d) ≡ Named x = at ∙ e in cc no
         by_test false (suc k, small, at) = omega (arith, small)
 
@@ -202,8 +201,8 @@ module _ (i j : Imports) (f : Name → Option Term) (all : AreTyped i j f) where
         }
 
     whence : (m : Term) (d : ℕ) (g : List Type') (t : Type') → Typed i g m t → Contains (things d (supplied f m)) z → Whence (things d m)
-    whence Skip d g t h has = absurd (no_member Thing z has)
-    whence (Lit k w) d g t h has = absurd (no_member Thing z has)
+    whence Skip d g t h has = absurd (none_in_empty z has)
+    whence (Lit k w) d g t h has = absurd (none_in_empty z has)
     whence (Bound n) d g t h has = inl (has, no_name d n has)
     whence (Import x) d g t h has = inr (supply d x t h has)
     whence (Lam a m) d g t (b, e, h) has = whence m (suc d) (a ∷ g) b h has

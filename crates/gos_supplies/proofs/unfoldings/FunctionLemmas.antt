@@ -3,6 +3,7 @@ use Rattle.std.specs.Prelude.{◌≡◌, [], List, ◌∷◌, ◌++◌, Some, No
 use Rattle.std.specs.Str.{bytes_eq}
 use Rattle.std.proofs.Common.{refl, sym, ◌∙◌, ap, subst, inl}
 use Rattle.gos_types.specs.Types.{Type', Fun}
+use Rattle.gos_types.proofs.BytesLemmas.{same_bytes_eq}
 use Rattle.gos_model.specs.Terms.{Term, Import, Lam, App}
 use Rattle.gos_model.specs.Typing.{Imported, Typed}
 use Rattle.gos_model.specs.Substitution.{instantiate}
@@ -12,7 +13,6 @@ use Rattle.gos_realises.specs.realises.Links.{IsJoined}
 use Rattle.gos_realises.specs.realises.Wirings.{applying}
 use Rattle.gos_realises.specs.realises.Realises.{NamesDiffer, HaveOtherNames, Suits, Means, Realises}
 use Rattle.gos_realises.specs.realises.Modules.{Supply, AreSupplied, supplying, term_for, RealisesOpen}
-use Rattle.gos_programs.proofs.contexts.PlacedLemmas.{same_true}
 use Rattle.gos_supplies.specs.applications.Opened.{IsFunctionOf}
 use Rattle.gos_supplies.proofs.applications.TermLemmas.{term_first, term_second}
 use Rattle.gos_supplies.proofs.applications.BodyLemmas.{body_is_realised}
@@ -37,7 +37,7 @@ module _ (x : Imported) (p q : Plan) (n : Term) (is : IsFunctionOf x p q) (names
       differ = subst NamesDiffer is.imports names
 
       itself : bytes_eq x.name x.name ≡ true
-      itself = same_true x.name x.name refl
+      itself = same_bytes_eq x.name x.name refl
 
       there : term_for (p.imports ++ (x ∷ [])) (ss ++ (u ∷ [])) x.name ≡ Some u.term
       there =

@@ -3,6 +3,7 @@ use Rattle.std.specs.Prelude.{◌≡◌, ℕ, false, List, [], ◌∷◌, ◌++�
 use Rattle.std.proofs.Common.{refl, sym, ◌∙◌, ap, subst, inr}
 use Rattle.std.proofs.lemmas.List.{append-nil}
 use Rattle.gos_types.specs.Types.{Type', Com, Exp, Var, Pair, Fun}
+use Rattle.gos_types.proofs.BoolLemmas.{and_false}
 use Rattle.gos_model.specs.Terms.{Term, Lit, App, Fst, Snd, Assign, Deref}
 use Rattle.gos_model.specs.Typing.{Imports, Typed}
 use Rattle.gos_model.proofs.HeadLemmas.{head_ready}
@@ -14,7 +15,7 @@ use Rattle.gos_realises.specs.realises.Wirings.{link, writing, applying}
 use Rattle.gos_realises.specs.realises.Realises.{HaveOtherNames, Suits, Means}
 use Rattle.gos_realises.proofs.realises.ReadyLemmas.{ready_is_realised}
 use Rattle.gos_realises.proofs.joined.OriginLemmas.{import_of}
-use Rattle.gos_supplies.proofs.applications.SeamLemmas.{and_none, listed, left_none, listed_imports}
+use Rattle.gos_supplies.proofs.applications.SeamLemmas.{listed, left_none, listed_imports}
 use Rattle.gos_supplies.proofs.applications.SideLemmas.{side_imports}
 use Rattle.gos_supplies.proofs.applications.ReadingLemmas.{reading_imports}
 use Rattle.gos_supplies.proofs.applications.TogetherLemmas.{imports_of}
@@ -29,9 +30,9 @@ write_links = link 0 (ResultEnd 1) 1 (PartEnd 0 1) ∷ link 1 (PartEnd 0 0) 2 (R
 
 none_joined : (k i : ℕ) → is_joined write_links k i ≡ false
 none_joined k i =
-    let one = and_none (nat_eq 0 k) in
-    let middle = and_none (nat_eq 1 k) in
-    let last = and_none (nat_eq 2 k) in
+    let one = and_false (nat_eq 0 k) in
+    let middle = and_false (nat_eq 1 k) in
+    let last = and_false (nat_eq 2 k) in
     λ j. (one j || middle j) || ((middle j || last j) || false)
 
 writing_left : (w k : ℕ) (p : Plan) → all_left (writing w k p) ≡ listed 0 0 p.imports

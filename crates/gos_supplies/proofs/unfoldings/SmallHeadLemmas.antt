@@ -2,12 +2,12 @@
 use Rattle.std.specs.Prelude.{[]}
 use Rattle.std.proofs.Common.{refl, inl, inr}
 use Rattle.gos_types.specs.Types.{Com}
+use Rattle.gos_types.proofs.ListLemmas.{none_in_empty}
 use Rattle.gos_model.specs.Terms.{Skip, Bound}
-use Rattle.gos_model.specs.Typing.{Thing, Typed}
+use Rattle.gos_model.specs.Typing.{Typed}
 use Rattle.gos_plan.specs.SmallPlans.{skip_plan}
 use Rattle.gos_realises.proofs.realises.SkipLemmas.{skip_is_realised}
 use Rattle.gos_supplies.specs.unfoldings.SmallHeads.{same, same_of_skip, ArgumentUnfolds, BelowUnfolds, FunctionIsNoHead, InsideIsNoHead, UnfoldedIsRealised}
-use Rattle.gos_supplies.proofs.typing.WhenceLemmas.{no_member}
 use Rattle.gos_supplies.proofs.unfoldings.HeadLemmas.{head_is_realised}
 
 pub argument_unfolds : ArgumentUnfolds
@@ -26,7 +26,7 @@ inside_is_no_head n (inr h) = h
 
 -- `skip` has nothing that the function could share
 typed_use : Typed [] [] same_of_skip Com
-typed_use = (Com, (Com, refl, refl), refl, λ x has other. no_member Thing x has)
+typed_use = (Com, (Com, refl, refl), refl, λ x has other. none_in_empty x has)
 
 pub unfolded_is_realised : UnfoldedIsRealised
 unfolded_is_realised = head_is_realised Com skip_plan same_of_skip Skip argument_unfolds typed_use skip_is_realised

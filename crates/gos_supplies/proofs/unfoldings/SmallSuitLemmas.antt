@@ -2,9 +2,9 @@
 use Rattle.std.specs.Prelude.{[], ◌∷◌}
 use Rattle.std.proofs.Common.{sym, subst}
 use Rattle.gos_types.specs.Types.{Com}
+use Rattle.gos_types.proofs.ListLemmas.{none_in_empty}
 use Rattle.gos_model.specs.Terms.{Skip}
 use Rattle.gos_plan.specs.Plans.{Plan}
-use Rattle.gos_plan.specs.Joining.{Link}
 use Rattle.gos_plan.specs.SmallPlans.{skip_plan}
 use Rattle.gos_realises.specs.realises.Links.{IsJoined}
 use Rattle.gos_realises.specs.realises.Realises.{NamesDiffer, Suits}
@@ -15,13 +15,12 @@ use Rattle.gos_joining.specs.renumbered.SmallRewirings.{unchanged}
 use Rattle.gos_joining.proofs.renumbered.HigherLemmas.{is_itself, joined_moved, renumbered_is_realised}
 use Rattle.gos_supplies.proofs.applications.SingleLemmas.{alone_joins}
 use Rattle.gos_supplies.specs.unfoldings.SmallSuits.{SkipSuits, NumberSuitsNot}
-use Rattle.gos_supplies.proofs.typing.WhenceLemmas.{no_member}
 
 -- what is joined of the plan alone is the plan but for numbers
 alone_suits : (r : Plan) → IsJoined (supplying skip_plan []) r → Suits Com r Skip
 alone_suits r of_r =
     let right = skip_is_realised.suits.right in
-    let (g, same) = joined_moved unchanged skip_plan skip_plan [] [] 0 0 Com (is_itself skip_plan right) (λ k x at. absurd (cc at)) (λ l has. absurd (no_member Link l has)) r skip_plan of_r
+    let (g, same) = joined_moved unchanged skip_plan skip_plan [] [] 0 0 Com (is_itself skip_plan right) (λ k x at. absurd (cc at)) (λ l has. absurd (none_in_empty l has)) r skip_plan of_r
     (record { fits = of_r.fits; joining = alone_joins skip_plan right })
     in
     (renumbered_is_realised g r skip_plan Com Skip same skip_is_realised).suits

@@ -3,10 +3,11 @@ use Rattle.std.specs.Prelude.{◌≡◌, suc, Bool, true, false, List, [], ◌�
 use Rattle.std.specs.Str.{bytes_eq}
 use Rattle.std.proofs.Common.{refl, sym, ◌∙◌, arith}
 use Rattle.gos_types.specs.Types.{Type'}
+use Rattle.gos_types.proofs.BytesLemmas.{bytes_eq_same}
 use Rattle.gos_model.specs.Terms.{Term}
 use Rattle.gos_model.specs.Typing.{Imports, import_type, Named, Apart, Typed}
 use Rattle.gos_realises.specs.realises.Realises.{HaveOtherNames}
-use Rattle.gos_joining.proofs.renumbered.ImportLemmas.{has_type, name_is}
+use Rattle.gos_joining.proofs.renumbered.ImportLemmas.{has_type}
 use Rattle.gos_programs.specs.contexts.Widening.{AreAmong}
 use Rattle.gos_programs.proofs.contexts.WideningLemmas as widening
 use Rattle.gos_supplies.proofs.typing.WhenceLemmas.{named}
@@ -35,7 +36,7 @@ among_second (i ∷ is) js other x t h =
         → (if b then Some i.ty else import_type (is ++ js) x) ≡ Some t
     by_test true test rest =
         let (j, has, named, typed) = has_type js x t h in
-        absurd (other i j (0, omega arith, refl) has (name_is i.name x test ∙ sym (name_is j.name x named)))
+        absurd (other i j (0, omega arith, refl) has (bytes_eq_same i.name x test ∙ sym (bytes_eq_same j.name x named)))
     by_test false test rest = rest
 
 -- terms under imports of other names share nothing

@@ -5,12 +5,13 @@ use Rattle.std.proofs.lemmas.Bool.Decides.{nat_tests}
 use Rattle.std.proofs.lemmas.List.{length-map}
 use Rattle.gos_types.specs.declared.shakes.Role.TheVariants.{Serve}
 use Rattle.gos_types.specs.Types.{Type', Com, Exp, Var, Pair, Fun}
+use Rattle.gos_types.proofs.ListLemmas.{same_in_front}
 use Rattle.gos_plan.specs.Kinds.{Contact, contacts_of, turned_contact, other_side}
 use Rattle.gos_plan.proofs.SideLemmas.{pairs_join, functions_join}
 use Rattle.gos_realises.specs.realises.Regular.{count, beyond, KeepsTurnsOf}
 use Rattle.gos_realises.proofs.realises.GroundTurnLemmas.{some_there, there_some}
 use Rattle.gos_realises.proofs.realises.InputLemmas.{import_serves}
-use Rattle.gos_realises.proofs.joined.OriginLemmas.{front_at, behind_at}
+use Rattle.gos_realises.proofs.joined.OriginLemmas.{behind_at}
 
 pub one_serves : (t : Type') (h : ℕ) (k : Contact) (g : ℕ → Bool) → slice_get (contacts_of t) h ≡ Some k → KeepsTurnsOf t g → g h ≡ true
     → ((n : ℕ) → (n ≡ h → ⊥) → g n ≡ false) → k.role ≡ Serve
@@ -29,7 +30,7 @@ one_serves (Pair a b) h k g at keeps up others =
     by_test : (l : Bool) → nat_lt h (count a) ≡ l → (slice_get (contacts_of a) h ≡ Some k → k.role ≡ Serve)
         → (count a ≤ h → slice_get (contacts_of b) (h - count a) ≡ Some k → k.role ≡ Serve) → k.role ≡ Serve
     by_test true test first second =
-        let low : h < count a = grind (arith, nat_tests, test) in first (sym (front_at (contacts_of a) (contacts_of b) h low) ∙ at_pair)
+        let low : h < count a = grind (arith, nat_tests, test) in first (sym (same_in_front (contacts_of a) (contacts_of b) h low) ∙ at_pair)
     by_test false test first second =
         let high : count a ≤ h = grind (arith, nat_tests, test) in second high (sym (behind_at (contacts_of a) (contacts_of b) h high) ∙ at_pair)
 one_serves (Fun a b) h k g at keeps up others =

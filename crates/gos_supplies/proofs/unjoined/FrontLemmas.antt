@@ -3,8 +3,8 @@ use Rattle.std.specs.Prelude.{◌≡◌, ℕ, ◌+◌, ◌-◌, ◌<◌, ◌≤�
 use Rattle.std.proofs.Common.{refl, sym, ◌∙◌, ap, arith}
 use Rattle.std.proofs.lemmas.Bool.Decides.{nat_tests}
 use Rattle.std.proofs.lemmas.Option.{slice_get_within}
-use Rattle.gos_realises.proofs.joined.OriginLemmas.{front_at, behind_at}
-use Rattle.gos_supplies.proofs.unjoined.SettledLemmas.{element_at}
+use Rattle.gos_types.proofs.ListLemmas.{element_at, same_in_front}
+use Rattle.gos_realises.proofs.joined.OriginLemmas.{behind_at}
 
 -- of n numbers in front, that have m
 abbrev pub in_front : ℕ → ℕ → (ℕ → ℕ) → ℕ → ℕ
@@ -69,7 +69,7 @@ module _ {X : Type 0} (xs ys zs : List X) (to : ℕ → ℕ) (from : ℕ → Opt
         by_test true test =
             let small : i < n = grind (arith, nat_tests, test) in
             ap (slice_get (ys ++ zs)) (front n m to i small)
-            ∙ (front_at ys zs (to i) (front_within i small) ∙ (get i ∙ sym (front_at xs zs i small)))
+            ∙ (same_in_front ys zs (to i) (front_within i small) ∙ (get i ∙ sym (same_in_front xs zs i small)))
         by_test false test =
             let large : n ≤ i = grind (arith, nat_tests, test) in
             let less : m + (i - n) - m ≡ i - n = omega arith in

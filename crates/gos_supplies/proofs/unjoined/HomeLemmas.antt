@@ -1,26 +1,14 @@
 -- A way of the larger web stays in the smaller one, or outside it.
-use Rattle.std.specs.Prelude.{◌≡◌, ℕ, List, [], ◌⊎◌, Option, Some, None, Contains, slice_get}
+use Rattle.std.specs.Prelude.{◌≡◌, ℕ, [], ◌⊎◌, Option, Some, None, Contains, slice_get}
 use Rattle.std.proofs.Common.{refl, sym, ◌∙◌, ap, subst, inl, inr}
 use Rattle.gos_model.specs.Typing.{Imported}
 use Rattle.gos_plan.specs.Kinds.{Part, Contact, asks, serves, contacts_of}
 use Rattle.gos_plan.specs.Plans.{End, PartEnd, ImportEnd, ResultEnd, Plan, contact_at, contacts_of_part, contacts_of_import, turned_if}
 use Rattle.gos_plan.proofs.JointLemmas.{fits, contained}
-use Rattle.gos_joining.specs.webs.Webs.{Dot, Tie, tie, Web, Meet, Way, here, along, Connects, joint, IsOfWeb}
+use Rattle.gos_joining.specs.webs.Webs.{Dot, tie, Web, Meet, Way, here, along, Connects, joint, IsOfWeb}
+use Rattle.gos_joining.proofs.webs.WayLemmas.{way_then, way_back}
 use Rattle.gos_supplies.specs.unjoined.Beside.{Placing, placed, IsLoose, IsOwn, LiesIn, IsBeside}
 use Rattle.gos_supplies.specs.unjoined.Homes.{AreHome, IsHome, WebIsBeside}
-
--- ways
-way_then : (ts : List Tie) (a b c : Dot) → Way ts a b → Way ts b c → Way ts a c
-way_then ts a b c (here x) rest = rest
-way_then ts a b c (along x y z meets way) rest = along x y c meets (way_then ts y z c way rest)
-
-turned : (ts : List Tie) (a b : Dot) → Meet ts a b → Meet ts b a
-turned ts a b (inl has) = inr has
-turned ts a b (inr has) = inl has
-
-way_back : (ts : List Tie) (a b : Dot) → Way ts a b → Way ts b a
-way_back ts a b (here x) = here x
-way_back ts a b (along x y z meets way) = way_then ts z y x (way_back ts y z way) (along y x x (turned ts x y meets) (here x))
 
 module _ (home : Dot → Option Dot) (w v : Web) (ties : (a b : Dot) → Contains w.ties (tie a b) → AreHome v (home a) (home b)) where
   -- what meets in w meets at home, or outside

@@ -8,16 +8,18 @@ use Rattle.std.proofs.lemmas.Bool.Decides.{nat_tests}
 use Rattle.std.proofs.lemmas.List.{length-map}
 use Rattle.std.proofs.lemmas.Option.{slice_get_within}
 use Rattle.gos_types.specs.Types.{Type'}
+use Rattle.gos_types.proofs.ListLemmas.{element_at, same_in_front}
 use Rattle.gos_model.specs.Typing.{Imported}
 use Rattle.gos_plan.specs.Kinds.{Contact, asks, serves, contacts_of}
 use Rattle.gos_plan.specs.Plans.{End, PartEnd, ImportEnd, ResultEnd, Plan, contact_at, contacts_of_part, contacts_of_import, turned_if}
 use Rattle.gos_plan.specs.Joining.{Place, place, Link, Wiring, LeftImport, left_among, all_parts, left_place, part_place, origin, JoinedWithin, Linked, Path, Connects, IsJoining}
-use Rattle.gos_realises.proofs.joined.OriginLemmas.{front_at, behind_at, left_at, import_of}
-use Rattle.gos_realises.proofs.joined.ReachLemmas.{place_is, Step, paths_back}
+use Rattle.gos_plan.proofs.WiringLemmas.{place_is}
+use Rattle.gos_realises.proofs.joined.OriginLemmas.{behind_at, left_at, import_of}
+use Rattle.gos_realises.proofs.joined.ReachLemmas.{Step, paths_back}
 use Rattle.gos_joining.specs.webs.Webs.{joint}
 use Rattle.gos_supplies.specs.unjoined.Beside.{Placing, placed, IsOwn}
 use Rattle.gos_supplies.proofs.unjoined.PlacedLemmas.{IsPlaced, part_if, import_if, end_in, AreLoose, own_end, one_end, loose_apart}
-use Rattle.gos_supplies.proofs.unjoined.SettledLemmas.{element_at, end_there}
+use Rattle.gos_supplies.proofs.unjoined.SettledLemmas.{end_there}
 use Rattle.gos_supplies.proofs.unjoined.FrontLemmas.{in_front, in_front_back, front, behind, none_front, front_within, front_get, front_forth, front_return}
 use Rattle.gos_supplies.proofs.unjoined.LeftLemmas.{IsPlain, ArePlain, plain_link, numbered, all_stay, numbered_length, numbered_at, all_imports, left_imports}
 
@@ -217,7 +219,7 @@ module _ (f : Placing) (p q : Plan) (is : IsPlaced f p q) (ps : List Plan) (ls :
       let size = numbered_length 0 0 x.imports in
       let within = slice_get_within x.imports i y at in
       ap (λ (zs : List LeftImport). slice_get (zs ++ left_among ls 1 ps) i) (all_stay ls plain 0 0 x.imports)
-      ∙ (front_at (numbered 0 0 x.imports) (left_among ls 1 ps) i (omega (arith, size, within)) ∙ numbered_at 0 0 x.imports i y at)
+      ∙ (same_in_front (numbered 0 0 x.imports) (left_among ls 1 ps) i (omega (arith, size, within)) ∙ numbered_at 0 0 x.imports i y at)
 
   left_behind : (x : Plan) (i : ℕ) → length x.imports ≤ i → slice_get (left_among ls 0 (x ∷ ps)) i ≡ slice_get (left_among ls 1 ps) (i - length x.imports)
   left_behind x i past =

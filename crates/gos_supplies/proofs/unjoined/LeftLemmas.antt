@@ -1,6 +1,7 @@
 -- Joinings along results and parts: all imports stay.
-use Rattle.std.specs.Prelude.{◌≡◌, ℕ, zero, suc, ◌+◌, ◌<◌, Bool, true, false, ◌&&◌, ◌||◌, List, [], ◌∷◌, ◌++◌, length, map, Some, slice_get, Contains, nat_eq, if◌then◌else◌}
+use Rattle.std.specs.Prelude.{◌≡◌, ℕ, zero, suc, ◌+◌, ◌<◌, Bool, false, ◌&&◌, ◌||◌, List, [], ◌∷◌, ◌++◌, length, map, Some, slice_get, Contains, nat_eq, if◌then◌else◌}
 use Rattle.std.proofs.Common.{refl, ◌∙◌, ap, subst, arith}
+use Rattle.gos_types.proofs.BoolLemmas.{and_false}
 use Rattle.gos_model.specs.Typing.{Imported}
 use Rattle.gos_plan.specs.Plans.{End, PartEnd, ImportEnd, ResultEnd, Plan}
 use Rattle.gos_plan.specs.Joining.{Place, Link, is_of_import, is_at_import, is_joined, LeftImport, left_in, left_among}
@@ -26,10 +27,6 @@ no_import : (i k : ℕ) (e : End) → IsPlain k e → is_of_import i e ≡ false
 no_import i k (PartEnd j h) plain = refl
 no_import i k (ImportEnd j h) plain = absurd plain
 no_import i k (ResultEnd h) plain = refl
-
-and_false : (b : Bool) → (b && false) ≡ false
-and_false true = refl
-and_false false = refl
 
 not_at : (k i : ℕ) (a : Place) → IsPlain a.plan a.end → is_at_import k i a ≡ false
 not_at k i a plain =

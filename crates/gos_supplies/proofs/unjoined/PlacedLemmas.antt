@@ -4,12 +4,13 @@
 -- ends of the plan stand in one.
 use Rattle.std.specs.Prelude.{◌≡◌, ℕ, Bool, true, false, ◌⊎◌, Option, Some, None, nat_eq, Contains, slice_get}
 use Rattle.std.proofs.Common.{refl, sym, ◌∙◌, ap, subst, arith, inl, inr}
+use Rattle.gos_types.proofs.BoolLemmas.{same_tests}
 use Rattle.gos_plan.specs.Kinds.{contacts_of}
 use Rattle.gos_plan.specs.Plans.{End, PartEnd, ImportEnd, ResultEnd, Joint, Plan, IsRight, contact_at, contacts_of_part, contacts_of_import, turned_if, same_end, stands_in}
 use Rattle.gos_plan.specs.Tokens.{IsPortEnd, places_of}
 use Rattle.gos_plan.proofs.JointLemmas.{same_itself, same_is, Found, found, has_place, stands_there, contained}
 use Rattle.gos_joining.specs.webs.Webs.{joint}
-use Rattle.gos_joining.proofs.webs.MovedLemmas.{listed, same_bool}
+use Rattle.gos_joining.proofs.webs.MovedLemmas.{listed}
 use Rattle.gos_supplies.specs.unjoined.Beside.{Placing, placed, IsOwn}
 
 -- the end of the plan that stands at an end of the whole, if one does
@@ -83,7 +84,7 @@ module _ (f : Placing) (r c : Plan) (is : IsPlaced f r c) where
       let both : Some a ≡ Some b = sym (in_placed a) ∙ (ap (end_in f) e ∙ in_placed b) in cc both
 
   pub same_placed : (a b : End) → same_end (placed f a) (placed f b) ≡ same_end a b
-  same_placed a b = same_bool (same_end (placed f a) (placed f b)) (same_end a b) to from
+  same_placed a b = same_tests (same_end (placed f a) (placed f b)) (same_end a b) to from
     where
       to : same_end (placed f a) (placed f b) ≡ true → same_end a b ≡ true
       to t =
@@ -113,7 +114,7 @@ module _ (f : Placing) (r c : Plan) (is : IsPlaced f r c) where
 
   -- parts by their numbers
   pub same_number : (j i : ℕ) → nat_eq (f.part j) (f.part i) ≡ nat_eq j i
-  same_number j i = same_bool (nat_eq (f.part j) (f.part i)) (nat_eq j i) to from
+  same_number j i = same_tests (nat_eq (f.part j) (f.part i)) (nat_eq j i) to from
     where
       to : nat_eq (f.part j) (f.part i) ≡ true → nat_eq j i ≡ true
       to t =

@@ -4,6 +4,7 @@ use Rattle.std.proofs.Common.{refl, sym, ◌∙◌, ap, subst, arith}
 use Rattle.gos_types.specs.declared.shakes.Role.{Role}
 use Rattle.gos_types.specs.declared.shakes.Role.TheVariants.{Serve, Ask}
 use Rattle.gos_types.specs.Events.{Direction, Request, Answer}
+use Rattle.gos_types.proofs.RoleLemmas.{ask_is_not_serve}
 use Rattle.gos_model.specs.Typing.{Imported}
 use Rattle.gos_plan.specs.Kinds.{Contact, contacts_of}
 use Rattle.gos_plan.specs.Plans.{End, PartEnd, ImportEnd, ResultEnd, Plan, contact_at, contacts_of_import, same_end}
@@ -23,9 +24,6 @@ use Rattle.gos_supplies.proofs.unjoined.TokenLemmas.{set, set_list, own_tokens, 
 use Rattle.gos_supplies.proofs.unjoined.StillLemmas.{IsStill, idle_still, stays_still, fire_own, out_own}
 use Rattle.gos_supplies.proofs.unjoined.OrderLemmas.{ordered_whole}
 use Rattle.gos_supplies.proofs.unjoined.TurnLemmas.{set_passes, open_placed, loose_closed, out_pass, in_pass, inputs_after, inputs_own, outputs_whole}
-
-ask_serve : Ask ≡ Serve → ⊥
-ask_serve e = cc e
 
 -- another handshake of the import
 other_end : (i h g : ℕ) → (g ≡ h → ⊥) → same_end (ImportEnd i h) (ImportEnd i g) ≡ false
@@ -74,7 +72,7 @@ module _ (f : Placing) (r c : Plan) (is : IsPlaced f r c) where
       let zeros : 0 + i ≡ i = omega arith in
       let turned : KeepsTurnsOf x.ty (λ g. is_open now (ImportEnd i g)) = subst (λ (n : ℕ). KeepsTurnsOf x.ty (λ g. is_open now (ImportEnd n g))) zeros each.0 in
       let serves = one_serves x.ty h k (λ g. is_open now (ImportEnd i g)) both turned up others in
-      ask_serve (sym asks ∙ serves)
+      ask_is_not_serve (sym asks ∙ serves)
     where
       now : List Pass
       now = pass (ImportEnd i h) Request ∷ set_passes f past

@@ -2,10 +2,11 @@
 --
 -- A plan beside loose parts says nothing of numbers past the end of its lists. Here each of those gets one past the end of
 -- the whole's lists, so that no two ends stand in one (`IsPlaced`).
-use Rattle.std.specs.Prelude.{◌≡◌, ℕ, zero, suc, ◌+◌, ◌-◌, ◌<◌, ◌≤◌, Bool, true, false, List, [], ◌∷◌, ◌⊎◌, length, Option, Some, None, Contains, nat_lt, slice_get, if◌then◌else◌}
+use Rattle.std.specs.Prelude.{◌≡◌, ℕ, ◌+◌, ◌-◌, ◌<◌, ◌≤◌, Bool, true, false, List, [], ◌⊎◌, length, Option, Some, None, Contains, nat_lt, slice_get, if◌then◌else◌}
 use Rattle.std.proofs.Common.{refl, sym, ◌∙◌, ap, subst, arith, inl, inr}
 use Rattle.std.proofs.lemmas.Bool.Decides.{nat_tests}
 use Rattle.std.proofs.lemmas.Option.{slice_get_within, slice_get_past}
+use Rattle.gos_types.proofs.ListLemmas.{element_at}
 use Rattle.gos_model.specs.Typing.{Imported}
 use Rattle.gos_plan.specs.Kinds.{Part, Contact, asks, serves}
 use Rattle.gos_plan.specs.Plans.{End, PartEnd, ImportEnd, ResultEnd, Plan, IsRight, contact_at, contacts_of_part, contacts_of_import}
@@ -13,11 +14,6 @@ use Rattle.gos_plan.proofs.JointLemmas.{fits, contained}
 use Rattle.gos_joining.specs.webs.Webs.{joint}
 use Rattle.gos_supplies.specs.unjoined.Beside.{Placing, placed, IsLoose, IsOwn, IsBeside}
 use Rattle.gos_supplies.proofs.unjoined.PlacedLemmas.{part_if, import_if, end_in, AreLoose, IsPlaced}
-
-pub element_at : {X : Type 0} (xs : List X) (i : ℕ) → i < length xs → (x : X) × (slice_get xs i ≡ Some x)
-element_at [] i small = absurd (omega (arith, small))
-element_at (x ∷ xs) zero small = (x, refl)
-element_at (x ∷ xs) (suc i) small = element_at xs i (omega (arith, small))
 
 -- of n numbers, that have m, all others have later ones
 abbrev pub settled : ℕ → ℕ → (ℕ → ℕ) → ℕ → ℕ

@@ -4,9 +4,9 @@ use Rattle.std.proofs.Common.{refl, sym, ◌∙◌, ap, subst, arith, inl, inr}
 use Rattle.gos_plan.specs.Kinds.{Part, Skip, Contact}
 use Rattle.gos_plan.specs.Plans.{End, PartEnd, ImportEnd, ResultEnd, Joint, IsRight, contact_at}
 use Rattle.gos_plan.specs.SmallPlans.{skip_plan}
+use Rattle.gos_plan.proofs.SmallPlanLemmas.{skip_is_right}
 use Rattle.gos_joining.specs.webs.Webs.{Of, Tie, tie, Way, here, along, joint, own_web}
 use Rattle.gos_joining.proofs.webs.WebLemmas.{right_is_of_its_web}
-use Rattle.gos_joining.proofs.webs.SmallWebLemmas.{skip_is_right}
 use Rattle.gos_supplies.specs.unjoined.Beside.{placed, IsLoose, IsOwn, LiesIn}
 use Rattle.gos_supplies.specs.unjoined.Homes.{AreHome}
 use Rattle.gos_supplies.specs.unjoined.SmallBeside.{first_alone, first_part, skip_and_loose, home_of_first, SkipIsBeside, JoinedIsNotBeside, SkipIsHome, OtherIsNotHome}
@@ -36,7 +36,7 @@ first_lies js =
     numbers zero j at = (let same : zero ≡ j = cc at in (sym same, (Skip, ap (slice_get skip_plan.parts) (sym same))))
     numbers (suc i) j at = absurd (cc at)
 
-both_right : IsRight skip_and_loose
+pub both_right : IsRight skip_and_loose
 both_right = (((0, 0, refl, refl), refl, refl), tt)
 
 -- its web: the loose Skip is not at home

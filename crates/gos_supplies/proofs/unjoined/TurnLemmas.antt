@@ -1,8 +1,8 @@
 -- What passes the plan's ports keeps turns in the whole where it does in the plan, and back: at loose imports nothing is
 -- open.
-use Rattle.std.specs.Prelude.{◌≡◌, ℕ, zero, suc, ◌+◌, Bool, true, false, ◌&&◌, ◌||◌, IsTrue, List, [], ◌∷◌, Option, Some, None, slice_get, if◌then◌else◌}
+use Rattle.std.specs.Prelude.{◌≡◌, ℕ, ◌+◌, Bool, true, false, IsTrue, List, [], ◌∷◌, Option, Some, None, slice_get, if◌then◌else◌}
 use Rattle.std.proofs.Common.{refl, sym, ◌∙◌, ap, subst, arith}
-use Rattle.gos_types.specs.Types.{Type', Com, Exp, Var, Pair, Fun}
+use Rattle.gos_types.specs.Types.{Type', Fun}
 use Rattle.gos_types.specs.Events.{Direction, Request, Answer}
 use Rattle.gos_model.specs.Typing.{Imported}
 use Rattle.gos_plan.specs.Kinds.{Contact}
@@ -14,6 +14,7 @@ use Rattle.gos_joining.proofs.renumbered.TurnLemmas.{of_import, of_result, Impor
 use Rattle.gos_supplies.specs.unjoined.Beside.{Placing, placed}
 use Rattle.gos_supplies.proofs.unjoined.PlacedLemmas.{IsPlaced, end_in, import_if, same_placed, other_loose, contact_placed}
 use Rattle.gos_supplies.proofs.unjoined.TokenLemmas.{set, set_list}
+use Rattle.gos_supplies.proofs.turns.WholeLemmas.{shut_turned, none_some}
 
 -- what passed the plan passed the whole
 abbrev pub set_pass : Placing → Pass → Pass
@@ -22,26 +23,6 @@ set_pass f x = pass (placed f x.end) x.way
 abbrev pub set_passes : Placing → List Pass → List Pass
 set_passes f [] = []
 set_passes f (x ∷ past) = set_pass f x ∷ set_passes f past
-
--- where nothing is open a type keeps its turns
-none_open : (n : ℕ) (g : ℕ → Bool) → ((h : ℕ) → g h ≡ false) → some_open n g ≡ false
-none_open zero g closed = refl
-none_open (suc n) g closed = let rest = none_open n g closed in λ i. closed n i || rest i
-
-closed_keeps : (t : Type') (g : ℕ → Bool) → ((h : ℕ) → g h ≡ false) → KeepsTurnsOf t g
-closed_keeps Com g closed = tt
-closed_keeps (Exp w) g closed = tt
-closed_keeps (Var w) g closed = ap (λ (b : Bool). b && g 1) (closed 0)
-closed_keeps (Pair a b) g closed = (
-  closed_keeps a g closed,
-  closed_keeps b (beyond (count a) g) (λ h. closed (count a + h)),
-  λ i. none_open (count a) g closed i && some_open (count b) (beyond (count a) g),
-)
-closed_keeps (Fun a b) g closed = (
-  closed_keeps a g closed,
-  closed_keeps b (beyond (count a) g) (λ h. closed (count a + h)),
-  λ busy. (let never : false ≡ true = sym (none_open (count a) g closed) ∙ busy in absurd (cc never)),
-)
 
 module _ (f : Placing) (r c : Plan) (is : IsPlaced f r c) where
   pub open_placed : (past : List Pass) (e : End) → is_open (set_passes f past) (placed f e) ≡ is_open past e
@@ -120,7 +101,7 @@ module _ (f : Placing) (r c : Plan) (is : IsPlaced f r c) where
           let closed : (h : ℕ) → of_import (is_open (set_passes f past)) (0 + i) h ≡ false =
           λ h. loose_closed past (ImportEnd (0 + i) h) (ap (λ (n : ℕ). import_if (f.import_number n) h) sum ∙ ap (λ (o : Option ℕ). import_if o h) loose)
           in (
-            closed_keeps x.ty (of_import (is_open (set_passes f past)) (0 + i)) closed,
+            shut_turned x.ty (of_import (is_open (set_passes f past)) (0 + i)) closed,
             λ busy.
                 (let (h, low, up) = some_there (count x.ty) (of_import (is_open (set_passes f past)) (0 + i)) busy in
                 let both : true ≡ false = sym up ∙ closed h in absurd (cc both)),

@@ -4,13 +4,16 @@ use Rattle.std.proofs.Common.{refl, sym, ◌∙◌, ap, subst, arith}
 use Rattle.std.proofs.lemmas.Option.{slice_get_within}
 use Rattle.std.proofs.lemmas.List.{append-nil}
 use Rattle.std.proofs.lemmas.Bool.Decides.{nat_tests}
+use Rattle.std.proofs.lemmas.Bool.{lt-ltb, le-ltb}
 use Rattle.gos_types.specs.Types.{Type', Fun}
+use Rattle.gos_types.proofs.ListLemmas.{found_behind, same_in_front}
 use Rattle.gos_model.specs.Typing.{Imported}
 use Rattle.gos_check.specs.Nodes.{Numbered, Two, OfApp, type_of_node}
 use Rattle.gos_check.specs.Linearity.{times}
 use Rattle.gos_plan.specs.Kinds.{Part, Contact}
 use Rattle.gos_plan.specs.Plans.{End, PartEnd, ImportEnd, ResultEnd, Joint, Plan, contact_at}
 use Rattle.gos_plan.specs.Joining.{Place as Spot, place, LeftImport, all_left, left_place, origin}
+use Rattle.gos_plan.proofs.ContactLemmas.{part_is_there, import_is_there}
 use Rattle.gos_ties.specs.declared.points.Place.TheVariants as places
 use Rattle.gos_ties.specs.declared.points.Point.{Point}
 use Rattle.gos_ties.specs.declared.points.Tie as point_ties
@@ -37,12 +40,12 @@ use Rattle.gos_terms.proofs.applying.RowLemmas.{to_second, rows_two}
 use Rattle.gos_terms.proofs.applying.MatchingLemmas.{Matching, matched}
 use Rattle.gos_terms.proofs.applying.ChildLemmas.{dot_tie, child_ties}
 use Rattle.gos_terms.proofs.applying.SupplyLemmas.{inside}
-use Rattle.gos_terms.proofs.applying.SideLemmas.{its_part, its_import, child_led}
-use Rattle.gos_terms.proofs.applying.PermuteLemmas.{chosen, others, total, put, taken, there_and_back, back_and_there, chosen_length, put_there, comes_last, front, behind, Standing, stands_first, stands_last}
+use Rattle.gos_terms.proofs.applying.SideLemmas.{child_led}
+use Rattle.gos_terms.proofs.applying.PermuteLemmas.{chosen, others, total, put, taken, there_and_back, back_and_there, chosen_length, put_there, comes_last, Standing, stands_first, stands_last}
 use Rattle.gos_terms.proofs.applying.ChosenLemmas as choices
 use Rattle.gos_terms.proofs.applying.ChosenLemmas.{Placed, child_wired}
 use Rattle.gos_terms.proofs.applying.ApplyWebLemmas as apply
-use Rattle.gos_terms.proofs.applying.ApplyWebLemmas.{pick, below, not_below}
+use Rattle.gos_terms.proofs.applying.ApplyWebLemmas.{pick}
 use Rattle.gos_terms.proofs.applying.PartedLemmas.{up, down, itself, of_first, first_choice, second_choice}
 
 row_all : (j x l : ℕ) → map (renamed (λ h. point (places.Node j) h)) (row places.Result x l) ≡ row (places.Node j) x l
@@ -187,10 +190,10 @@ module _
             by_test : (c : Bool) → nat_lt k (length (parts_of types m)) ≡ c → nat_lt (i + k) (i + length (parts_of types m)) ≡ nat_lt k (length (parts_of types m))
             by_test true low =
                 let less : k < length (parts_of types m) = grind (arith, nat_tests) in
-                below (i + k) (i + length (parts_of types m)) (omega (arith, less)) ∙ sym low
+                lt-ltb (i + k) (i + length (parts_of types m)) (omega (arith, less)) ∙ sym low
             by_test false high =
                 let more : length (parts_of types m) ≤ k = grind (arith, nat_tests) in
-                not_below (i + k) (i + length (parts_of types m)) (omega (arith, more)) ∙ sym high
+                le-ltb (i + k) (i + length (parts_of types m)) (omega (arith, more)) ∙ sym high
     source_there b h (Supplied x k) is = ap (λ (c : Bool). pick c (Within (suc x) (Of (PartEnd k h)))) is
 
     source_home : (b : Bool) (h : ℕ) (o : Source) → back (pick b (source_dot i o h)) ≡ source_dot i o h
@@ -217,7 +220,7 @@ module _
     part_high x y is picked =
         let sizes = chosen_length f r.parts in
         let high = comes_last f (length r.parts) x (slice_get_within r.parts x y is) picked in
-        not_below (to x) (length (chosen f r.parts)) (omega (arith, high, sizes))
+        le-ltb (to x) (length (chosen f r.parts)) (omega (arith, high, sizes))
 
     part_end : (x h : ℕ) (y : Part) → slice_get r.parts x ≡ Some y → (b : Bool) → f x ≡ b → EndAt (PartEnd x h)
     part_end x h y is true picked =
@@ -228,7 +231,7 @@ module _
         (λ (b : Bool). if b then place 0 (PartEnd (to x) h)
         else (if nat_lt (to x - length (chosen f r.parts)) (length (others f r.parts)) then place 1 (PartEnd (to x - length (chosen f r.parts)) h)
         else place 2 (PartEnd (to x - length (chosen f r.parts) - length (others f r.parts)) h)))
-        (below (to x) (length (chosen f r.parts)) low) in
+        (lt-ltb (to x) (length (chosen f r.parts)) low) in
         record {
           side = true;
           at = ap at_origin where_is ∙ ap (λ (k : ℕ). Within 0 (source_dot i (pl.source k) h)) round;
@@ -242,7 +245,7 @@ module _
         let same : to x - length (chosen f r.parts) ≡ to x - size = omega (arith, sizes) in
         let first : nat_lt (to x) (length (chosen f r.parts)) ≡ false = part_high x y is picked in
         let second : nat_lt (to x - length (chosen f r.parts)) (length (others f r.parts)) ≡ true =
-        below (to x - length (chosen f r.parts)) (length (others f r.parts)) (omega (arith, low, same)) in
+        lt-ltb (to x - length (chosen f r.parts)) (length (others f r.parts)) (omega (arith, low, same)) in
         let where_is : wiring_origin (PartEnd (to x) h) ≡ place 1 (PartEnd (to x - size) h) =
         ap
         (λ (b : Bool). if b then place 0 (PartEnd (to x) h)
@@ -277,7 +280,7 @@ module _
         let zeros : 0 + to_i x ≡ to_i x = omega arith in
         let left : slice_get (all_left (applying (type_of_node n) t p q)) (to_i x) ≡ Some (record { plan = 0; number = 0 + to_i x; import = y }) =
         ap (λ (l : List LeftImport). slice_get l (to_i x)) left_all
-        ∙ (front (listed 0 0 (chosen fi r.imports)) (listed 1 0 (others fi r.imports)) (to_i x) (omega (arith, low, long))
+        ∙ (same_in_front (listed 0 0 (chosen fi r.imports)) (listed 1 0 (others fi r.imports)) (to_i x) (omega (arith, low, long))
         ∙ listed_at 0 0 (chosen fi r.imports) (to_i x) y at_p) in
         let where_is : wiring_origin (ImportEnd (to_i x) h) ≡ place 0 (ImportEnd (to_i x) h) =
         ap (λ (o : Option LeftImport). left_place o h) left ∙ ap (λ (k : ℕ). place 0 (ImportEnd k h)) zeros in
@@ -299,7 +302,7 @@ module _
         let left : slice_get (all_left (applying (type_of_node n) t p q)) (to_i x) ≡ Some (record { plan = 1; number = 0 + (to_i x - size_i); import = y }) =
         ap (λ (l : List LeftImport). slice_get l (to_i x)) left_all
         ∙ (ap (slice_get (listed 0 0 (chosen fi r.imports) ++ listed 1 0 (others fi r.imports))) sum
-        ∙ (behind (listed 0 0 (chosen fi r.imports)) (listed 1 0 (others fi r.imports)) (to_i x - size_i)
+        ∙ (found_behind (listed 0 0 (chosen fi r.imports)) (listed 1 0 (others fi r.imports)) (to_i x - size_i)
         ∙ listed_at 1 0 (others fi r.imports) (to_i x - size_i) y at_q)) in
         let where_is : wiring_origin (ImportEnd (to_i x) h) ≡ place 1 (ImportEnd (to_i x - size_i) h) =
         ap (λ (o : Option LeftImport). left_place o h) left ∙ ap (λ (k : ℕ). place 1 (ImportEnd k h)) zeros in
@@ -320,16 +323,16 @@ module _
 
     ends_forth : (e : End) (c : Contact) → contact_at r e ≡ Some c → Way u.ties (forth (w.at e)) (u.at (moved_end g e))
     ends_forth (PartEnd x h) c at =
-        let (y, is) = its_part (slice_get r.parts x) h c at in end_forth (PartEnd x h) (part_end x h y is (f x) refl)
+        let (y, is) = part_is_there (slice_get r.parts x) h c at in end_forth (PartEnd x h) (part_end x h y is (f x) refl)
     ends_forth (ImportEnd x h) c at =
-        let (y, is) = its_import (slice_get r.imports x) h c at in end_forth (ImportEnd x h) (import_end x h y is (fi x) refl)
+        let (y, is) = import_is_there (slice_get r.imports x) h c at in end_forth (ImportEnd x h) (import_end x h y is (fi x) refl)
     ends_forth (ResultEnd h) c at = here (u.at (ResultEnd h))
 
     ends_back : (e : End) (c : Contact) → contact_at r e ≡ Some c → Way w.ties (back (u.at (moved_end g e))) (w.at e)
     ends_back (PartEnd x h) c at =
-        let (y, is) = its_part (slice_get r.parts x) h c at in end_back (PartEnd x h) (part_end x h y is (f x) refl)
+        let (y, is) = part_is_there (slice_get r.parts x) h c at in end_back (PartEnd x h) (part_end x h y is (f x) refl)
     ends_back (ImportEnd x h) c at =
-        let (y, is) = its_import (slice_get r.imports x) h c at in end_back (ImportEnd x h) (import_end x h y is (fi x) refl)
+        let (y, is) = import_is_there (slice_get r.imports x) h c at in end_back (ImportEnd x h) (import_end x h y is (fi x) refl)
     ends_back (ResultEnd h) c at =
         let k : ℕ = count (type_of_node n) in
         let less : (k + h) - k ≡ h = omega arith in

@@ -3,10 +3,11 @@ use Rattle.std.specs.Prelude.{◌≡◌, ℕ, zero, suc, ◌+◌, ◌-◌, ◌<�
 use Rattle.std.proofs.Common.{refl, sym, ◌∙◌, ap, subst, arith, inl, inr}
 use Rattle.std.proofs.lemmas.List.Elements.{Contains-append_left, Contains-append_right, Contains-append_cases}
 use Rattle.std.proofs.lemmas.Bool.Decides.{nat_tests}
+use Rattle.std.proofs.lemmas.Bool.{lt-ltb, le-ltb, eq-eqb, ne_eqb}
 use Rattle.gos_types.specs.Types.{Type'}
 use Rattle.gos_check.specs.Nodes.{Numbered, type_of_node}
 use Rattle.gos_check.specs.Linearity.{times, used, made}
-use Rattle.gos_check.proofs.TimesLemmas.{eq_true, eq_false, some_times, listed_times}
+use Rattle.gos_check.proofs.TimesLemmas.{some_times, listed_times}
 use Rattle.gos_plan.specs.Plans.{PartEnd, ImportEnd, ResultEnd, Plan}
 use Rattle.gos_plan.specs.Joining.{Link}
 use Rattle.gos_ties.specs.declared.points.Place.{Place}
@@ -25,6 +26,7 @@ use Rattle.gos_compile.specs.Wiring.{Types, parts_of, nodes}
 use Rattle.gos_terms.specs.wired.Wired.{Supplies, Placing, dot_at, dot_of_place, dot_of, all_supply_ties, wired_web}
 use Rattle.gos_terms.proofs.wired.TieLemmas.{OfSupplies, of_supplies, in_supplies}
 use Rattle.gos_joining.proofs.weaving.CrossingLemmas.{still}
+use Rattle.gos_sharing.proofs.function_types.SideLemmas.{link_is_in}
 use Rattle.gos_terms.specs.applying.Uses.{Stands, AreParted, AreApart}
 use Rattle.gos_terms.proofs.applying.RenamedLemmas.{renamed_at}
 use Rattle.gos_terms.proofs.applying.StandLemmas.{IsOf}
@@ -48,25 +50,7 @@ pub supply_sink : (to : ℕ → Point) (n : ℕ) (t : Tie) → IsSupplyTie n t �
 supply_sink to n t (inl (y, same)) = (subst (λ (x : Tie). x.one ≡ sink to x.one) same refl, subst (λ (x : Tie). x.other ≡ sink to x.other) same refl)
 supply_sink to n t (inr (h, same)) = (subst (λ (x : Tie). x.one ≡ sink to x.one) same refl, subst (λ (x : Tie). x.other ≡ sink to x.other) same refl)
 
-pub below : (k n : ℕ) → k < n → nat_lt k n ≡ true
-below k n low = grind (arith, nat_tests)
-
-pub not_below : (k n : ℕ) → n ≤ k → nat_lt k n ≡ false
-not_below k n high = grind (arith, nat_tests)
-
 -- the links of an application
-pub in_links : (x l h : ℕ) → x ≤ h → h < x + l → Contains (results_linked 1 x l) (link 0 (ResultEnd h) 1 (ResultEnd h))
-in_links x zero h low high = absurd (omega (arith, low, high))
-in_links x (suc l) h low high = by_number (h - x) (omega (arith, low)) (λ above. later (in_links (suc x) l h above (omega (arith, high))))
-  where
-    later : Contains (results_linked 1 (suc x) l) (link 0 (ResultEnd h) 1 (ResultEnd h)) → Contains (results_linked 1 x (suc l)) (link 0 (ResultEnd h) 1 (ResultEnd h))
-    later (k, small, e) = (suc k, omega (arith, small), e)
-
-    by_number : (d : ℕ) → h ≡ x + d → (suc x ≤ h → Contains (results_linked 1 x (suc l)) (link 0 (ResultEnd h) 1 (ResultEnd h)))
-        → Contains (results_linked 1 x (suc l)) (link 0 (ResultEnd h) 1 (ResultEnd h))
-    by_number zero e further = let same : x ≡ h = omega (arith, e) in (0, omega arith, ap (λ (y : ℕ). link 0 (ResultEnd y) 1 (ResultEnd y)) same)
-    by_number (suc d) e further = further (omega (arith, e))
-
 pub of_links : (x l : ℕ) (z : Link) → Contains (results_linked 1 x l) z → (h : ℕ) × (h < x + l) × (link 0 (ResultEnd h) 1 (ResultEnd h) ≡ z)
 of_links x zero z (k, small, e) = absurd (omega (arith, small))
 of_links x (suc l) z (zero, small, e) = (x, omega arith, e)
@@ -166,7 +150,7 @@ module _
     in_link : (h : ℕ) → h < size → Contains u.ties (linked h)
     in_link h low =
         Contains-append_right (within 0 vm.ties ++ (within 1 vn.ties ++ [])) (link_ties webs (results_linked 1 0 size)) (linked h)
-        (in_image of_link (results_linked 1 0 size) (link 0 (ResultEnd h) 1 (ResultEnd h)) (in_links 0 size h (omega arith) (omega (arith, low))))
+        (in_image of_link (results_linked 1 0 size) (link 0 (ResultEnd h) 1 (ResultEnd h)) (link_is_in 0 size h (omega arith) (omega (arith, low))))
 
     -- dots of the node, in the union
     chosen : (b : Bool) (d : Dot) → b ≡ true → Within 0 d ≡ pick b d
@@ -177,18 +161,18 @@ module _
 
     node_other : (k h : ℕ) → suc j ≤ k → pick (nat_lt k last) (Within 0 (Node k h)) ≡ lift (Node k h)
     node_other k h low =
-        let other : nat_eq k j ≡ false = eq_false k j (λ same. let f : k ≡ j = same in omega (arith, f, low)) in
+        let other : nat_eq k j ≡ false = ne_eqb k j (λ same. let f : k ≡ j = same in omega (arith, f, low)) in
         sym (ap (λ (b : Bool). if b then Within 0 (Within 0 (Of (ResultEnd h))) else pick (nat_lt k last) (Within 0 (Node k h))) other)
 
     node_own : (h : ℕ) → Within 0 (Within 0 (Of (ResultEnd h))) ≡ lift (Node j h)
     node_own h =
-        sym (ap (λ (b : Bool). if b then Within 0 (Within 0 (Of (ResultEnd h))) else pick (nat_lt j last) (Within 0 (Node j h))) (eq_true j j refl))
+        sym (ap (λ (b : Bool). if b then Within 0 (Within 0 (Of (ResultEnd h))) else pick (nat_lt j last) (Within 0 (Node j h))) (eq-eqb j j refl))
 
     stands_m : (k : ℕ) → Stands k m → in_m k ≡ true
-    stands_m k some = below 0 (times k (used m) + times k (made m) + times k ms) (omega (arith, some))
+    stands_m k some = lt-ltb 0 (times k (used m) + times k (made m) + times k ms) (omega (arith, some))
 
     supplied_m : (k : ℕ) → Contains ms k → in_m k ≡ true
-    supplied_m k has = let some = some_times k ms has in below 0 (times k (used m) + times k (made m) + times k ms) (omega (arith, some))
+    supplied_m k has = let some = some_times k ms has in lt-ltb 0 (times k (used m) + times k (made m) + times k ms) (omega (arith, some))
 
     zero_or : {P : Type 0} (x : ℕ) → (x ≡ 0 → P) → (0 < x → P) → P
     zero_or zero none some = none refl
@@ -198,20 +182,20 @@ module _
     not_in_m k no_stand no_supply =
         zero_or (times k (used m) + times k (made m))
         (λ none.
-        zero_or (times k ms) (λ also. not_below 0 (times k (used m) + times k (made m) + times k ms) (omega (arith, none, also)))
+        zero_or (times k ms) (λ also. le-ltb 0 (times k (used m) + times k (made m) + times k ms) (omega (arith, none, also)))
         (λ some. absurd (no_supply (listed_times k ms some))))
         (λ some. absurd (no_stand some))
 
     has_it : (k : ℕ) → Contains ms k → has_m k ≡ true
-    has_it k has = below 0 (times k ms) (some_times k ms has)
+    has_it k has = lt-ltb 0 (times k ms) (some_times k ms has)
 
     has_not : (k : ℕ) → (Contains ms k → ⊥) → has_m k ≡ false
     has_not k no_supply =
-        zero_or (times k ms) (λ none. not_below 0 (times k ms) (omega (arith, none))) (λ some. absurd (no_supply (listed_times k ms some)))
+        zero_or (times k ms) (λ none. le-ltb 0 (times k ms) (omega (arith, none))) (λ some. absurd (no_supply (listed_times k ms some)))
 
     first_lifted : (x : Place) (h : ℕ) → IsOf types i (suc j) m (count (type_of_node m)) x h
         → Within 0 (Within 0 (dot_of_place x h)) ≡ lift (dot_of (renamed_at to_m x h))
-    first_lifted (places.Part k) h (low, high) = chosen (nat_lt k next) (Within 0 (Of (PartEnd k h))) (below k next high)
+    first_lifted (places.Part k) h (low, high) = chosen (nat_lt k next) (Within 0 (Of (PartEnd k h))) (lt-ltb k next high)
     first_lifted (places.Import k) h is = absurd is
     first_lifted places.Result h is = by_test (nat_lt h size) refl
       where
@@ -226,13 +210,13 @@ module _
             ∙ ap (λ (x : Point). lift (dot_of x)) (sym (to_second size (places.Node j) places.Result h more))
     first_lifted (places.Number k) h is = chosen (in_m k) (Within 0 (Number k h)) (stands_m k is)
     first_lifted (places.Node k) h (low, high) =
-        chosen (nat_lt k last) (Within 0 (Node k h)) (below k last high) ∙ node_other k h low
+        chosen (nat_lt k last) (Within 0 (Node k h)) (lt-ltb k last high) ∙ node_other k h low
 
     second_lifted : (x : Place) (h : ℕ) → IsOf types next last n size x h
         → Way u.ties (Within 1 (Within 0 (dot_of_place x h))) (lift (dot_of (renamed_at to_n x h)))
     second_lifted (places.Part k) h (low, high) =
         still u.ties (Within 1 (Within 0 (Of (PartEnd k h)))) (lift (Of (PartEnd k h)))
-        (left_out (nat_lt k next) (Within 0 (Of (PartEnd k h))) (not_below k next low))
+        (left_out (nat_lt k next) (Within 0 (Of (PartEnd k h))) (le-ltb k next low))
     second_lifted (places.Import k) h is = absurd is
     second_lifted places.Result h is =
         way_back u.ties (lift (Node j h)) (Within 1 (Within 0 (Of (ResultEnd h))))
@@ -242,7 +226,7 @@ module _
         (left_out (in_m k) (Within 0 (Number k h)) (not_in_m k (λ some. apart.nodes k some is) (λ has. apart.first k has is)))
     second_lifted (places.Node k) h (low, high) =
         still u.ties (Within 1 (Within 0 (Node k h))) (lift (Node k h))
-        (left_out (nat_lt k last) (Within 0 (Node k h)) (not_below k last low) ∙ node_other k h (omega (arith, low)))
+        (left_out (nat_lt k last) (Within 0 (Node k h)) (le-ltb k last low) ∙ node_other k h (omega (arith, low)))
 
     supply_forth : (b : Bool) (k : ℕ) (x : Tie) → IsSupplyTie k x → has_m k ≡ b → in_m k ≡ b → (pick b x.one ≡ forth x.one) × (pick b x.other ≡ forth x.other)
     supply_forth b k x (inl (y, same)) has among = (

@@ -1,11 +1,11 @@
 -- How often a dot stands in the ties of a node and of its supplies.
-use Rattle.std.specs.Prelude.{◌≡◌, ◌≢◌, ℕ, ◌+◌, ◌≤◌, Bool, true, false, ◌&&◌, IsTrue, List, [], ◌∷◌, ◌++◌, map, length, if◌then◌else◌}
+use Rattle.std.specs.Prelude.{◌≡◌, ◌≢◌, ℕ, ◌+◌, ◌≤◌, Bool, true, false, ◌&&◌, List, [], ◌∷◌, ◌++◌, map, length, if◌then◌else◌}
 use Rattle.std.proofs.Common.{refl, sym, ◌∙◌, ap, subst, arith, inl, inr}
+use Rattle.std.proofs.lemmas.Bool.{eq-eqb, ne_eqb}
 use Rattle.gos_check.specs.Nodes.{Numbered}
 use Rattle.gos_check.specs.Linearity.{times, used, made}
-use Rattle.gos_check.proofs.TimesLemmas.{eq_true, eq_false}
-use Rattle.gos_plan.specs.Plans.{End, PartEnd, ImportEnd, ResultEnd, Joint, Plan, contact_at, same_end, stands_in, is_free, Fits, AreRight, IsRight}
-use Rattle.gos_plan.proofs.JointLemmas.{IsIn, same_is}
+use Rattle.gos_plan.specs.Plans.{End, PartEnd, ImportEnd, ResultEnd, Joint, Plan, same_end, stands_in, AreRight, IsRight}
+use Rattle.gos_plan.proofs.JointLemmas.{IsIn, same_is, free_later, ends_are_apart}
 use Rattle.gos_ties.specs.declared.points.Place.{Place}
 use Rattle.gos_ties.specs.declared.points.Place.TheVariants as places
 use Rattle.gos_ties.specs.declared.points.Point.{Point}
@@ -13,7 +13,6 @@ use Rattle.gos_ties.specs.declared.points.Tie as point_ties
 use Rattle.gos_ties.specs.Ties.{point}
 use Rattle.gos_ties.specs.Counted as points
 use Rattle.gos_joining.specs.webs.Webs.{Dot, Of, Number, Node, Within, Tie, tie, own_web}
-use Rattle.gos_joining.proofs.webs.WebLemmas.{serves_not_asks}
 use Rattle.gos_joining.specs.unions.Unions.{within}
 use Rattle.gos_compile.specs.Wiring.{Types, row, parts_of, nodes, ties_of}
 use Rattle.gos_compile.proofs.TallyLemmas.{row_once, tallied}
@@ -30,10 +29,10 @@ meet_two d (t ∷ ts) us = let rest = meet_two d ts us in omega (arith, rest)
 
 -- in one of several webs
 pub inner_once : (n : ℕ) (x y : Dot) → once (Within n x) (Within n y) ≡ once x y
-inner_once n x y = ap (λ (b : Bool). if b && same_dot x y then 1 else 0) (eq_true n n refl)
+inner_once n x y = ap (λ (b : Bool). if b && same_dot x y then 1 else 0) (eq-eqb n n refl)
 
 pub other_once : (n k : ℕ) (x y : Dot) → n ≢ k → once (Within n x) (Within k y) ≡ 0
-other_once n k x y differ = ap (λ (b : Bool). if b && same_dot x y then 1 else 0) (eq_false n k differ)
+other_once n k x y differ = ap (λ (b : Bool). if b && same_dot x y then 1 else 0) (ne_eqb n k differ)
 
 pub inner_meetings : (n : ℕ) (x : Dot) (ts : List Tie) → meetings (Within n x) (within n ts) ≡ meetings x ts
 inner_meetings n x [] = refl
@@ -141,12 +140,6 @@ node_most types i j m c (Within k d) =
 abbrev joint_tie : Joint → Tie
 joint_tie j = tie (Of j.asking) (Of j.serving)
 
-free_there : (e : End) (before : List Joint) (j : Joint) → IsIn j before → IsTrue (is_free e before) → stands_in e j ≡ true → ⊥
-free_there e [] j h free t = h
-free_there e (x ∷ xs) j (inl is) free t =
-    let u : stands_in e x ≡ true = subst (λ (y : Joint). stands_in e y ≡ true) is t in grind (arith, free, u)
-free_there e (x ∷ xs) j (inr later) free t = free_there e xs j later (grind (arith, free)) t
-
 end_once : (e a : End) → (same_end e a ≡ true → ⊥) → once (Of e) (Of a) ≡ 0
 end_once e a never = by_test (same_end e a) refl
   where
@@ -158,13 +151,10 @@ none_later : (p : Plan) (before js : List Joint) (e : End) (j : Joint) → AreRi
     → meetings (Of e) (map joint_tie js) ≡ 0
 none_later p before [] e j right is_in stands = refl
 none_later p before (x ∷ xs) e j right is_in stands =
-    let one = end_once e x.asking (λ t. free_there x.asking before j is_in right.0.1 (subst (λ (d : End). stands_in d j ≡ true) (same_is e x.asking t) stands)) in
-    let other = end_once e x.serving (λ t. free_there x.serving before j is_in right.0.2 (subst (λ (d : End). stands_in d j ≡ true) (same_is e x.serving t) stands)) in
+    let one = end_once e x.asking (λ t. free_later x.asking before j is_in right.0.1 (subst (λ (d : End). stands_in d j ≡ true) (same_is e x.asking t) stands)) in
+    let other = end_once e x.serving (λ t. free_later x.serving before j is_in right.0.2 (subst (λ (d : End). stands_in d j ≡ true) (same_is e x.serving t) stands)) in
     let rest = none_later p (x ∷ before) xs e j right.1 (inr is_in) stands in
     omega (arith, one, other, rest)
-
-differ : (p : Plan) (x : Joint) → Fits p x → x.asking ≡ x.serving → ⊥
-differ p x (q, v, asked, served) same = serves_not_asks q v q v (sym served ∙ (ap (contact_at p) (sym same) ∙ asked))
 
 joints_most : (p : Plan) (before js : List Joint) (e : End) → AreRight p before js → meetings (Of e) (map joint_tie js) ≤ 1
 joints_most p before [] e right = omega arith
@@ -176,7 +166,7 @@ joints_most p before (x ∷ xs) e right =
 
     by_test : (a b : Bool) → same_end e x.asking ≡ a → same_end e x.serving ≡ b → meetings (Of e) (map joint_tie xs) ≤ 1
         → meetings (Of e) (map joint_tie (x ∷ xs)) ≤ 1
-    by_test true true s t rest = absurd (differ p x right.0.0 (sym (same_is e x.asking s) ∙ same_is e x.serving t))
+    by_test true true s t rest = absurd (ends_are_apart p x right.0.0 (sym (same_is e x.asking s) ∙ same_is e x.serving t))
     by_test true false s t rest =
         let none = later (grind (arith, s)) in
         let one : once (Of e) (Of x.asking) ≡ 1 = ap (λ (b : Bool). if b then 1 else 0) s in

@@ -3,14 +3,14 @@ use Rattle.std.specs.Prelude.{◌≡◌, ℕ, ◌+◌, ◌-◌, ◌<◌, ◌≤�
 use Rattle.std.proofs.Common.{refl, sym, ◌∙◌, ap, arith, inl, inr}
 use Rattle.std.proofs.lemmas.Option.{slice_get_within}
 use Rattle.std.proofs.lemmas.Bool.Decides.{nat_tests}
+use Rattle.std.proofs.lemmas.Bool.{lt-ltb, le-ltb}
+use Rattle.gos_types.proofs.ListLemmas.{found_behind, same_in_front}
 use Rattle.gos_check.specs.Linearity.{times}
 use Rattle.gos_check.proofs.TimesLemmas.{some_times, listed_times}
 use Rattle.gos_plan.specs.Kinds.{Part}
 use Rattle.gos_terms.specs.wired.Wired.{Supplies, Source, Own, Supplied, IsFrom}
 use Rattle.gos_terms.specs.applying.Uses.{AreParted}
-use Rattle.gos_terms.proofs.applying.PermuteLemmas.{front, behind}
 use Rattle.gos_terms.proofs.applying.ChosenLemmas.{Choice}
-use Rattle.gos_terms.proofs.applying.ApplyWebLemmas.{below, not_below}
 
 -- the sources of the argument, among the node's, where the function has so many parts
 abbrev pub up : ℕ → Source → Source
@@ -35,7 +35,7 @@ module _
   has k = nat_lt 0 (times k ms)
 
   has_it : (k : ℕ) → Contains ms k → has k ≡ true
-  has_it k among = below 0 (times k ms) (some_times k ms among)
+  has_it k among = lt-ltb 0 (times k ms) (some_times k ms among)
 
   it_has : (k : ℕ) → has k ≡ true → Contains ms k
   it_has k is = let some : 0 < times k ms = grind (arith, nat_tests) in listed_times k ms some
@@ -62,12 +62,12 @@ module _
 
   first_inward : (x : Part) (s : Source) → IsFrom ours ms env x s → IsFrom all ns env x s × (picks s ≡ true) × (s ≡ s)
   first_inward x (Own k) at =
-      let low = slice_get_within ours k x at in (front ours others' k low ∙ at, below k (length ours) low, refl)
+      let low = slice_get_within ours k x at in (same_in_front ours others' k low ∙ at, lt-ltb k (length ours) low, refl)
   first_inward x (Supplied n k) (among, at) = ((parted.first n among, at), has_it n among, refl)
 
   first_outward : (x : Part) (s : Source) → IsFrom all ns env x s → picks s ≡ true → IsFrom ours ms env x s × (s ≡ s)
   first_outward x (Own k) at is =
-      let low : k < length ours = grind (arith, nat_tests) in (sym (front ours others' k low) ∙ at, refl)
+      let low : k < length ours = grind (arith, nat_tests) in (sym (same_in_front ours others' k low) ∙ at, refl)
   first_outward x (Supplied n k) (among, at) is = ((it_has n is, at), refl)
 
   pub first_choice : Choice ours all ns ms env true picks has itself itself
@@ -83,7 +83,7 @@ module _
       → IsFrom all ns env x (up (length ours) s) × (picks (up (length ours) s) ≡ false) × (down (length ours) (up (length ours) s) ≡ s)
   second_inward x (Own k) at =
       let less : (length ours + k) - length ours ≡ k = omega arith in
-      (behind ours others' k ∙ at, not_below (length ours + k) (length ours) (omega arith), ap Own less)
+      (found_behind ours others' k ∙ at, le-ltb (length ours + k) (length ours) (omega arith), ap Own less)
   second_inward x (Supplied n k) (among, at) = ((parted.second n among, at), has_not n among, refl)
 
   second_outward : (x : Part) (s : Source) → IsFrom all ns env x s → picks s ≡ false
@@ -91,7 +91,7 @@ module _
   second_outward x (Own k) at is =
       let high : length ours ≤ k = grind (arith, nat_tests) in
       let sum : length ours + (k - length ours) ≡ k = omega (arith, high) in
-      (sym (behind ours others' (k - length ours)) ∙ (ap (slice_get (ours ++ others')) sum ∙ at), ap Own sum)
+      (sym (found_behind ours others' (k - length ours)) ∙ (ap (slice_get (ours ++ others')) sum ∙ at), ap Own sum)
   second_outward x (Supplied n k) (among, at) is = ((not_has n among is, at), refl)
 
   pub second_choice : Choice others' all ns ks env false picks has (up (length ours)) (down (length ours))

@@ -2,6 +2,7 @@
 use Rattle.std.specs.Prelude.{◌≡◌, ℕ, zero, suc, ◌+◌, ◌-◌, ◌<◌, ◌≤◌, Bool, true, false, List, [], ◌∷◌, ◌++◌, length, Option, Some, None, slice_get}
 use Rattle.std.proofs.Common.{refl, sym, ◌∙◌, ap, subst, arith}
 use Rattle.std.proofs.lemmas.Option.{none-some, same_Some, slice_get_within}
+use Rattle.gos_types.proofs.ListLemmas.{found_behind, same_in_front}
 
 -- an element, and a number more, where it is chosen, and where it isn't
 abbrev keep : {A : Type 0} → Bool → A → List A → List A
@@ -199,17 +200,6 @@ comes_last f (suc l) (suc n) low c =
     last_step f (f 0) (total (λ n. f (suc n)) l) (put (λ n. f (suc n)) l) (suc n) refl c
     (λ k same. let is : n ≡ k = omega (arith, same) in subst (λ (x : ℕ). total (λ n. f (suc n)) l ≤ put (λ n. f (suc n)) l x) is more)
 
--- the first of two lists, and the second
-pub front : {A : Type 0} (xs ys : List A) (n : ℕ) → n < length xs → slice_get (xs ++ ys) n ≡ slice_get xs n
-front [] ys n low = absurd (omega (arith, low))
-front (x ∷ xs) ys zero low = refl
-front (x ∷ xs) ys (suc n) low = front xs ys n (omega (arith, low))
-
-pub behind : {A : Type 0} (xs ys : List A) (n : ℕ) → slice_get (xs ++ ys) (length xs + n) ≡ slice_get ys n
-behind [] ys n = let zeros : 0 + n ≡ n = omega arith in ap (slice_get ys) zeros
-behind (x ∷ xs) ys n =
-    let sum : suc (length xs) + n ≡ suc (length xs + n) = omega arith in ap (slice_get (x ∷ (xs ++ ys))) sum ∙ behind xs ys n
-
 -- an element that is chosen, and one that isn't: where it stands among these
 pub record Standing {A : Type 0} (b : Bool) (f : ℕ → Bool) (xs ys : List A) (into out : ℕ → ℕ) : Type 0 where
   pub inward : (n : ℕ) (x : A) → slice_get xs n ≡ Some x → f n ≡ b → (slice_get ys (into n) ≡ Some x) × (out (into n) ≡ n)
@@ -242,10 +232,10 @@ module _ {A : Type 0} (f : ℕ → Bool) (xs : List A) where
             let low = slice_get_within xs n x at in
             let less = comes_first f (length xs) n low is in
             let same = chosen_length f xs in
-            (sym (front (chosen f xs) (others f xs) (to n) (omega (arith, less, same))) ∙ (put_there f xs n ∙ at), there_and_back f (length xs) n);
+            (sym (same_in_front (chosen f xs) (others f xs) (to n) (omega (arith, less, same))) ∙ (put_there f xs n ∙ at), there_and_back f (length xs) n);
         outward = λ y x at.
             let low = slice_get_within (chosen f xs) y x at in
-            let here : slice_get xs (from y) ≡ Some x = back_there y ∙ (front (chosen f xs) (others f xs) y low ∙ at) in
+            let here : slice_get xs (from y) ≡ Some x = back_there y ∙ (same_in_front (chosen f xs) (others f xs) y low ∙ at) in
             let round = back_and_there f (length xs) y in (
               here,
               by_choice (from y) (λ is. is)
@@ -266,7 +256,7 @@ module _ {A : Type 0} (f : ℕ → Bool) (xs : List A) where
             let same = chosen_length f xs in
             let sum : size + (to n - size) ≡ to n = omega (arith, high) in
             let sum_two : length (chosen f xs) + (to n - size) ≡ to n = omega (arith, high, same) in (
-              sym (behind (chosen f xs) (others f xs) (to n - size))
+              sym (found_behind (chosen f xs) (others f xs) (to n - size))
                   ∙ (ap (slice_get (chosen f xs ++ others f xs)) sum_two ∙ (put_there f xs n ∙ at)),
               ap from sum ∙ there_and_back f (length xs) n,
             );
@@ -274,7 +264,7 @@ module _ {A : Type 0} (f : ℕ → Bool) (xs : List A) where
             let same = chosen_length f xs in
             let sum : size + y ≡ length (chosen f xs) + y = omega (arith, same) in
             let here : slice_get xs (from (size + y)) ≡ Some x =
-            back_there (size + y) ∙ (ap (slice_get (chosen f xs ++ others f xs)) sum ∙ (behind (chosen f xs) (others f xs) y ∙ at)) in
+            back_there (size + y) ∙ (ap (slice_get (chosen f xs ++ others f xs)) sum ∙ (found_behind (chosen f xs) (others f xs) y ∙ at)) in
             let round = back_and_there f (length xs) (size + y) in
             let less : (size + y) - size ≡ y = omega arith in (
               here,

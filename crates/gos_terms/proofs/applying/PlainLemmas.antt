@@ -1,23 +1,26 @@
 -- The web of a node in which numbers are used once, wired to right supplies, is thin.
-use Rattle.std.specs.Prelude.{◌≡◌, ◌≢◌, ℕ, zero, suc, ◌+◌, ◌<◌, ◌≤◌, Bool, true, false, ◌&&◌, List, [], ◌∷◌, ◌⊎◌, nat_eq, Some, Contains, slice_get, if◌then◌else◌}
+use Rattle.std.specs.Prelude.{◌≡◌, ◌≢◌, ℕ, zero, suc, ◌+◌, ◌<◌, ◌≤◌, Bool, ◌&&◌, List, [], ◌∷◌, ◌⊎◌, nat_eq, Some, Contains, slice_get, if◌then◌else◌}
 use Rattle.std.proofs.Common.{refl, sym, ◌∙◌, ap, subst, arith, inl, inr}
 use Rattle.std.proofs.lemmas.List.Elements.{Contains-append_cases}
+use Rattle.std.proofs.lemmas.Bool.{ne_eqb}
+use Rattle.gos_types.proofs.BoolLemmas.{and_false}
+use Rattle.gos_model.proofs.NumberLemmas.{number_cases}
 use Rattle.gos_check.specs.Nodes.{Numbered, type_of_node}
 use Rattle.gos_check.specs.Linearity.{times, used, made}
-use Rattle.gos_check.proofs.TimesLemmas.{number_cases, eq_false, times_none, listed_times}
+use Rattle.gos_check.proofs.TimesLemmas.{times_none, listed_times}
 use Rattle.gos_plan.specs.Kinds.{Contact}
 use Rattle.gos_plan.specs.Plans.{End, PartEnd, ImportEnd, ResultEnd, Plan, contact_at, IsRight}
+use Rattle.gos_plan.proofs.ContactLemmas.{part_is_there, import_is_there}
 use Rattle.gos_realises.specs.realises.Regular.{count}
 use Rattle.gos_joining.specs.webs.Webs.{Dot, Of, Number, Node, Within, Tie, tie, Web, own_web}
 use Rattle.gos_joining.specs.unions.Unions.{within}
 use Rattle.gos_joining.proofs.unions.UnionLemmas.{Image, of_image}
-use Rattle.gos_supplies.proofs.applications.SeamLemmas.{and_none}
 use Rattle.gos_compile.specs.Wiring.{Types}
 use Rattle.gos_terms.specs.wired.Wired.{Supplies, Placing, Source, Own, Supplied, placed, source_dot, dot_ties, result_ties, supply_ties, all_supply_ties, wired_web}
-use Rattle.gos_joining.specs.weaving.Woven.{same_dot, once, meetings, IsThin}
+use Rattle.gos_joining.specs.weaving.Woven.{once, meetings, IsThin}
+use Rattle.gos_joining.proofs.weaving.DotLemmas.{once_at_most}
 use Rattle.gos_terms.specs.applying.Uses.{IsPlaced}
 use Rattle.gos_terms.specs.applying.Plain.{WiredIsThin}
-use Rattle.gos_terms.proofs.applying.SideLemmas.{its_part, its_import}
 use Rattle.gos_terms.proofs.applying.SupplyLemmas.{inside, OfNumber, of_number}
 use Rattle.gos_terms.proofs.applying.ChildLemmas.{child_ties, own_ties}
 use Rattle.gos_terms.proofs.applying.MeetingLemmas.{meet_two, inner_once, other_once, inner_meetings, other_meetings, most, node_most, own_most, own_number, own_node, own_within}
@@ -59,22 +62,15 @@ module _
           let here = few a in let beyond = results_beyond (suc a) l (omega (arith, same)) in omega (arith, here, beyond))
           (λ other f. let here = none a other in omega (arith, here, rest))
 
-at_most : (b : Bool) → (if b then 1 else 0) ≤ 1
-at_most true = omega arith
-at_most false = omega arith
-
-once_few : (d e : Dot) → once d e ≤ 1
-once_few d e = at_most (same_dot d e)
-
 number_shake : (k g n h : ℕ) → g ≢ h → once (Number k g) (Number n h) ≡ 0
 number_shake k g n h differ =
-    ap (λ (b : Bool). if nat_eq k n && b then 1 else 0) (eq_false g h differ) ∙ ap (λ (b : Bool). if b then 1 else 0) (and_none (nat_eq k n))
+    ap (λ (b : Bool). if nat_eq k n && b then 1 else 0) (ne_eqb g h differ) ∙ ap (λ (b : Bool). if b then 1 else 0) (and_false (nat_eq k n))
 
 number_other : (k g n h : ℕ) → k ≢ n → once (Number k g) (Number n h) ≡ 0
-number_other k g n h differ = ap (λ (b : Bool). if b && nat_eq g h then 1 else 0) (eq_false k n differ)
+number_other k g n h differ = ap (λ (b : Bool). if b && nat_eq g h then 1 else 0) (ne_eqb k n differ)
 
 end_shake : (g h : ℕ) → g ≢ h → once (Of (ResultEnd g)) (Of (ResultEnd h)) ≡ 0
-end_shake g h differ = ap (λ (b : Bool). if b then 1 else 0) (eq_false g h differ)
+end_shake g h differ = ap (λ (b : Bool). if b then 1 else 0) (ne_eqb g h differ)
 
 module _
     (types : Types) (env : Supplies) where
@@ -103,7 +99,7 @@ module _
   number_one : (k g n : ℕ) → meetings (Within 0 (Number k g)) (result_ties n 0 (count (types n))) ≤ 1
   number_one k g n =
       results_one (Within 0 (Number k g)) n g
-      (λ h. let pair = outer_pair (Number k g) n h in let one = once_few (Number k g) (Number n h) in omega (arith, pair, one))
+      (λ h. let pair = outer_pair (Number k g) n h in let one = once_at_most (Number k g) (Number n h) in omega (arith, pair, one))
       (λ h differ. outer_pair (Number k g) n h ∙ number_shake k g n h differ) 0 (count (types n))
 
   outer_number : (k g : ℕ) (ns : List ℕ) → meetings (Within 0 (Number k g)) (all_supply_ties types env ns) ≤ times k ns
@@ -201,7 +197,7 @@ module _
       results_one (Within (suc n) (Of (ResultEnd g))) n g
       (λ h.
       let pair = inner_pair (Of (ResultEnd g)) n h in
-      let one = once_few (Of (ResultEnd g)) (Of (ResultEnd h)) in
+      let one = once_at_most (Of (ResultEnd g)) (Of (ResultEnd h)) in
       omega (arith, pair, one))
       (λ h differ. inner_pair (Of (ResultEnd g)) n h ∙ end_shake g h differ) 0 (count (types n)) in
       omega (arith, split, own, rest)
@@ -389,8 +385,8 @@ module _
 
   apart : (a b : End) (k l : Contact) → contact_at c a ≡ Some k → contact_at c b ≡ Some l → web.at a ≡ web.at b → a ≡ b
   apart (PartEnd x h) (PartEnd y g) k l at_a at_b same =
-      let (p, there) = its_part (slice_get c.parts x) h k at_a in
-      let (q, also) = its_part (slice_get c.parts y) g l at_b in
+      let (p, there) = part_is_there (slice_get c.parts x) h k at_a in
+      let (q, also) = part_is_there (slice_get c.parts y) g l at_b in
       let source = one_source h g (pl.source x) (pl.source y) same in
       let number : x ≡ y = sym (is.no_more x p there).1 ∙ (ap (placed pl) source ∙ (is.no_more y q also).1) in
       let shakes : h ≡ g = sym (source_shake h (pl.source x)) ∙ (ap shake_of same ∙ source_shake g (pl.source y)) in
@@ -402,8 +398,8 @@ module _
   apart (ImportEnd x h) (PartEnd y g) k l at_a at_b same =
       let kinds : 1 ≡ 0 = ap kind_of same ∙ source_kind g (pl.source y) in absurd (omega (arith, kinds))
   apart (ImportEnd x h) (ImportEnd y g) k l at_a at_b same =
-      let (p, there) = its_import (slice_get c.imports x) h k at_a in
-      let (q, also) = its_import (slice_get c.imports y) g l at_b in
+      let (p, there) = import_is_there (slice_get c.imports x) h k at_a in
+      let (q, also) = import_is_there (slice_get c.imports y) g l at_b in
       let webs : suc (pl.origin x).number ≡ suc (pl.origin y).number = ap web_of same in
       let numbers : (pl.origin x).number ≡ (pl.origin y).number = omega (arith, webs) in
       let indices : (pl.origin x).import ≡ (pl.origin y).import = ap index_of same in

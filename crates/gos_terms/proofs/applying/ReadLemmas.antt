@@ -3,13 +3,16 @@ use Rattle.std.specs.Prelude.{◌≡◌, ℕ, zero, suc, ◌+◌, ◌-◌, Bool,
 use Rattle.std.proofs.Common.{refl, sym, ◌∙◌, ap, subst, arith}
 use Rattle.std.proofs.lemmas.Option.{same_Some, slice_get_within}
 use Rattle.std.proofs.lemmas.List.{append-nil}
+use Rattle.std.proofs.lemmas.Bool.{lt-ltb, le-ltb}
 use Rattle.gos_types.specs.Types.{Exp, Var}
+use Rattle.gos_types.proofs.BoolLemmas.{and_false}
 use Rattle.gos_model.specs.Typing.{Imported}
 use Rattle.gos_check.specs.Nodes.{Numbered, One, OfDeref, type_of_node}
 use Rattle.gos_plan.specs.Kinds as kinds
 use Rattle.gos_plan.specs.Kinds.{Part, Contact}
 use Rattle.gos_plan.specs.Plans.{End, PartEnd, ImportEnd, ResultEnd, Joint, Plan, contact_at, IsRight}
 use Rattle.gos_plan.specs.Joining.{Place as Spot, place, LeftImport, all_left, left_in, left_place, is_joined, origin}
+use Rattle.gos_plan.proofs.ContactLemmas.{part_is_there, import_is_there}
 use Rattle.gos_ties.specs.declared.points.Place.TheVariants as places
 use Rattle.gos_ties.specs.declared.points.Point.{Point}
 use Rattle.gos_ties.specs.declared.points.Tie as point_ties
@@ -26,7 +29,7 @@ use Rattle.gos_joining.specs.unions.Unions as unions
 use Rattle.gos_joining.specs.unions.Unions.{within}
 use Rattle.gos_joining.proofs.unions.UnionLemmas.{joining_is_union}
 use Rattle.gos_joining.proofs.unions.FlatFitLemmas.{links_stand}
-use Rattle.gos_supplies.proofs.applications.SeamLemmas.{and_none, listed, listed_at, left_none}
+use Rattle.gos_supplies.proofs.applications.SeamLemmas.{listed, listed_at, left_none}
 use Rattle.gos_supplies.proofs.applications.ReadingLemmas.{reading_imports}
 use Rattle.gos_compile.specs.Wiring.{Types, row, parts_of, ties_of}
 use Rattle.gos_terms.specs.wired.Wired.{Supplies, Placing, Source, Own, Supplied, IsFrom, placed, source_dot, dot_at, dot_ties, all_supply_ties, IsWired}
@@ -35,11 +38,9 @@ use Rattle.gos_terms.specs.applying.Uses.{CanBeWired, IsReading, DerefIsReading}
 use Rattle.gos_terms.proofs.applying.RenamedLemmas.{renamed, renamed_tie, ties_renamed}
 use Rattle.gos_terms.proofs.applying.MatchingLemmas.{Matching, matched}
 use Rattle.gos_terms.proofs.applying.ChildLemmas.{child_ties}
-use Rattle.gos_terms.proofs.applying.SideLemmas.{its_part, its_import}
 use Rattle.gos_terms.proofs.applying.PermuteLemmas.{chosen, others, total, put, taken, there_and_back, back_and_there, chosen_length, put_there, comes_last, Standing, stands_first, stands_last}
 use Rattle.gos_terms.proofs.applying.ChosenLemmas as choices
 use Rattle.gos_terms.proofs.applying.ChosenLemmas.{Choice, Placed, child_wired}
-use Rattle.gos_terms.proofs.applying.ApplyWebLemmas.{below, not_below}
 use Rattle.gos_terms.proofs.applying.ReadWebLemmas as reads
 use Rattle.gos_terms.proofs.applying.ReadWebLemmas.{reader}
 
@@ -226,7 +227,7 @@ module _
         let (at_p, round) = parts_first.inward x y is picked in
         let low = slice_get_within (chosen f r.parts) (to x) y at_p in
         let where_is : wiring_origin (PartEnd (to x) h) ≡ place 0 (PartEnd (to x) h) =
-        ap (λ (c : Bool). of_part (to x) h c (nat_lt (to x - length (chosen f r.parts)) 1)) (below (to x) (length (chosen f r.parts)) low) in
+        ap (λ (c : Bool). of_part (to x) h c (nat_lt (to x - length (chosen f r.parts)) 1)) (lt-ltb (to x) (length (chosen f r.parts)) low) in
         record {
           dot = Within 0 (source_dot i (pl.source x) h);
           at =
@@ -246,9 +247,9 @@ module _
         let high = comes_last f (length r.parts) x (slice_get_within r.parts x y is) picked in
         let zeros : to x - length (chosen f r.parts) ≡ 0 = omega (arith, low, one, sizes) in
         let first : nat_lt (to x) (length (chosen f r.parts)) ≡ false =
-        not_below (to x) (length (chosen f r.parts)) (omega (arith, high, sizes)) in
+        le-ltb (to x) (length (chosen f r.parts)) (omega (arith, high, sizes)) in
         let second : nat_lt (to x - length (chosen f r.parts)) 1 ≡ true =
-        below (to x - length (chosen f r.parts)) 1 (omega (arith, zeros)) in
+        lt-ltb (to x - length (chosen f r.parts)) 1 (omega (arith, zeros)) in
         let where_is : wiring_origin (PartEnd (to x) h) ≡ place 1 (PartEnd 0 h) =
         ap (λ (c : Bool). of_part (to x) h c (nat_lt (to x - length (chosen f r.parts)) 1)) first
         ∙ (ap (of_part (to x) h false) second ∙ ap (λ (k : ℕ). place 1 (PartEnd k h)) zeros) in
@@ -265,7 +266,7 @@ module _
 
     none_joined : (k n : ℕ) → is_joined (link 0 (ResultEnd 0) 1 (PartEnd 0 0) ∷ []) k n ≡ false
     none_joined k n =
-        let one = and_none (nat_eq 0 k) in let other = and_none (nat_eq 1 k) in λ x. (one x || other x) || false
+        let one = and_false (nat_eq 0 k) in let other = and_false (nat_eq 1 k) in λ x. (one x || other x) || false
 
     left_all : all_left (reading b p) ≡ listed 0 0 r.imports
     left_all =
@@ -292,8 +293,8 @@ module _
         record { dot = Within 1 (Of (ResultEnd h)); at = ap (λ (k : ℕ). Within 1 (Of (ResultEnd k))) zeros; there = refl; home = refl }
 
     end_at : (e : End) (c : Contact) → contact_at r e ≡ Some c → EndAt e
-    end_at (PartEnd x h) c at = let (y, is) = its_part (slice_get r.parts x) h c at in part_end x h y is (f x) refl
-    end_at (ImportEnd x h) c at = let (y, is) = its_import (slice_get r.imports x) h c at in import_end x h y is
+    end_at (PartEnd x h) c at = let (y, is) = part_is_there (slice_get r.parts x) h c at in part_end x h y is (f x) refl
+    end_at (ImportEnd x h) c at = let (y, is) = import_is_there (slice_get r.imports x) h c at in import_end x h y is
     end_at (ResultEnd h) c at = result_end h
 
     -- the node's ties are its child's, led elsewhere, and one of its own

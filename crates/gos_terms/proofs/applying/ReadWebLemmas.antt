@@ -2,9 +2,9 @@
 use Rattle.std.specs.Prelude.{◌≡◌, ℕ, zero, suc, ◌+◌, ◌≤◌, Bool, false, List, [], ◌∷◌, ◌++◌, ◌⊎◌, nat_eq, Contains, if◌then◌else◌}
 use Rattle.std.proofs.Common.{refl, sym, ap, subst, arith, inl, inr}
 use Rattle.std.proofs.lemmas.List.Elements.{Contains-append_left, Contains-append_right, Contains-append_cases}
+use Rattle.std.proofs.lemmas.Bool.{eq-eqb, ne_eqb}
 use Rattle.gos_types.specs.Types.{Exp}
 use Rattle.gos_check.specs.Nodes.{Numbered, type_of_node}
-use Rattle.gos_check.proofs.TimesLemmas.{eq_true, eq_false}
 use Rattle.gos_plan.specs.Kinds as kinds
 use Rattle.gos_plan.specs.Plans.{PartEnd, ImportEnd, ResultEnd, Plan}
 use Rattle.gos_ties.specs.declared.points.Place.{Place}
@@ -114,11 +114,11 @@ module _
   -- dots of the node, in the union
   pub own_part : (x h : ℕ) → x ≡ i → Within 1 (Of (PartEnd 0 h)) ≡ lift (Of (PartEnd x h))
   own_part x h same =
-      sym (ap (λ (c : Bool). if c then Within 1 (Of (PartEnd 0 h)) else Within 0 (Within 0 (Of (PartEnd x h)))) (eq_true x i same))
+      sym (ap (λ (c : Bool). if c then Within 1 (Of (PartEnd 0 h)) else Within 0 (Within 0 (Of (PartEnd x h)))) (eq-eqb x i same))
 
   pub other_part : (x h : ℕ) → i + 1 ≤ x → Within 0 (Within 0 (Of (PartEnd x h))) ≡ lift (Of (PartEnd x h))
   other_part x h low =
-      let other : nat_eq x i ≡ false = eq_false x i (λ same. let f : x ≡ i = same in omega (arith, f, low)) in
+      let other : nat_eq x i ≡ false = ne_eqb x i (λ same. let f : x ≡ i = same in omega (arith, f, low)) in
       sym (ap (λ (c : Bool). if c then Within 1 (Of (PartEnd 0 h)) else Within 0 (Within 0 (Of (PartEnd x h)))) other)
 
   lifted : (x : Place) (h : ℕ) → IsOf types (i + 1) (suc j) m (count (type_of_node m)) x h
@@ -131,10 +131,10 @@ module _
   lifted places.Result (suc h) is =
       still u.ties (Within 0 (Within 0 (Of (ResultEnd (suc h))))) (lift (Node j h))
       (sym
-      (ap (λ (c : Bool). if c then Within 0 (Within 0 (Of (ResultEnd (suc h)))) else Within 0 (Within 0 (Node j h))) (eq_true j j refl)))
+      (ap (λ (c : Bool). if c then Within 0 (Within 0 (Of (ResultEnd (suc h)))) else Within 0 (Within 0 (Node j h))) (eq-eqb j j refl)))
   lifted (places.Number k) h is = here (Within 0 (Within 0 (Number k h)))
   lifted (places.Node k) h (low, high) =
-      let other : nat_eq k j ≡ false = eq_false k j (λ same. let f : k ≡ j = same in omega (arith, f, low)) in
+      let other : nat_eq k j ≡ false = ne_eqb k j (λ same. let f : k ≡ j = same in omega (arith, f, low)) in
       still u.ties (Within 0 (Within 0 (Node k h))) (lift (Node k h))
       (sym (ap (λ (c : Bool). if c then Within 0 (Within 0 (Of (ResultEnd (suc h)))) else Within 0 (Within 0 (Node k h))) other))
 

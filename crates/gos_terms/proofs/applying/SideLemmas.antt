@@ -1,17 +1,18 @@
 -- A node that projects is its child, with one side of its result left unjoined.
-use Rattle.std.specs.Prelude.{◌≡◌, ℕ, zero, suc, ◌+◌, ◌-◌, ◌<◌, ◌≤◌, Bool, true, false, List, [], ◌∷◌, ◌++◌, ◌⊎◌, length, map, Option, Some, None, nat_eq, nat_lt, slice_get, Contains, if◌then◌else◌}
+use Rattle.std.specs.Prelude.{◌≡◌, ℕ, zero, suc, ◌+◌, ◌-◌, ◌<◌, ◌≤◌, Bool, true, false, List, [], ◌∷◌, ◌++◌, ◌⊎◌, length, map, Option, Some, nat_eq, nat_lt, slice_get, Contains, if◌then◌else◌}
 use Rattle.std.proofs.Common.{refl, sym, ◌∙◌, ap, subst, arith, inl, inr}
-use Rattle.std.proofs.lemmas.Option.{none-some, slice_get_within}
+use Rattle.std.proofs.lemmas.Option.{slice_get_within}
 use Rattle.std.proofs.lemmas.List.{append-nil}
 use Rattle.std.proofs.lemmas.List.Elements.{Contains-append_left, Contains-append_right, Contains-append_cases}
 use Rattle.std.proofs.lemmas.Bool.Decides.{nat_tests}
+use Rattle.std.proofs.lemmas.Bool.{eq-eqb, ne_eqb}
 use Rattle.gos_types.specs.Types.{Type'}
 use Rattle.gos_model.specs.Typing.{Imported}
 use Rattle.gos_check.specs.Nodes.{Numbered, type_of_node}
-use Rattle.gos_check.proofs.TimesLemmas.{eq_true, eq_false}
-use Rattle.gos_plan.specs.Kinds.{Part, Contact, contacts_of}
-use Rattle.gos_plan.specs.Plans.{End, PartEnd, ImportEnd, ResultEnd, Joint, Plan, contact_at, contacts_of_part, contacts_of_import, turned_if}
+use Rattle.gos_plan.specs.Kinds.{Part, Contact}
+use Rattle.gos_plan.specs.Plans.{End, PartEnd, ImportEnd, ResultEnd, Joint, Plan, contact_at}
 use Rattle.gos_plan.specs.Joining.{Place as Spot, place, Link, LeftImport, all_left, left_in, left_place, origin, IsJoining}
+use Rattle.gos_plan.proofs.ContactLemmas.{part_is_there, import_is_there}
 use Rattle.gos_ties.specs.declared.points.Place.{Place}
 use Rattle.gos_ties.specs.declared.points.Place.TheVariants as places
 use Rattle.gos_ties.specs.declared.points.Point.{Point}
@@ -19,7 +20,7 @@ use Rattle.gos_ties.specs.declared.points.Tie as point_ties
 use Rattle.gos_realises.specs.realises.Regular.{count}
 use Rattle.gos_realises.specs.realises.Links.{IsJoined}
 use Rattle.gos_realises.specs.realises.Wirings.{side}
-use Rattle.gos_realises.proofs.realises.CountLemmas.{count_pair}
+use Rattle.gos_realises.proofs.realises.CountLemmas.{count_pair, below_count}
 use Rattle.gos_realises.proofs.joined.WholeLemmas.{sides_are_joined}
 use Rattle.gos_joining.specs.webs.Webs.{Dot, Of, Number, Node, Within, Tie, Web, Way, here, IsOfWeb}
 use Rattle.gos_joining.specs.unions.Unions as unions
@@ -41,23 +42,6 @@ use Rattle.gos_terms.proofs.applying.RowLemmas.{to_two, to_first, to_second, row
 use Rattle.gos_terms.proofs.applying.MatchingLemmas.{Matching, matched}
 use Rattle.gos_terms.proofs.applying.SupplyLemmas.{inside, IsSupplyTie, OfNumber, of_number, tied_at}
 use Rattle.gos_terms.proofs.applying.ChildLemmas.{lower, lowered, child_ties, own_ties, node_ties, own_tie, node_tie, of_own, in_own, of_node, in_node, one_stands, other_stands}
-
--- an end that there is has a part, an import or a result's handshake
-pub its_part : (o : Option Part) (h : ℕ) (k : Contact) → slice_get (contacts_of_part o) h ≡ Some k → (x : Part) × (o ≡ Some x)
-its_part None h k at = absurd (none-some k at)
-its_part (Some x) h k at = (x, refl)
-
-pub its_import : (o : Option Imported) (h : ℕ) (k : Contact) → slice_get (contacts_of_import o) h ≡ Some k → (x : Imported) × (o ≡ Some x)
-its_import None h k at = absurd (none-some k at)
-its_import (Some x) h k at = (x, refl)
-
-its_shake : (o : Option Contact) (k : Contact) → turned_if o ≡ Some k → (l : Contact) × (o ≡ Some l)
-its_shake None k at = absurd (none-some k at)
-its_shake (Some l) k at = (l, refl)
-
-pub its_result : (t : Type') (h : ℕ) (k : Contact) → turned_if (slice_get (contacts_of t) h) ≡ Some k → h < count t
-its_result t h k at =
-    let (l, is) = its_shake (slice_get (contacts_of t) h) k at in slice_get_within (contacts_of t) h l is
 
 module _
     (to : ℕ → Point) (j k : ℕ) (shakes : ℕ → ℕ) where
@@ -134,7 +118,7 @@ module _
       lifted places.Result h is = sym (returns h is)
       lifted (places.Number n) h is = refl
       lifted (places.Node n) h (low, high) =
-          let other : nat_eq n j ≡ false = eq_false n j (λ same. let f : n ≡ j = same in omega (arith, f, low)) in
+          let other : nat_eq n j ≡ false = ne_eqb n j (λ same. let f : n ≡ j = same in omega (arith, f, low)) in
           sym (ap (λ (b : Bool). if b then Of (ResultEnd (shakes h)) else Node n h) other)
 
       in_union : (y : Tie) → Contains v.ties y → Contains u.ties (inside 0 y)
@@ -203,7 +187,7 @@ module _
       -- ends to ends
       part_origin : (x h : ℕ) (c : Contact) → contact_at r (PartEnd x h) ≡ Some c → origin (side k t p) (PartEnd x h) ≡ place 0 (PartEnd x h)
       part_origin x h c at =
-          let (y, is) = its_part (slice_get r.parts x) h c at in
+          let (y, is) = part_is_there (slice_get r.parts x) h c at in
           let low = slice_get_within r.parts x y is in
           let same : length p.parts ≡ length r.parts = ap length parts in
           let less : nat_lt x (length p.parts) ≡ true = grind (arith, nat_tests) in
@@ -211,7 +195,7 @@ module _
 
       import_origin : (x h : ℕ) (c : Contact) → contact_at r (ImportEnd x h) ≡ Some c → origin (side k t p) (ImportEnd x h) ≡ place 0 (ImportEnd x h)
       import_origin x h c at =
-          let (y, is) = its_import (slice_get r.imports x) h c at in
+          let (y, is) = import_is_there (slice_get r.imports x) h c at in
           let zeros : 0 + x ≡ x = omega arith in
           let here : slice_get p.imports x ≡ Some y = ap (λ (l : List Imported). slice_get l x) imports ∙ is in
           let left : slice_get (all_left (side k t p)) x ≡ Some (record { plan = 0; number = 0 + x; import = y }) =
@@ -236,7 +220,7 @@ module _
       ends_back (ImportEnd x h) c at =
           still w.ties (back (u.at (ImportEnd x h))) (w.at (ImportEnd x h)) (ap (λ (o : Spot). back (at_origin o)) (import_origin x h c at))
       ends_back (ResultEnd h) c at =
-          let low = its_result r.outcome h c at in
+          let low = below_count r.outcome h c at in
           let same : count r.outcome ≡ count t = ap count outcome in
           still w.ties (back (u.at (ResultEnd h))) (w.at (ResultEnd h)) (ap (λ (d : Dot). Within 0 d) (results h (omega (arith, low, same))))
 
@@ -354,7 +338,7 @@ first_is_side types i j t u m ns env pl r is of can =
             let more : n ≤ h = grind (arith, nat_tests) in
             let same : n + (h - n) ≡ h = omega (arith, more) in
             ap (λ (q : Point). lift (to_two n places.Result (places.Node j)) j 0 (λ h. n + h) (dot_of q)) (to_second n places.Result (places.Node j) h more)
-            ∙ (ap (λ (b : Bool). if b then Of (ResultEnd (n + (h - n))) else Node j (h - n)) (eq_true j j refl) ∙ ap (λ (x : ℕ). Of (ResultEnd x)) same)
+            ∙ (ap (λ (b : Bool). if b then Of (ResultEnd (n + (h - n))) else Node j (h - n)) (eq-eqb j j refl) ∙ ap (λ (x : ℕ). Of (ResultEnd x)) same)
 
     results : (n j h : ℕ) → h < n → dot_of (to_two n places.Result (places.Node j) (0 + h)) ≡ Of (ResultEnd h)
     results n j h small =
@@ -390,7 +374,7 @@ second_is_side types i j t u m ns env pl r is of can =
         by_test true low =
             ap (λ (q : Point). lift (to_two n (places.Node j) places.Result) j n (λ h. h) (dot_of q))
             (to_first n (places.Node j) places.Result h (grind (arith, nat_tests)))
-            ∙ ap (λ (b : Bool). if b then Of (ResultEnd h) else Node j h) (eq_true j j refl)
+            ∙ ap (λ (b : Bool). if b then Of (ResultEnd h) else Node j h) (eq-eqb j j refl)
         by_test false high =
             let more : n ≤ h = grind (arith, nat_tests) in
             let same : n + (h - n) ≡ h = omega (arith, more) in

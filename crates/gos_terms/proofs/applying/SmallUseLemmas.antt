@@ -1,21 +1,23 @@
 -- Small nodes: parted numbers, uses apart, and nodes that can be wired.
-use Rattle.std.specs.Prelude.{◌≡◌, ◌≢◌, ℕ, zero, suc, ◌+◌, ◌<◌, ◌≤◌, Bool, true, false, [], ◌∷◌, ◌⊎◌, Option, Some, slice_get, Contains, if◌then◌else◌}
+use Rattle.std.specs.Prelude.{◌≡◌, ◌≢◌, ℕ, zero, suc, ◌+◌, ◌<◌, ◌≤◌, [], ◌∷◌, ◌⊎◌, Option, Some, slice_get, Contains}
 use Rattle.std.proofs.Common.{refl, sym, ◌∙◌, ap, subst, arith, inl, inr}
 use Rattle.std.proofs.lemmas.Option.{none-some, same_Some}
 use Rattle.gos_types.specs.Types.{Type', Com}
+use Rattle.gos_types.proofs.ListLemmas.{none_in_empty}
+use Rattle.gos_model.proofs.NumberLemmas.{number_cases}
 use Rattle.gos_check.specs.Nodes.{Use}
-use Rattle.gos_check.proofs.TimesLemmas.{number_cases}
 use Rattle.gos_plan.specs.Kinds.{Part, Skip, Contact, asks, serves, contacts_of, turned_contact}
 use Rattle.gos_plan.specs.Plans.{End, PartEnd, ImportEnd, ResultEnd, Plan, contact_at, contacts_of_part, turned_if}
+use Rattle.gos_plan.proofs.ContactLemmas.{part_is_there, import_is_there}
 use Rattle.gos_joining.specs.webs.Webs.{Dot, Of, Within, Web, here, along, WaysFit}
 use Rattle.gos_compile.specs.Wiring.{Types, parts_of}
 use Rattle.gos_terms.specs.wired.Wired.{Supplies, Placing, Source, Own, Supplied, IsFrom, placed, source_dot, wired_web}
-use Rattle.gos_joining.specs.weaving.Woven.{same_dot, once, meetings, IsThin, IsPlain}
+use Rattle.gos_joining.specs.weaving.Woven.{meetings, IsThin, IsPlain}
 use Rattle.gos_joining.proofs.weaving.CrossingLemmas.{Crossing, Past, Forth, Back, crossing, no_way}
 use Rattle.gos_joining.proofs.weaving.ThinLemmas.{thin_is_plain}
+use Rattle.gos_joining.proofs.weaving.DotLemmas.{once_at_most}
 use Rattle.gos_terms.specs.applying.Uses.{IsPlaced, Stands}
 use Rattle.gos_terms.specs.applying.SmallUses.{TwoAreParted, OneIsNotParted, UsesAreApart, SameUsesAreNot, skip_node, wrong_node, in_place, wrong_plan, WrongIsPlaced, EmptyIsNotPlaced, SkipCanBeWired, WrongCannot}
-use Rattle.gos_terms.proofs.applying.SideLemmas.{its_part, its_import}
 
 only : (n k : ℕ) → Contains (n ∷ []) k → n ≡ k
 only n k (zero, small, is) = is
@@ -59,13 +61,10 @@ uses_are_apart =
 pub same_uses_are_not : SameUsesAreNot
 same_uses_are_not is = is.nodes 0 (omega arith) (omega arith)
 
-no_number : (n : ℕ) → Contains [] n → ⊥
-no_number n (k, small, is) = omega (arith, small)
-
 in_node : (types : Types) (env : Supplies) (x : Part) (s : Source) → IsFrom (parts_of types wrong_node) [] env x s
     → (slice_get wrong_plan.parts (placed in_place s) ≡ Some x) × (in_place.source (placed in_place s) ≡ s)
 in_node types env x (Own k) at = (at, refl)
-in_node types env x (Supplied n k) (among, at) = absurd (no_number n among)
+in_node types env x (Supplied n k) (among, at) = absurd (none_in_empty n among)
 
 pub wrong_is_placed : WrongIsPlaced
 wrong_is_placed types env =
@@ -73,7 +72,7 @@ wrong_is_placed types env =
       outcome = refl;
       parts = in_node types env;
       no_more = λ k x at. (at, refl);
-      imports = λ n k x among at. absurd (no_number n among);
+      imports = λ n k x among at. absurd (none_in_empty n among);
       no_import = λ k x at. absurd (none-some x at);
     }
 
@@ -105,13 +104,6 @@ result = Within 0 (Of (ResultEnd 0))
 abbrev served : Dot
 served = Within 0 (Of (PartEnd 0 0))
 
-at_most : (b : Bool) → (if b then 1 else 0) ≤ 1
-at_most true = omega arith
-at_most false = omega arith
-
-once_few : (d e : Dot) → once d e ≤ 1
-once_few d e = at_most (same_dot d e)
-
 -- what an end's dot is
 abbrev kind_of : Dot → ℕ
 kind_of (Of e) = kind e
@@ -142,32 +134,32 @@ module _
   by_source : (k : ℕ) (x : Part) (o : Source) → pl.source k ≡ o → IsFrom (Skip ∷ []) [] env x o → placed pl o ≡ k → IsSkip k x
   by_source k x (Own zero) at from back = record { source = at; number = back; same = sym (same_Some Skip x from) }
   by_source k x (Own (suc n)) at from back = absurd (none-some x from)
-  by_source k x (Supplied n l) at (among, from) back = absurd (no_number n among)
+  by_source k x (Supplied n l) at (among, from) back = absurd (none_in_empty n among)
 
   skip_there : (k h : ℕ) (d : Contact) → contact_at c (PartEnd k h) ≡ Some d → (x : Part) × (slice_get c.parts k ≡ Some x) × IsSkip k x
   skip_there k h d at =
-      let (x, there) = its_part (slice_get c.parts k) h d at in
+      let (x, there) = part_is_there (slice_get c.parts k) h d at in
       let (from, back) = is.no_more k x there in
       (x, there, by_source k x (pl.source k) refl from back)
 
   no_import : (k h : ℕ) (d : Contact) → contact_at c (ImportEnd k h) ≡ Some d → ⊥
   no_import k h d at =
-      let (x, there) = its_import (slice_get c.imports k) h d at in no_number (pl.origin k).number (is.no_import k x there).0
+      let (x, there) = import_is_there (slice_get c.imports k) h d at in none_in_empty (pl.origin k).number (is.no_import k x there).0
 
   dot_is : (k h : ℕ) (d : Contact) → contact_at c (PartEnd k h) ≡ Some d → web.at (PartEnd k h) ≡ Within 0 (Of (PartEnd 0 h))
   dot_is k h d at =
       let (x, there, skip) = skip_there k h d at in ap (λ (o : Source). source_dot 0 o h) skip.source
 
   points : (d : Dot) → meetings d web.ties ≤ 2
-  points d = let first = once_few d result in let last = once_few d served in omega (arith, first, last)
+  points d = let first = once_at_most d result in let last = once_at_most d served in omega (arith, first, last)
 
   ends : (e : End) (d : Contact) → contact_at c e ≡ Some d → meetings (web.at e) web.ties ≤ 1
   ends (PartEnd k h) d at =
-      let one = once_few (Within 0 (Of (PartEnd 0 h))) served in
+      let one = once_at_most (Within 0 (Of (PartEnd 0 h))) served in
       let here : meetings (Within 0 (Of (PartEnd 0 h))) web.ties ≤ 1 = omega (arith, one) in
       subst (λ (x : Dot). meetings x web.ties ≤ 1) (sym (dot_is k h d at)) here
   ends (ImportEnd k h) d at = absurd (no_import k h d at)
-  ends (ResultEnd h) d at = let one = once_few (Within 0 (Of (ResultEnd h))) result in omega (arith, one)
+  ends (ResultEnd h) d at = let one = once_at_most (Within 0 (Of (ResultEnd h))) result in omega (arith, one)
 
   apart : (a b : End) (k l : Contact) → contact_at c a ≡ Some k → contact_at c b ≡ Some l → web.at a ≡ web.at b → a ≡ b
   apart (PartEnd x h) (PartEnd y g) k l at_a at_b same =

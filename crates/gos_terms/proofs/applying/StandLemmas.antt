@@ -1,14 +1,15 @@
 -- Where the points of a node's ties stand: at its parts, its nodes, its numbers, or at the result.
 use Rattle.std.specs.Prelude.{◌≡◌, ℕ, zero, suc, ◌+◌, ◌<◌, ◌≤◌, Bool, true, false, List, [], ◌∷◌, ◌⊎◌, length, nat_lt, Contains}
 use Rattle.std.proofs.Common.{refl, sym, ◌∙◌, ap, subst, arith, inl, inr}
+use Rattle.gos_model.proofs.NumberLemmas.{number_cases}
 use Rattle.gos_check.specs.Nodes.{Numbered}
-use Rattle.gos_check.proofs.TimesLemmas.{number_cases, eq_true}
 use Rattle.gos_ties.specs.declared.points.Place.{Place}
 use Rattle.gos_ties.specs.declared.points.Place.TheVariants as places
 use Rattle.gos_ties.specs.declared.points.Point.{Point}
 use Rattle.gos_ties.specs.declared.points.Tie.{Tie}
 use Rattle.gos_ties.specs.Ties.{point}
-use Rattle.gos_ties.specs.Counted.{place_once, once, meetings}
+use Rattle.gos_ties.specs.Counted.{once, meetings}
+use Rattle.gos_ties.proofs.ThinLemmas.{once_itself}
 use Rattle.gos_compile.specs.Wiring.{Types, row, parts_of, nodes, ties_of}
 use Rattle.gos_compile.proofs.TallyLemmas.{occurs, row_once, tally, tallied}
 use Rattle.gos_compile.proofs.ThinLemmas.{span, span_beyond, span_past, part_tells, node_tells, number_tells, outside_tells}
@@ -22,16 +23,6 @@ IsOf types i j m c places.Result h = h < c
 IsOf types i j m c (places.Number k) h = Stands k m
 IsOf types i j m c (places.Node k) h = (j ≤ k) × (k < j + nodes m)
 
-place_itself : (q : Place) → place_once q q ≡ 1
-place_itself (places.Part k) = rw (eq_true k k refl) refl
-place_itself (places.Import k) = rw (eq_true k k refl) refl
-place_itself places.Result = refl
-place_itself (places.Number k) = rw (eq_true k k refl) refl
-place_itself (places.Node k) = rw (eq_true k k refl) refl
-
-once_itself : (q : Point) → once q q ≡ 1
-once_itself q = rw (eq_true q.shake q.shake refl) (place_itself q.place)
-
 pub once_at : (q p : Point) → q ≡ p → once q p ≡ 1
 once_at q p same = subst (λ (x : Point). once q x ≡ 1) same (once_itself q)
 
@@ -41,7 +32,7 @@ counted (x ∷ ts) t q (inl same) (zero, small, e) = let o = once_at q x.one (sa
 counted (x ∷ ts) t q (inr same) (zero, small, e) = let o = once_at q x.other (same ∙ ap (λ (y : Tie). y.other) (sym e)) in omega (arith, o)
 counted (x ∷ ts) t q at (suc n, small, e) = let more = counted ts t q at (n, omega (arith, small), e) in omega (arith, more)
 
-in_span : (k i n : ℕ) → 1 ≤ span k i n → (i ≤ k) × (k < i + n)
+pub in_span : (k i n : ℕ) → 1 ≤ span k i n → (i ≤ k) × (k < i + n)
 in_span k i n some = (low (nat_lt k i) refl, high (nat_lt k (i + n)) refl)
   where
     low : (b : Bool) → nat_lt k i ≡ b → i ≤ k

@@ -1,16 +1,18 @@
 -- What asks in the plan of a wired assignment is its result, or stands for something of one of the two sides.
 use Rattle.std.specs.Prelude.{◌≢◌, ◌+◌, ◌-◌, ◌<◌, ◌⊎◌, length, nat_lt, slice_get, None, Contains}
 use Rattle.std.proofs.Common.{◌≡◌, ℕ, zero, suc, Bool, true, false, List, [], ◌∷◌, ◌++◌, Option, Some, inl, inr, refl, sym, ◌∙◌, ap, subst, arith}
-use Rattle.std.proofs.lemmas.Option.{slice_get_within}
+use Rattle.std.proofs.lemmas.Option.{slice_get_within, none-some}
+use Rattle.std.proofs.lemmas.Bool.{lt-ltb, ltb-true}
 use Rattle.gos_types.specs.declared.shakes.Role.{Role}
 use Rattle.gos_types.specs.declared.shakes.Role.TheVariants.{Serve, Ask}
 use Rattle.gos_types.specs.Types.{Type', Com, Var, Exp}
+use Rattle.gos_model.proofs.NumberLemmas.{number_cases}
 use Rattle.gos_check.specs.declared.linear.Split.{Split}
 use Rattle.gos_check.specs.Nodes.{Numbered, Two, OfAssign, type_of_node}
 use Rattle.gos_check.specs.Linearity.{times, used}
-use Rattle.gos_check.proofs.TimesLemmas.{number_cases}
 use Rattle.gos_plan.specs.Kinds.{Contact, Part, Share, Assign, asks, serves, contacts_of, part_contacts}
 use Rattle.gos_plan.specs.Plans.{End, PartEnd, ImportEnd, ResultEnd, Plan, contact_at, contacts_of_part, turned_if}
+use Rattle.gos_plan.proofs.ContactLemmas.{part_is_there, import_is_there}
 use Rattle.gos_realises.specs.realises.Regular.{count}
 use Rattle.gos_joining.specs.webs.Webs.{Dot, Of, Within}
 use Rattle.gos_compile.specs.Wiring.{Types, answer_bits, shares, parts_of}
@@ -19,11 +21,10 @@ use Rattle.gos_terms.specs.wired.NodeFitting.{AreOfTypes}
 use Rattle.gos_terms.specs.stages.Lodging.{serves_side, AreApart}
 use Rattle.gos_terms.specs.stages.Folding.{Child, is_used, child_back, IsChild, IsLaid}
 use Rattle.gos_terms.proofs.stages.SpareLemmas.{has_size}
-use Rattle.gos_terms.proofs.stages.StepLemmas.{low, told_low, told_high}
-use Rattle.gos_terms.proofs.stages.ChildPartLemmas.{no_more_than}
+use Rattle.gos_terms.proofs.stages.StepLemmas.{told_high}
 use Rattle.gos_terms.proofs.stages.CoverLemmas.{live_is_covered, served_is_covered, plainly, own_is_covered}
 use Rattle.gos_terms.proofs.stages.SideLemmas.{served_side, AreUsed, AreOld, Lives, Serves, all_live, all_serve}
-use Rattle.gos_terms.proofs.stages.ContactLemmas.{part_there, import_there, shares_length}
+use Rattle.gos_terms.proofs.stages.ContactLemmas.{shares_length}
 use Rattle.gos_terms.proofs.stages.LayoutLemmas.{in_front, in_back}
 use Rattle.gos_terms.specs.numbers.Kept.{IsKept}
 use Rattle.gos_terms.specs.numbers.Inherited.{first_numbers, own_numbers}
@@ -41,7 +42,7 @@ none_asks a q v serving e = let clash : Serve ≡ Ask = sym serving ∙ ap role_
 
 -- a Share of the list is one
 share_is : (types : Types) (ss : List Split) (k : ℕ) (y : Part) → slice_get (shares ss types) k ≡ Some y → (t : Type') × (y ≡ Share t)
-share_is types [] k y at = absurd (no_more_than y at)
+share_is types [] k y at = absurd (none-some y at)
 share_is types (s ∷ ss) zero y at = let same : Share (types s.of) ≡ y = cc at in (types s.of, sym same)
 share_is types (s ∷ ss) (suc k) y at = share_is types ss k y at
 
@@ -75,8 +76,8 @@ module _ (types : Types) (i j : ℕ) (ss : List Split) (w : ℕ) (m n : Numbered
   all_used : AreUsed user ss ns []
   all_used k there none =
       elim (either_side types ns ss m n kept k there (omega (arith, none))) [
-        | inl first ↦ (false, low 0 (times k (first_numbers ss ns (used n))) first)
-        | inr second ↦ (true, low 0 (times k (own_numbers ss ns n)) second)
+        | inl first ↦ (false, lt-ltb 0 (times k (first_numbers ss ns (used n))) first)
+        | inr second ↦ (true, lt-ltb 0 (times k (own_numbers ss ns n)) second)
       ]
 
   none_old : AreOld user ss []
@@ -117,7 +118,7 @@ module _ (types : Types) (i j : ℕ) (ss : List Split) (w : ℕ) (m n : Numbered
   assign_covered zero q v asking = inl ((own_is_covered (kid true) (open_ties types i j ss m n ns env) (kid_is true)).1 0 0 refl)
   assign_covered (suc zero) q v asking = inr ((own_is_covered (kid false) (open_ties types i j ss m n ns env) (kid_is false)).1 1 1 refl)
   assign_covered (suc (suc zero)) q v asking = absurd (none_asks (Some (serves 0 0)) q v refl asking)
-  assign_covered (suc (suc (suc h))) q v asking = absurd (no_more_than (asks q v) asking)
+  assign_covered (suc (suc (suc h))) q v asking = absurd (none-some (asks q v) asking)
 
   -- a part of the node
   abbrev rest : List Part
@@ -150,7 +151,7 @@ module _ (types : Types) (i j : ℕ) (ss : List Split) (w : ℕ) (m n : Numbered
           ((own_is_covered (kid true) (open_ties types i j ss m n ns env) (kid_is true)).0 x h lt))
 
       by_term : (x : ℕ) → length ss + 1 + x ≡ k → slice_get rest x ≡ Some y → (b : Bool) → nat_lt x (length (parts_of types m)) ≡ b → Covered (source_dot i (Own k) h)
-      by_term x same there true t = at_variable x same (told_low x (length (parts_of types m)) t)
+      by_term x same there true t = at_variable x same (ltb-true x (length (parts_of types m)) t)
       by_term x same there false t =
           let le = told_high x (length (parts_of types m)) t in
           at_number (x - length (parts_of types m)) (omega (arith, same, le))
@@ -158,7 +159,7 @@ module _ (types : Types) (i j : ℕ) (ss : List Split) (w : ℕ) (m n : Numbered
 
       by_size : (b : Bool) → nat_lt k (length ss) ≡ b → k ≢ length ss → Covered (source_dot i (Own k) h)
       by_size true t apart =
-          let lt = told_low k (length ss) t in
+          let lt = ltb-true k (length ss) t in
           let share = in_front (shares ss types) behind k y at (omega (arith, lt, size)) in
           let (u, kind) = share_is types ss k y share in
           share_covered k h u q v (share ∙ ap Some kind) (subst (λ (z : Part). slice_get (part_contacts z) h ≡ Some (asks q v)) kind asking)
@@ -179,13 +180,13 @@ module _ (types : Types) (i j : ℕ) (ss : List Split) (w : ℕ) (m n : Numbered
   module _ (pl : Placing) (r : Plan) (laid : IsLaid own ns env pl r) (outcome : r.outcome ≡ Com) where
     pub covered_so : (a : End) (q v : ℕ) → contact_at r a ≡ Some (asks q v) → (a ≡ ResultEnd 0) ⊎ Covered (dot_at i pl a)
     covered_so (PartEnd k h) q v at =
-        let (y, listed) = part_there (slice_get r.parts k) h (asks q v) at in
+        let (y, listed) = part_is_there (slice_get r.parts k) h (asks q v) at in
         let (from, same) = laid.no_more k y listed in
         inr (source_covered (pl.source k) y h q v from (sym (ap (λ (a : Option Part). slice_get (contacts_of_part a) h) listed) ∙ at))
     covered_so (ImportEnd k h) q v at =
-        let (y, listed) = import_there (slice_get r.imports k) h (asks q v) at in
+        let (y, listed) = import_is_there (slice_get r.imports k) h (asks q v) at in
         let (there, known, same) = laid.no_import k y listed in
         inr (supply_covered (pl.origin k).number (ImportEnd (pl.origin k).import h) there)
     covered_so (ResultEnd zero) q v at = inl refl
     covered_so (ResultEnd (suc h)) q v at =
-        absurd (no_more_than (asks q v) (sym (ap (λ (t : Type'). turned_if (slice_get (contacts_of t) (suc h))) outcome) ∙ at))
+        absurd (none-some (asks q v) (sym (ap (λ (t : Type'). turned_if (slice_get (contacts_of t) (suc h))) outcome) ∙ at))

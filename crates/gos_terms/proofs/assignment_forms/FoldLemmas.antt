@@ -1,9 +1,10 @@
 -- The plan of a wired variable, without the joint by which it is read, lies as a fold in its node's: so it is a region of it.
 use Rattle.std.specs.Prelude.{◌+◌, ◌⊎◌, length, slice_get, None}
 use Rattle.std.proofs.Common.{◌≡◌, ℕ, zero, suc, Bool, List, Option, Some, inl, inr, refl, sym, ◌∙◌, ap, subst, if◌then◌else◌}
+use Rattle.std.proofs.lemmas.Bool.{eq-eqb}
+use Rattle.std.proofs.lemmas.Option.{none-some}
 use Rattle.gos_types.specs.Types.{Type', Com, Exp, Var, Pair, IsGround}
 use Rattle.gos_check.specs.Nodes.{type_of_node}
-use Rattle.gos_check.proofs.TimesLemmas.{eq_true}
 use Rattle.gos_plan.specs.Kinds.{Contact, Part, Assign, contacts_of, part_contacts}
 use Rattle.gos_plan.specs.Plans.{End, PartEnd, ImportEnd, ResultEnd, Plan, contact_at, contacts_of_part, turned_if}
 use Rattle.gos_plan.specs.Tokens.{IsPortEnd}
@@ -20,7 +21,7 @@ use Rattle.gos_terms.specs.stages.Folded.{Sees, HasChild}
 use Rattle.gos_terms.specs.stages.Housing.{HasShares}
 use Rattle.gos_terms.proofs.stages.ChildTieLemmas.{child_ways}
 use Rattle.gos_terms.proofs.stages.ChildBackLemmas.{lead_lies, lead_stands, child_stays}
-use Rattle.gos_terms.proofs.stages.ChildPartLemmas.{no_more_than, child_is_part}
+use Rattle.gos_terms.proofs.stages.ChildPartLemmas.{child_is_part}
 use Rattle.gos_terms.proofs.stages.ChildFoldLemmas.{own_outside, ports_so, serving_so, others_so, ends_so, comes_so}
 use Rattle.gos_nodes.specs.assignments.Written.{unread}
 use Rattle.gos_terms.specs.assignment_forms.inner.Targets.{target_leads, target_outer, target_inner, target_cut}
@@ -39,13 +40,13 @@ pub record HasTarget (f : Child) (own : List Part) (w : ℕ) : Type 0 where
 var_asks : (w h : ℕ) (k : Contact) → turned_if (slice_get (contacts_of (Var w)) h) ≡ Some k → slice_get (part_contacts (Assign w)) h ≡ Some k
 var_asks w zero k e = e
 var_asks w (suc zero) k e = e
-var_asks w (suc (suc h)) k e = absurd (no_more_than k e)
+var_asks w (suc (suc h)) k e = absurd (none-some k e)
 
 read_contact : (w : ℕ) (k : Contact) → turned_if (slice_get (contacts_of (Var w)) 0) ≡ Some k → turned_if (slice_get (contacts_of (Pair Com (Exp w))) 1) ≡ Some k
 read_contact w k e = e
 
 com_only : (h : ℕ) (k : Contact) → turned_if (slice_get (contacts_of Com) (suc h)) ≡ Some k → ⊥
-com_only h k e = no_more_than k e
+com_only h k e = none-some k e
 
 module _ (f : Child) (own : List Part) (ts : List Tie) (w : ℕ) (pl plc : Placing) (r c : Plan) (is : IsChild f ts) (leads : f.out ≡ target_leads)
     (var : type_of_node f.term ≡ Var w) (has : HasTarget f own w) (outcome : c.outcome ≡ type_of_node f.term) (done : r.outcome ≡ Com)
@@ -82,7 +83,7 @@ module _ (f : Child) (own : List Part) (ts : List Tie) (w : ℕ) (pl plc : Placi
       let same : AtOwn 1 ≡ l = cc lead in
       subst (λ (x : Lead). Sees f.own own (Pair Com (Exp w)) x k) same
       (ap (λ (a : Option Part). slice_get (contacts_of_part a) 1) has.assign ∙ var_asks w 1 k (var_contact 1 k at))
-  seen (suc (suc h)) l k lead at = absurd (no_more_than l lead)
+  seen (suc (suc h)) l k lead at = absurd (none-some l lead)
 
   pub has_child : HasChild f own (Pair Com (Exp w)) c
   has_child =
@@ -118,7 +119,7 @@ module _ (f : Child) (own : List Part) (ts : List Tie) (w : ℕ) (pl plc : Placi
       else if in_range (f.first + f.off) (length (parts_of f.types f.term)) (f.first + f.own)
       then Some (Within 0 (Of (PartEnd (f.first + f.own) 0)))
       else spot_dot ((lodge f).home (Within 0 (Of (PartEnd (f.first + f.own) 0)))))
-      (eq_true (f.first + f.own) (f.first + f.own) refl)
+      (eq-eqb (f.first + f.own) (f.first + f.own) refl)
       ∙ ap (λ (ls : List Lead). of_own ls 0 0) leads
 
   abbrev Port : End → Contact → Type 0
@@ -131,7 +132,7 @@ module _ (f : Child) (own : List Part) (ts : List Tie) (w : ℕ) (pl plc : Placi
   ports (ImportEnd q h) k port at = ports_so f own ts pl plc (reading w r) c is has_child laid_reading laidc (ImportEnd q h) k port at
   ports (ResultEnd h) k port at = (
     outside,
-    ap (λ (b : Bool). if b then Some (ResultEnd h) else None) (eq_true d d refl),
+    ap (λ (b : Bool). if b then Some (ResultEnd h) else None) (eq-eqb d d refl),
     own_asks h k at,
   )
 
@@ -175,7 +176,7 @@ module _ (f : Child) (own : List Part) (ts : List Tie) (w : ℕ) (pl plc : Placi
         ap (Within 0) (lead_lies f ts pl is 1 (AtOwn 1) (lead_at 1 (AtOwn 1) refl)) ∙ sym (own_dot 1),
         ap (child_back f) (own_dot 1) ∙ lead_stands f ts pl is 1 (AtOwn 1) (lead_at 1 (AtOwn 1) refl),
       )
-  ends (ResultEnd (suc (suc h))) k at = absurd (no_more_than k (var_contact (suc (suc h)) k at))
+  ends (ResultEnd (suc (suc h))) k at = absurd (none-some k (var_contact (suc (suc h)) k at))
 
   -- what comes in
   abbrev Comes : End → Contact → Type 0
@@ -192,7 +193,7 @@ module _ (f : Child) (own : List Part) (ts : List Tie) (w : ℕ) (pl plc : Placi
   came e k apart (ImportEnd j h, port, outer, at) = (ImportEnd j h, tt, outer, at)
   came e k apart (ResultEnd zero, port, outer, at) = absurd (apart 1 (sym outer ∙ led_is 0))
   came e k apart (ResultEnd (suc zero), port, outer, at) = (ResultEnd 1, tt, sym (led_is 1) ∙ outer, at)
-  came e k apart (ResultEnd (suc (suc h)), port, outer, at) = absurd (no_more_than k (var_contact (suc (suc h)) k at))
+  came e k apart (ResultEnd (suc (suc h)), port, outer, at) = absurd (none-some k (var_contact (suc (suc h)) k at))
 
   comes : (e : End) (k : Contact) (y : Dot) → IsOutside (target_cut f pl plc size) e → contact_at r e ≡ Some k → child_back f (dot_at f.first pl e) ≡ Some y → Comes e k
   comes (PartEnd i h) k y out at e =
@@ -200,7 +201,7 @@ module _ (f : Child) (own : List Part) (ts : List Tie) (w : ℕ) (pl plc : Placi
   comes (ImportEnd i h) k y out at e =
       came (ImportEnd i h) k (λ g x. cc x) (comes_so f own ts pl plc (reading w r) c is has_child laid_reading laidc (ImportEnd i h) k y out at e)
   comes (ResultEnd zero) k y out at e =
-      absurd (no_more_than y (sym (ap (λ (ls : List Lead). of_result ls 0 0) leads) ∙ e))
+      absurd (none-some y (sym (ap (λ (ls : List Lead). of_result ls 0 0) leads) ∙ e))
   comes (ResultEnd (suc h)) k y out at e =
       absurd (com_only h k (ap (λ (t : Type'). turned_if (slice_get (contacts_of t) (suc h))) (sym done) ∙ at))
 

@@ -6,13 +6,13 @@ use Rattle.gos_model.specs.Typing.{Imported}
 use Rattle.gos_check.specs.declared.linear.Split.{Split}
 use Rattle.gos_check.specs.Nodes.{Numbered, Two, OfAssign, type_of_node}
 use Rattle.gos_check.specs.Linearity.{used}
-use Rattle.gos_plan.specs.Kinds.{Contact, Part, Share, Assign, contacts_of, asks, serves}
-use Rattle.gos_plan.specs.Plans.{End, PartEnd, ImportEnd, ResultEnd, Joint, Plan, contacts_of_part, contact_at, stands_in, turned_if, IsRight}
+use Rattle.gos_plan.specs.Kinds.{Part, Share, Assign, contacts_of}
+use Rattle.gos_plan.specs.Plans.{End, PartEnd, ImportEnd, ResultEnd, Joint, Plan, contacts_of_part, stands_in, turned_if}
 use Rattle.gos_plan.proofs.JointLemmas.{fits, one_joint, contained}
+use Rattle.gos_plan.proofs.ContactLemmas.{import_is_there}
 use Rattle.gos_realises.proofs.realises.PlaceLemmas.{contains_at, place_of}
 use Rattle.gos_joining.specs.webs.Webs.{Dot, Of, Within, Tie, Web, Way, IsOfWeb, joint}
 use Rattle.gos_joining.specs.webs.Cutting.{lies_at, StandsIn}
-use Rattle.gos_joining.proofs.webs.CutLemmas.{which_end}
 use Rattle.gos_joining.proofs.webs.WebLemmas.{asks_there}
 use Rattle.gos_nodes.specs.windows.Regions.{Serving, IsLoyal, IsRegion}
 use Rattle.gos_nodes.specs.windows.Nodes.{Stage, IsOfStage}
@@ -29,18 +29,17 @@ use Rattle.gos_terms.specs.stages.Seated.{supply_seat, LiesIn}
 use Rattle.gos_terms.specs.stages.Stages.{stage_of}
 use Rattle.gos_terms.proofs.stages.InsideLemmas.{inside_is_of_types}
 use Rattle.gos_terms.proofs.stages.LodgingLemmas.{lodged_are_inside}
-use Rattle.gos_terms.proofs.stages.WayLemmas.{by_tie}
 use Rattle.gos_terms.proofs.stages.SeatedLemmas.{supplies_are_seated}
 use Rattle.gos_terms.proofs.stages.LoyalLemmas.{served_is_loyal}
 use Rattle.gos_terms.proofs.stages.ChildBackLemmas.{used_in}
 use Rattle.gos_terms.proofs.stages.ChildFoldLemmas.{import_of, child_is_folded}
 use Rattle.gos_terms.proofs.stages.ChildStageLemmas.{child_is_staged}
-use Rattle.gos_terms.proofs.stages.ContactLemmas.{import_there}
 use Rattle.gos_terms.proofs.stages.StageLemmas.{has_child_of, laid_of, web_of}
 use Rattle.gos_terms.specs.numbers.Kept.{IsKept}
 use Rattle.gos_terms.specs.numbers.Inherited.{first_numbers, own_numbers, IsPart}
 use Rattle.gos_nodes.specs.assignments.Written.{unread}
 use Rattle.gos_nodes.specs.assignments.Assignments as assignments
+use Rattle.gos_nodes.proofs.windows.PortLemmas.{stands_contact}
 use Rattle.gos_terms.specs.assignment_forms.inner.Targets.{target_cut, target_stage}
 use Rattle.gos_terms.proofs.assignment_forms.UnreadLemmas.{unread_web}
 use Rattle.gos_terms.proofs.assignment_forms.FoldLemmas.{HasTarget, reading, fold, outside, has_child, laid_reading, target_is_fold, target_web, target_is_region}
@@ -49,14 +48,7 @@ use Rattle.gos_terms.proofs.assignment_forms.OtherLemmas.{variable_part, number_
 use Rattle.gos_terms.proofs.assignment_forms.SideLemmas.{variable_is_child, number_is_child, has_target, has_parts, assign_at}
 use Rattle.gos_terms.proofs.assignment_forms.CoverLemmas.{covered_so}
 use Rattle.gos_terms.proofs.assignment_forms.PlanLemmas.{wired_plan}
-
--- an end of a right plan has a contact
-contact_of : (c : Plan) → IsRight c → (e : End) → StandsIn c e → (k : Contact) × (contact_at c e ≡ Some k)
-contact_of c right e (j, listed, stands) = by_end (which_end e j stands)
-  where
-    by_end : (e ≡ j.asking) ⊎ (e ≡ j.serving) → (k : Contact) × (contact_at c e ≡ Some k)
-    by_end (inl is) = let it = fits c [] c.joints j right (contained c.joints j listed) in (asks it.0 it.1, ap (contact_at c) is ∙ it.2)
-    by_end (inr is) = let it = fits c [] c.joints j right (contained c.joints j listed) in (serves it.0 it.1, ap (contact_at c) is ∙ it.3)
+use Rattle.gos_terms.proofs.stages.WayLemmas.{way_by_tie}
 
 module _ (types : Types) (ns : List ℕ) (ss : List Split) (w : ℕ) (m n : Numbered) (kept : IsKept types ns (Two Com ss OfAssign m n))
     (var : type_of_node m ≡ Var w) (num : type_of_node n ≡ Exp w)
@@ -187,8 +179,8 @@ module _ (types : Types) (ns : List ℕ) (ss : List Split) (w : ℕ) (m n : Numb
             → (q : ℕ) × (ImportEnd (pl.import ((lodge g).root (plc.origin k).number) (plc.origin k).import) h ≡ ImportEnd q h)
             × (slice_get r.imports q ≡ slice_get c.imports k)
         ports k h stands =
-            let (y, at) = contact_of (unread c) region.right (ImportEnd k h) stands in
-            let (x, listed) = import_there (slice_get c.imports k) h y at in
+            let (y, at) = stands_contact (unread c) region.right (ImportEnd k h) stands in
+            let (x, listed) = import_is_there (slice_get c.imports k) h y at in
             (pl.import ((lodge g).root (plc.origin k).number) (plc.origin k).import, refl, found k x listed ∙ sym listed)
 
     -- with the number's plan too
@@ -241,7 +233,7 @@ module _ (types : Types) (ns : List ℕ) (ss : List Split) (w : ℕ) (m n : Numb
             ap (λ (t : Type'). turned_if (slice_get (contacts_of t) 0)) wired.outcome,
             ap (λ (a : Option Part). slice_get (contacts_of_part a) 2) own_at.0,
             subst (λ (s : Source). Way ts (Within 0 (Of (ResultEnd 0))) (source_dot i s 2)) (sym own_at.1)
-                (by_tie ts (Within 0 (Of (ResultEnd 0))) (Within 0 (Of (PartEnd (i + length ss) 2))) (in_open types i j ss m n ns env _ (inr (inl refl)))),
+                (way_by_tie ts (Within 0 (Of (ResultEnd 0))) (Within 0 (Of (PartEnd (i + length ss) 2))) (in_open types i j ss m n ns env _ (inr (inl refl)))),
           )
 
       is_run : (a b : End) → Contains r.joints (joint a b) → a ≡ ResultEnd 0 → (a ≡ ResultEnd 0) × (b ≡ PartEnd d 2)

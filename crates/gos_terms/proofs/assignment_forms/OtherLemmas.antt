@@ -1,6 +1,6 @@
 -- The numbers that one side of an assignment speaks of are nothing to the other side.
 use Rattle.std.specs.Prelude.{◌+◌, ◌<◌, ◌≤◌, ◌⊎◌, Contains}
-use Rattle.std.proofs.Common.{◌≡◌, ℕ, zero, suc, List, [], ◌∷◌, ◌++◌, inl, inr, refl, arith}
+use Rattle.std.proofs.Common.{◌≡◌, ℕ, zero, suc, List, ◌++◌, inl, inr, refl, arith}
 use Rattle.gos_model.proofs.NumberLemmas.{either}
 use Rattle.gos_types.specs.Types.{Com}
 use Rattle.gos_check.specs.declared.linear.Split.{Split}
@@ -13,6 +13,7 @@ use Rattle.gos_terms.specs.numbers.Kept.{IsKept}
 use Rattle.gos_terms.specs.numbers.Inherited.{first_numbers, own_numbers, IsPart}
 use Rattle.gos_terms.proofs.numbers.ScopeLemmas.{split_covered}
 use Rattle.gos_terms.proofs.numbers.InheritedLemmas.{both_are_kept}
+use Rattle.gos_terms.proofs.run_children.NumberLemmas.{times_inside}
 
 -- a number that is nothing to a side, and that isn't split
 pub record IsOthers (ss : List Split) (uses : List ℕ) (m : Numbered) (k : ℕ) : Type 0 where
@@ -47,10 +48,6 @@ module _ (types : Types) (ss : List Split) (ns : List ℕ) (m n : Numbered) (ms 
           let two = apart k in
           record { unused = not_there a (times k ms) e refl; unmade = omega (arith, two, e); unsplit = none }
       by_made zero e = by_cover e (other.covers k (omega (arith, e, some)))
-
-times_inside : (ss : List Split) (ns : List ℕ) (k : ℕ) → times k (numbers_inside ss ns) ≡ times k ns + times k (sides ss)
-times_inside [] ns k = omega arith
-times_inside (s ∷ ss) ns k = let rest = times_inside ss (s.left ∷ s.right ∷ ns) k in omega (arith, rest)
 
 module _ (types : Types) (ns : List ℕ) (ss : List Split) (m n : Numbered) (kept : IsKept types ns (Two Com ss OfAssign m n)) where
   abbrev pub ms : List ℕ

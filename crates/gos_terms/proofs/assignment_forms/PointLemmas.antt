@@ -15,8 +15,8 @@ use Rattle.gos_terms.specs.stages.Leading.{dot_leading}
 use Rattle.gos_terms.specs.stages.Ranges.{IsWithin}
 use Rattle.gos_terms.proofs.stages.FollowLemmas.{dots_lead}
 use Rattle.gos_terms.proofs.stages.RangeLemmas.{ties_stay_within}
-use Rattle.gos_terms.proofs.stages.WayLemmas.{by_tie}
 use Rattle.gos_terms.proofs.stages.ChildTieLemmas.{dot_tie, put_in}
+use Rattle.gos_terms.proofs.stages.WayLemmas.{way_by_tie}
 
 module _ (types : Types) (i j : ℕ) (m : Numbered) (out : List Point) where
   abbrev plain : List point_ties.Tie
@@ -77,4 +77,4 @@ module _ (move : Dot → Dot) (types : Types) (i j : ℕ) (m : Numbered) (out aw
       subst (λ (x : Tie). Way us (move x.one) (move x.other)) it.same
       (subst (λ (d : Dot). Way us d (move (lying types i j m out it.from.other.place it.from.other.shake))) (sym (moves it.from.one.place it.from.one.shake it.one))
       (subst (λ (d : Dot). Way us (lying types i j m away it.from.one.place it.from.one.shake) d) (sym (moves it.from.other.place it.from.other.shake it.other))
-      (by_tie us (lying types i j m away it.from.one.place it.from.one.shake) (lying types i j m away it.from.other.place it.from.other.shake) there)))
+      (way_by_tie us (lying types i j m away it.from.one.place it.from.one.shake) (lying types i j m away it.from.other.place it.from.other.shake) there)))

@@ -2,7 +2,9 @@
 use Rattle.std.specs.Prelude.{◌+◌, ◌<◌, ◌≤◌, ◌⊎◌, length, slice_get, None, Contains}
 use Rattle.std.proofs.Common.{◌≡◌, ℕ, zero, suc, false, List, [], ◌∷◌, ◌++◌, Option, Some, inl, inr, refl, sym, ◌∙◌, ap, subst, arith}
 use Rattle.std.proofs.lemmas.List.Elements.{Contains-append_left, Contains-append_right, Contains-append_cases}
+use Rattle.std.proofs.lemmas.Option.{none-some}
 use Rattle.gos_types.specs.Types.{Type', Com, Var, Exp}
+use Rattle.gos_types.proofs.ListLemmas.{found_in_front, found_behind}
 use Rattle.gos_check.specs.declared.linear.Split.{Split}
 use Rattle.gos_check.specs.Nodes.{Numbered, Two, OfAssign, type_of_node}
 use Rattle.gos_check.specs.Linearity.{times, used, made}
@@ -14,7 +16,6 @@ use Rattle.gos_ties.specs.declared.points.Place.TheVariants as places
 use Rattle.gos_ties.specs.declared.points.Point.{Point}
 use Rattle.gos_joining.specs.webs.Webs.{Dot, Number, Node, Tie}
 use Rattle.gos_joining.specs.unions.Unions.{within}
-use Rattle.gos_joining.proofs.unions.LeftLemmas.{front, behind}
 use Rattle.gos_compile.specs.Wiring.{Types, answer_bits, shares, shares_ties, parts_of, nodes}
 use Rattle.gos_terms.specs.wired.Wired.{Supplies, dot_ties, all_supply_ties}
 use Rattle.gos_terms.specs.wired.NodeFitting.{AreOfTypes}
@@ -26,7 +27,6 @@ use Rattle.gos_terms.specs.stages.Folded.{Sees}
 use Rattle.gos_terms.specs.stages.Regions.{HasParts}
 use Rattle.gos_terms.proofs.stages.NothingLemmas.{part_nothing, own_back, node_nothing, number_nothing}
 use Rattle.gos_terms.proofs.stages.ChildBackLemmas.{range_below, range_past}
-use Rattle.gos_terms.proofs.stages.ChildPartLemmas.{no_more_than}
 use Rattle.gos_terms.proofs.stages.ContactLemmas.{shares_length}
 use Rattle.gos_terms.specs.numbers.Kept.{IsKept}
 use Rattle.gos_terms.specs.numbers.Inherited.{IsPart, first_numbers, own_numbers}
@@ -63,16 +63,16 @@ module _ (f : Child) where
 two_apart : AreDistinct target_leads
 two_apart zero zero l a b = refl
 two_apart zero (suc zero) l a b = let e : Some (AtResult 1) ≡ Some (AtOwn 1) = a ∙ sym b in absurd (cc e)
-two_apart zero (suc (suc k)) l a b = absurd (no_more_than l b)
+two_apart zero (suc (suc k)) l a b = absurd (none-some l b)
 two_apart (suc zero) zero l a b = let e : Some (AtOwn 1) ≡ Some (AtResult 1) = a ∙ sym b in absurd (cc e)
 two_apart (suc zero) (suc zero) l a b = refl
-two_apart (suc zero) (suc (suc k)) l a b = absurd (no_more_than l b)
-two_apart (suc (suc h)) k l a b = absurd (no_more_than l a)
+two_apart (suc zero) (suc (suc k)) l a b = absurd (none-some l b)
+two_apart (suc (suc h)) k l a b = absurd (none-some l a)
 
 one_apart : AreDistinct (AtOwn 0 ∷ [])
 one_apart zero zero l a b = refl
-one_apart zero (suc k) l a b = absurd (no_more_than l b)
-one_apart (suc h) k l a b = absurd (no_more_than l a)
+one_apart zero (suc k) l a b = absurd (none-some l b)
+one_apart (suc h) k l a b = absurd (none-some l a)
 
 module _ (types : Types) (i j : ℕ) (ss : List Split) (w : ℕ) (m n : Numbered) (ns : List ℕ) (env : Supplies) (kept : IsKept types ns (Two Com ss OfAssign m n))
     (var : type_of_node m ≡ Var w) (num : type_of_node n ≡ Exp w) where
@@ -197,13 +197,13 @@ module _ (types : Types) (i j : ℕ) (ss : List Split) (w : ℕ) (m n : Numbered
   rest = Assign (answer_bits (type_of_node n)) ∷ (parts_of types m ++ parts_of types n)
 
   pub has_shares : HasShares types ss own
-  has_shares k y at = front (shares ss types) rest k y at
+  has_shares k y at = found_in_front (shares ss types) rest k y at
 
   pub assign_at : slice_get own (length ss) ≡ Some (Assign w)
   assign_at =
       let size = shares_length types ss in
       let place : length (shares ss types) + 0 ≡ length ss = omega (arith, size) in
-      subst (λ (k : ℕ). slice_get own k ≡ Some (Assign (answer_bits (type_of_node n)))) place (behind (shares ss types) rest 0)
+      subst (λ (k : ℕ). slice_get own k ≡ Some (Assign (answer_bits (type_of_node n)))) place (found_behind (shares ss types) rest 0)
       ∙ ap (λ (t : Type'). Some (Assign (answer_bits t))) num
 
   variable_at : (k : ℕ) (y : Part) → slice_get (parts_of types m) k ≡ Some y → slice_get own (length ss + 1 + k) ≡ Some y
@@ -211,14 +211,14 @@ module _ (types : Types) (i j : ℕ) (ss : List Split) (w : ℕ) (m n : Numbered
       let size = shares_length types ss in
       let place : length (shares ss types) + suc k ≡ length ss + 1 + k = omega (arith, size) in
       subst (λ (q : ℕ). slice_get own q ≡ Some y) place
-      (behind (shares ss types) rest (suc k) ∙ front (parts_of types m) (parts_of types n) k y at)
+      (found_behind (shares ss types) rest (suc k) ∙ found_in_front (parts_of types m) (parts_of types n) k y at)
 
   number_at : (k : ℕ) (y : Part) → slice_get (parts_of types n) k ≡ Some y → slice_get own (length ss + 1 + length (parts_of types m) + k) ≡ Some y
   number_at k y at =
       let size = shares_length types ss in
       let place : length (shares ss types) + suc (length (parts_of types m) + k) ≡ length ss + 1 + length (parts_of types m) + k = omega (arith, size) in
       subst (λ (q : ℕ). slice_get own q ≡ Some y) place
-      (behind (shares ss types) rest (suc (length (parts_of types m) + k)) ∙ (behind (parts_of types m) (parts_of types n) k ∙ at))
+      (found_behind (shares ss types) rest (suc (length (parts_of types m) + k)) ∙ (found_behind (parts_of types m) (parts_of types n) k ∙ at))
 
   pub has_target : HasTarget (variable_child types i j ss m n ns env) (parts_of types (Two Com ss OfAssign m n)) w
   has_target = record { shares = has_shares; child = variable_at; assign = assign_at }
@@ -230,7 +230,7 @@ module _ (types : Types) (i j : ℕ) (ss : List Split) (w : ℕ) (m n : Numbered
       subst (λ (x : Lead). Sees (length ss) own t x k) same
       (ap (λ (a : Option Part). slice_get (contacts_of_part a) 0) assign_at
       ∙ (sym (ap (λ (t : Type'). turned_if (slice_get (contacts_of t) 0)) num) ∙ at))
-  seen t (suc h) l k lead at = absurd (no_more_than l lead)
+  seen t (suc h) l k lead at = absurd (none-some l lead)
 
   pub has_parts : (t : Type') → HasParts (number_child types i j ss m n ns env) (parts_of types (Two Com ss OfAssign m n)) t
   has_parts t = record { shares = has_shares; child = number_at; asks = seen t }

@@ -3,12 +3,13 @@
 use Rattle.std.specs.Prelude.{◌+◌, ◌<◌, ◌≤◌, ◌⊎◌, length, nat_eq, slice_get, Some, Contains}
 use Rattle.std.proofs.Common.{◌≡◌, ℕ, zero, suc, Bool, false, List, [], ◌∷◌, ◌++◌, inl, inr, refl, sym, ◌∙◌, ap, subst, arith, if◌then◌else◌}
 use Rattle.std.proofs.lemmas.List.Elements.{Contains-append_left, Contains-append_right, Contains-append_cases}
+use Rattle.std.proofs.lemmas.Bool.{eq-eqb, ne_eqb}
+use Rattle.std.proofs.lemmas.Option.{none-some}
 use Rattle.gos_types.specs.Types.{Type', Com}
 use Rattle.gos_model.specs.Terms as terms
 use Rattle.gos_check.specs.declared.linear.Split.{Split}
 use Rattle.gos_check.specs.Nodes.{Numbered, Closed, Two, OfAssign}
 use Rattle.gos_check.specs.Linearity.{used}
-use Rattle.gos_check.proofs.TimesLemmas.{eq_true, eq_false}
 use Rattle.gos_plan.specs.Kinds.{Contact, contacts_of}
 use Rattle.gos_plan.specs.Plans.{End, PartEnd, ImportEnd, ResultEnd, Plan, contact_at, turned_if}
 use Rattle.gos_realises.specs.realises.Regular.{count}
@@ -27,12 +28,11 @@ use Rattle.gos_terms.specs.wired.Wired.{Supplies, Source, Own, Supplied, Placing
 use Rattle.gos_terms.specs.stages.Ranges.{IsWithin}
 use Rattle.gos_terms.specs.stages.Folding.{AtOwn, Child, child_out}
 use Rattle.gos_terms.proofs.stages.LodgingLemmas.{lifted}
-use Rattle.gos_terms.proofs.stages.WayLemmas.{by_tie}
 use Rattle.gos_terms.proofs.stages.ChildTieLemmas.{tie_of, tie_in, of_supplies, of_supply}
-use Rattle.gos_terms.proofs.stages.ChildPartLemmas.{no_more_than}
 use Rattle.gos_terms.specs.numbers.Inherited.{first_numbers, own_numbers}
 use Rattle.gos_terms.specs.assignment_forms.inner.Targets.{target_leads}
 use Rattle.gos_terms.proofs.assignment_forms.PointLemmas.{led_ties, lying, moved_tie}
+use Rattle.gos_terms.proofs.stages.WayLemmas.{way_by_tie}
 
 module _ (types : Types) (i j : ℕ) (ss : List Split) (m n : Numbered) (ns : List ℕ) (env : Supplies) where
   -- the two sides, as children
@@ -183,7 +183,7 @@ module _ (types : Types) (i j : ℕ) (ss : List Split) (m n : Numbered) (ns : Li
   closed d = d
 
   behind : (q : ℕ) → suc j ≤ q → nat_eq q j ≡ false
-  behind q le = eq_false q j (λ e. let same : q ≡ j = e in omega (arith, same, le))
+  behind q le = ne_eqb q j (λ e. let same : q ≡ j = e in omega (arith, same, le))
 
   -- of a tie of a Share or of a supply nothing moves
   module _ (move : Dot → Dot) (out away : List Point)
@@ -194,7 +194,7 @@ module _ (types : Types) (i j : ℕ) (ss : List Split) (m n : Numbered) (ns : Li
 
     still : (t : Tie) → Contains (all away) t → move t.one ≡ t.one → move t.other ≡ t.other → Moved t
     still t has one other =
-        subst (λ (d : Dot). Way (all away) d (move t.other)) (sym one) (subst (λ (d : Dot). Way (all away) t.one d) (sym other) (by_tie (all away) t.one t.other has))
+        subst (λ (d : Dot). Way (all away) d (move t.other)) (sym one) (subst (λ (d : Dot). Way (all away) t.one d) (sym other) (way_by_tie (all away) t.one t.other has))
 
     supply_still : (t : Tie) → Contains (all_supply_ties types env ns) t → Moved t
     supply_still t has =
@@ -280,7 +280,7 @@ module _ (types : Types) (i j : ℕ) (ss : List Split) (m n : Numbered) (ns : Li
 
   open_results : (h : ℕ) → h < 2
       → opened (lying types (i + (length ss + 1)) (suc j) m read_out places.Result h) ≡ lying types (i + (length ss + 1)) (suc j) m (child_out variable_child) places.Result h
-  open_results zero lt = ap (λ (b : Bool). if b then Within 0 (Of (ResultEnd 1)) else Within 0 (Node j 0)) (eq_true j j refl)
+  open_results zero lt = ap (λ (b : Bool). if b then Within 0 (Of (ResultEnd 1)) else Within 0 (Node j 0)) (eq-eqb j j refl)
   open_results (suc zero) lt = refl
   open_results (suc (suc h)) lt = absurd (omega (arith, lt))
 
@@ -322,7 +322,7 @@ module _ (types : Types) (i j : ℕ) (ss : List Split) (m n : Numbered) (ns : Li
     close_at (ImportEnd q h) k at = refl
     close_at (ResultEnd zero) k at = refl
     close_at (ResultEnd (suc h)) k at =
-        absurd (no_more_than k (sym (ap (λ (t : Type'). turned_if (slice_get (contacts_of t) (suc h))) outcome) ∙ at))
+        absurd (none-some k (sym (ap (λ (t : Type'). turned_if (slice_get (contacts_of t) (suc h))) outcome) ∙ at))
 
     pub open_web : IsOfWeb (record { ties = wired_ties types i j node ns env; at = dot_at i pl }) r → IsOfWeb (record { ties = open_ties; at = dot_at i pl }) r
     open_web web =

@@ -2,20 +2,22 @@
 use Rattle.std.specs.Prelude.{◌≢◌, ◌+◌, ◌-◌, ◌<◌, ◌≤◌, ◌⊎◌, length, nat_lt, slice_get, None, Option, Contains}
 use Rattle.std.proofs.Common.{◌≡◌, ℕ, suc, Bool, true, false, List, [], ◌∷◌, Some, inl, inr, refl, sym, ◌∙◌, ap, subst, arith, if◌then◌else◌}
 use Rattle.std.proofs.lemmas.Bool.Decides.{nat_tests}
-use Rattle.std.proofs.lemmas.Option.{slice_get_within}
+use Rattle.std.proofs.lemmas.Option.{slice_get_within, none-some}
+use Rattle.std.proofs.lemmas.Bool.{lt-ltb}
 use Rattle.gos_types.specs.Types.{Type', Com, Exp, Var, Pair, Fun, IsDone}
+use Rattle.gos_types.proofs.ListLemmas.{found_in_front}
 use Rattle.gos_check.specs.declared.linear.Split.{Split}
 use Rattle.gos_check.specs.Nodes.{Numbered}
 use Rattle.gos_check.specs.Linearity.{times}
 use Rattle.gos_check.proofs.TimesLemmas.{some_times}
 use Rattle.gos_plan.specs.Kinds.{Contact, Part, Share, contacts_of, part_contacts}
 use Rattle.gos_plan.specs.Plans.{End, PartEnd, ImportEnd, ResultEnd, Plan, contacts_of_part, contact_at}
+use Rattle.gos_plan.proofs.ContactLemmas.{turned_some, part_is_there, import_is_there}
 use Rattle.gos_realises.specs.realises.Regular.{count}
-use Rattle.gos_realises.proofs.realises.CountLemmas.{some_shake}
+use Rattle.gos_realises.proofs.realises.CountLemmas.{some_shake, share_count}
 use Rattle.gos_joining.specs.webs.Webs.{Dot, Of, Within, Tie}
 use Rattle.gos_nodes.specs.sessions.Sessions.{Form, own_part, run_shake}
 use Rattle.gos_compile.specs.Wiring.{Types, shares, parts_of}
-use Rattle.gos_joining.proofs.unions.LeftLemmas.{front}
 use Rattle.gos_terms.specs.wired.Wired.{Supplies, Source, Own, Supplied, Placing, IsFrom, IsWired, placed, source_dot, dot_at, wired_ties}
 use Rattle.gos_terms.specs.wired.NodeFitting.{AreOfTypes}
 use Rattle.gos_terms.specs.stages.Inside.{numbers_inside}
@@ -25,17 +27,16 @@ use Rattle.gos_terms.specs.stages.Folding.{Child, is_used, lodge, spot_dot, chil
 use Rattle.gos_terms.specs.stages.Nodes.{Cared, AreCovering}
 use Rattle.gos_terms.proofs.stages.HousingLemmas.{homes_are_there}
 use Rattle.gos_terms.proofs.stages.ServedLemmas.{servings_serve}
-use Rattle.gos_terms.proofs.stages.StepLemmas.{low}
-use Rattle.gos_terms.proofs.stages.ChildPartLemmas.{no_more_than, plain_source, own_source_back}
-use Rattle.gos_terms.proofs.stages.ContactLemmas.{turned_some, part_there, import_there, shares_length, share_contacts}
+use Rattle.gos_terms.proofs.stages.ChildPartLemmas.{plain_source, own_source_back}
+use Rattle.gos_terms.proofs.stages.ContactLemmas.{shares_length}
 use Rattle.gos_terms.proofs.stages.CoverLemmas.{live_is_covered, own_is_covered}
 use Rattle.gos_terms.proofs.stages.SideLemmas.{served_side, AreUsed, AreOld, all_live, all_serve}
 use Rattle.gos_terms.specs.run_children.Forks.{Branch, IsFork, AreBranches, BranchIsChild, branch_parts, branch_child}
 use Rattle.gos_terms.specs.branches.Covers.{AreBranchChildren, BranchesCover}
 use Rattle.gos_terms.proofs.branches.BranchLemmas.{Standing, IsOfFork, some_standing, standing_at, standing_used, of_fork, child_of}
 
-of_spot : (a : Option Spot) (x : Dot) → spot_dot a ≡ Some x → (z : Spot) × (a ≡ Some z)
-of_spot None x e = absurd (no_more_than x e)
+pub of_spot : (a : Option Spot) (x : Dot) → spot_dot a ≡ Some x → (z : Spot) × (a ≡ Some z)
+of_spot None x e = absurd (none-some x e)
 of_spot (Some z) x e = (z, refl)
 
 one_contact : (t : Type') → IsDone t → length (contacts_of t) ≡ 1
@@ -85,7 +86,7 @@ module _ (f : Form) (types : Types) (i j : ℕ) (m : Numbered) (ss : List Split)
         listed,
         subst (λ (c : Child). (child_cut c pl e.placing (length r.parts)).number q ≡ Some x) (sym same)
             (ap (λ (b : Bool). if b then part_of_dot (child p) e.placing (child_back (child p) (source_dot i (pl.source q) 0)) else None)
-            (low q (length r.parts) (slice_get_within r.parts q y at))
+            (lt-ltb q (length r.parts) (slice_get_within r.parts q y at))
             ∙ number),
       )
 
@@ -98,7 +99,7 @@ module _ (f : Form) (types : Types) (i j : ℕ) (m : Numbered) (ss : List Split)
       let few = are.covers k (omega (arith, none)) in
       let is = some_times k (numbers_inside ss ns) there in
       let (p, lt) = standing_used bs k (omega (arith, few, is)) in
-      (p, low 0 (times k p.here.uses) lt)
+      (p, lt-ltb 0 (times k p.here.uses) lt)
 
   order : AreInOrder ss
   order = (its_child (some_standing bs some)).tidy.in_order
@@ -124,7 +125,7 @@ module _ (f : Form) (types : Types) (i j : ℕ) (m : Numbered) (ss : List Split)
   share_source : (x : ℕ) (y : Part) → slice_get (shares ss types) x ≡ Some y → pl.source (pl.own x) ≡ Own x
   share_source x y at =
       let all : slice_get (parts_of types m) x ≡ Some y =
-      subst (λ (ps : List Part). slice_get ps x ≡ Some y) (sym fork.parts) (front (shares ss types) (own_part f ∷ branch_parts types bs) x y at)
+      subst (λ (ps : List Part). slice_get ps x ≡ Some y) (sym fork.parts) (found_in_front (shares ss types) (own_part f ∷ branch_parts types bs) x y at)
       in
       (wired.parts y (Own x) all).1
 
@@ -213,7 +214,7 @@ module _ (f : Form) (types : Types) (i j : ℕ) (m : Numbered) (ss : List Split)
       let lt = slice_get_within (shares ss types) k (Share t) share in
       let size = shares_length types ss in
       let below : k < length ss = omega (arith, lt, size) in
-      let contacts : length (part_contacts y) ≡ count t + (count t + count t) = ap (λ (x : Part). length (part_contacts x)) is ∙ share_contacts t in
+      let contacts : length (part_contacts y) ≡ count t + (count t + count t) = ap (λ (x : Part). length (part_contacts x)) is ∙ share_count t in
       let many = some_shake t in
       housed_all q y (Own k) at from below below (λ h less. share_housed k h t share (omega (arith, less, contacts)))
       (share_housed k 0 t share (omega (arith, many)))
@@ -242,11 +243,11 @@ module _ (f : Form) (types : Types) (i j : ℕ) (m : Numbered) (ss : List Split)
 
   end_covered : (a : End) (k : Contact) → contact_at r a ≡ Some k → (a ≡ ResultEnd 0) ⊎ (IsRun a ⊎ Covered a)
   end_covered (PartEnd q h) k at =
-      let (y, listed) = part_there (slice_get r.parts q) h k at in
+      let (y, listed) = part_is_there (slice_get r.parts q) h k at in
       let there : slice_get (part_contacts y) h ≡ Some k = subst (λ (o : Option Part). slice_get (contacts_of_part o) h ≡ Some k) listed at in
       inr ((part_all q y listed).0 h (slice_get_within (part_contacts y) h k there))
   end_covered (ImportEnd q h) k at =
-      let (x, listed) = import_there (slice_get r.imports q) h k at in
+      let (x, listed) = import_is_there (slice_get r.imports q) h k at in
       let there = (wired.no_import q x listed).0 in
       let (p, alive) = live_number (pl.origin q).number there in
       let (y, back) = live_is_covered (child p) (pl.origin q).number (ImportEnd (pl.origin q).import h) alive in

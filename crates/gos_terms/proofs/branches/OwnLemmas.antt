@@ -3,6 +3,7 @@ use Rattle.std.specs.Prelude.{◌≡◌, ℕ, zero, suc, ◌+◌, List, ◌∷�
 use Rattle.std.proofs.Common.{refl, sym, ◌∙◌, ap, subst, arith, inl}
 use Rattle.std.proofs.lemmas.List.Elements.{Contains-append_left, Contains-append_right}
 use Rattle.gos_types.specs.Types.{Type', IsDone}
+use Rattle.gos_types.proofs.ListLemmas.{found_behind}
 use Rattle.gos_check.specs.declared.linear.Split.{Split}
 use Rattle.gos_check.specs.Nodes.{Numbered, type_of_node}
 use Rattle.gos_plan.specs.Kinds.{serves, Part, contacts_of, part_contacts}
@@ -17,7 +18,6 @@ use Rattle.gos_ties.specs.Ties.{point}
 use Rattle.gos_joining.specs.webs.Webs.{Dot, Of, Within, Tie, tie, Way, here, along, joint}
 use Rattle.gos_joining.specs.unions.Unions.{within}
 use Rattle.gos_joining.proofs.unions.UnionLemmas.{in_image}
-use Rattle.gos_joining.proofs.unions.LeftLemmas.{behind}
 use Rattle.gos_nodes.proofs.windows.AskedLemmas.{done_contact}
 use Rattle.gos_nodes.specs.sessions.Sessions.{Form, Sequence, Choice, Loop, Binary, Complement, bits, own_part, own_type, run_shake}
 use Rattle.gos_compile.specs.Wiring.{Types, row, led, shares, shares_ties, parts_of, ties_of}
@@ -53,7 +53,7 @@ module _ (f : Form) (types : Types) (i j : ℕ) (m : Numbered) (ss : List Split)
   own_at =
       ap (λ (xs : List Part). slice_get xs (length ss)) fork.parts
       ∙ (ap (λ (k : ℕ). slice_get (shares ss types ++ own_part f ∷ branch_parts types bs) k) long
-      ∙ behind (shares ss types) (own_part f ∷ branch_parts types bs) 0)
+      ∙ found_behind (shares ss types) (own_part f ∷ branch_parts types bs) 0)
     where
       long : length ss ≡ length (shares ss types) + 0
       long = let sum = shares_length types ss in omega (arith, sum)

@@ -1,6 +1,7 @@
 -- The sessions of each form run the branches of its fork, whatever terms these have.
-use Rattle.std.specs.Prelude.{◌≡◌, ℕ, Bool, true, false, List, [], ◌∷◌, ◌++◌, Option, Some, None, length, nat_eq, if◌then◌else◌}
+use Rattle.std.specs.Prelude.{◌≡◌, ℕ, Bool, true, false, List, [], ◌∷◌, ◌++◌, Some, length, nat_eq, if◌then◌else◌}
 use Rattle.std.proofs.Common.{refl, sym, ◌∙◌, ap}
+use Rattle.std.proofs.lemmas.Option.{none-some, same_Some}
 use Rattle.gos_types.specs.Types.{Type', Com, Exp}
 use Rattle.gos_model.specs.Terms as terms
 use Rattle.gos_model.specs.Terms.{Op, Term}
@@ -9,16 +10,6 @@ use Rattle.gos_plan.specs.Firing.{Phase, First, Second, Test, Branch as Branched
 use Rattle.gos_nodes.specs.sessions.Sessions.{Sequence, Choice, Loop, Binary, Complement, Session, session, session_of}
 use Rattle.gos_terms.specs.run_children.Forks.{Branch}
 use Rattle.gos_terms.specs.run_children.Forms.{branch}
-
-none_given : (s : Session) → None ≡ Some s → ⊥
-none_given s e = cc e
-
-abbrev session_or : Session → Option Session → Session
-session_or d None = d
-session_or d (Some s) = s
-
-given : (d s : Session) → Some d ≡ Some s → d ≡ s
-given d s e = ap (session_or d) e
 
 module _ (the : Numbered → Term) where
   -- the session runs the branch that stands behind so many, with its term
@@ -50,49 +41,49 @@ module _ (the : Numbered → Term) where
         → session_of (Sequence t (the m) (the n)) q k ≡ Some s → RunsOne two s
     of_sequence t em en First k s h =
         let d = session 0 (the m) Com (λ x. terms.Seq x (the n)) in
-        runs_one [] (branch n ks ∷ []) (branch m ms) s Com (λ x. terms.Seq x (the n)) (sym em) (given d s h)
+        runs_one [] (branch n ks ∷ []) (branch m ms) s Com (λ x. terms.Seq x (the n)) (sym em) (same_Some d s h)
     of_sequence t em en Second k s h =
         let d = session 1 (the n) t (λ x. x) in
-        runs_one (branch m ms ∷ []) [] (branch n ks) s t (λ x. x) (sym en) (given d s h)
-    of_sequence t em en q k s h = absurd (none_given s h)
+        runs_one (branch m ms ∷ []) [] (branch n ks) s t (λ x. x) (sym en) (same_Some d s h)
+    of_sequence t em en q k s h = absurd (none-some s h)
 
     pub of_choice : (t : Type') → type_of_node m ≡ Exp 1 → type_of_node n ≡ t → type_of_node p ≡ t → (q : Phase) (k : ℕ) (s : Session)
         → session_of (Choice t (the m) (the n) (the p)) q k ≡ Some s → RunsOne three s
     of_choice t em en ep Test k s h =
         let d = session 0 (the m) (Exp 1) (λ x. terms.If x (the n) (the p)) in
-        runs_one [] (branch n ks ∷ branch p ls ∷ []) (branch m ms) s (Exp 1) (λ x. terms.If x (the n) (the p)) (sym em) (given d s h)
+        runs_one [] (branch n ks ∷ branch p ls ∷ []) (branch m ms) s (Exp 1) (λ x. terms.If x (the n) (the p)) (sym em) (same_Some d s h)
     of_choice t em en ep Branched k s h = by_test (nat_eq k 1) h
       where
         by_test : (b : Bool) → Some (session (if b then 1 else 2) (if b then the n else the p) t (λ x. x)) ≡ Some s → RunsOne three s
         by_test true h =
-            runs_one (branch m ms ∷ []) (branch p ls ∷ []) (branch n ks) s t (λ x. x) (sym en) (given (session 1 (the n) t (λ x. x)) s h)
+            runs_one (branch m ms ∷ []) (branch p ls ∷ []) (branch n ks) s t (λ x. x) (sym en) (same_Some (session 1 (the n) t (λ x. x)) s h)
         by_test false h =
-            runs_one (branch m ms ∷ branch n ks ∷ []) [] (branch p ls) s t (λ x. x) (sym ep) (given (session 2 (the p) t (λ x. x)) s h)
-    of_choice t em en ep q k s h = absurd (none_given s h)
+            runs_one (branch m ms ∷ branch n ks ∷ []) [] (branch p ls) s t (λ x. x) (sym ep) (same_Some (session 2 (the p) t (λ x. x)) s h)
+    of_choice t em en ep q k s h = absurd (none-some s h)
 
     pub of_loop : type_of_node m ≡ Exp 1 → type_of_node n ≡ Com → (q : Phase) (k : ℕ) (s : Session)
         → session_of (Loop (the m) (the n)) q k ≡ Some s → RunsOne two s
     of_loop em en Test k s h =
         let frame : Term → Term = (λ x. terms.If x (terms.Seq (the n) (terms.While (the m) (the n))) terms.Skip) in
-        runs_one [] (branch n ks ∷ []) (branch m ms) s (Exp 1) frame (sym em) (given (session 0 (the m) (Exp 1) frame) s h)
+        runs_one [] (branch n ks ∷ []) (branch m ms) s (Exp 1) frame (sym em) (same_Some (session 0 (the m) (Exp 1) frame) s h)
     of_loop em en Body k s h =
         let frame : Term → Term = (λ x. terms.Seq x (terms.While (the m) (the n))) in
-        runs_one (branch m ms ∷ []) [] (branch n ks) s Com frame (sym en) (given (session 1 (the n) Com frame) s h)
-    of_loop em en q k s h = absurd (none_given s h)
+        runs_one (branch m ms ∷ []) [] (branch n ks) s Com frame (sym en) (same_Some (session 1 (the n) Com frame) s h)
+    of_loop em en q k s h = absurd (none-some s h)
 
     pub of_operator : (op : Op) (w : ℕ) → type_of_node m ≡ Exp w → type_of_node n ≡ Exp w → (q : Phase) (k : ℕ) (s : Session)
         → session_of (Binary op w (the m) (the n)) q k ≡ Some s → RunsOne two s
     of_operator op w em en Left k s h =
         let frame : Term → Term = (λ x. terms.Bin op x (the n)) in
-        runs_one [] (branch n ks ∷ []) (branch m ms) s (Exp w) frame (sym em) (given (session 0 (the m) (Exp w) frame) s h)
+        runs_one [] (branch n ks ∷ []) (branch m ms) s (Exp w) frame (sym em) (same_Some (session 0 (the m) (Exp w) frame) s h)
     of_operator op w em en Right k s h =
         let frame : Term → Term = (λ x. terms.Held k op x) in
-        runs_one (branch m ms ∷ []) [] (branch n ks) s (Exp w) frame (sym en) (given (session 1 (the n) (Exp w) frame) s h)
-    of_operator op w em en q k s h = absurd (none_given s h)
+        runs_one (branch m ms ∷ []) [] (branch n ks) s (Exp w) frame (sym en) (same_Some (session 1 (the n) (Exp w) frame) s h)
+    of_operator op w em en q k s h = absurd (none-some s h)
 
   pub of_complement : (m : Numbered) (ms : List ℕ) (w : ℕ) → type_of_node m ≡ Exp w → (q : Phase) (k : ℕ) (s : Session)
       → session_of (Complement w (the m)) q k ≡ Some s → RunsOne (branch m ms ∷ []) s
   of_complement m ms w em Waiting k s h =
       let frame : Term → Term = (λ x. terms.Not x) in
-      runs_one [] [] (branch m ms) s (Exp w) frame (sym em) (given (session 0 (the m) (Exp w) frame) s h)
-  of_complement m ms w em q k s h = absurd (none_given s h)
+      runs_one [] [] (branch m ms) s (Exp w) frame (sym em) (same_Some (session 0 (the m) (Exp w) frame) s h)
+  of_complement m ms w em q k s h = absurd (none-some s h)

@@ -4,14 +4,15 @@ use Rattle.std.specs.Str.{bytes_eq}
 use Rattle.std.proofs.Common.{refl, sym, ◌∙◌, ap, subst, arith, inl, inr}
 use Rattle.std.proofs.lemmas.List.Elements.{Contains-append_cases}
 use Rattle.std.proofs.lemmas.Slice.Eq.{bytes_eq-Decides}
+use Rattle.std.proofs.lemmas.Bool.{eqb-true, eq-eqb}
 use Rattle.gos_types.specs.Types.{Type', Exp, Var, Pair, Fun}
+use Rattle.gos_types.proofs.ListLemmas.{found_in_front}
 use Rattle.gos_model.specs.Terms as terms
 use Rattle.gos_model.specs.Terms.{Term, Name}
 use Rattle.gos_model.specs.Typing.{Imports, import_type, Named, things, Typed}
 use Rattle.gos_model.specs.Weight.{node_type, or_com, after_fun, left_of, right_of, read_of, op_type}
 use Rattle.gos_check.specs.declared.linear.Split.{Split}
 use Rattle.gos_check.specs.Nodes.{Numbered, Closed, Use, Under, One, Two, If, OfFun, OfNew, OneForm, OfFst, OfSnd, OfDeref, OfNot, TwoForm, OfApp, OfBoth, OfSeq, OfPar, OfWhile, OfAssign, OfBin, Meaning, argument_of, shifted, below, inside_one, inside, meaning, one_term, two_term, type_of_node}
-use Rattle.gos_check.proofs.TimesLemmas.{eq_true, true_eq}
 use Rattle.gos_plan.specs.Plans.{Plan}
 use Rattle.gos_realises.specs.realises.Realises.{NamesDiffer}
 use Rattle.gos_realises.proofs.realises.PlaceLemmas.{contains_at, place_of}
@@ -22,7 +23,6 @@ use Rattle.gos_compile.specs.Wiring.{Types}
 use Rattle.gos_compile.specs.Typed.{SidesTyped, ClosedTyped, OneTyped, TwoTyped, NodesTyped}
 use Rattle.gos_terms.specs.stages.Inside.{AreSplit, numbers_inside}
 use Rattle.gos_terms.specs.wired.Wired.{Supplies, Placing, IsWired, AreRealised, terms_of}
-use Rattle.gos_joining.proofs.unions.LeftLemmas.{front}
 use Rattle.gos_terms.proofs.meanings.StillLemmas.{shift_still}
 use Rattle.gos_terms.specs.numbers.Kept.{InScope}
 
@@ -31,7 +31,7 @@ module _ (i : Imports) where
   more_around : (g h : List Type') (m : Term) (t : Type') → Typed i h m t → node_type i (h ++ g) m ≡ t
   more_around g h terms.Skip t typed = sym typed
   more_around g h (terms.Lit k w) t typed = sym typed.0
-  more_around g h (terms.Bound n) t typed = ap or_com (front h g n t typed)
+  more_around g h (terms.Bound n) t typed = ap or_com (found_in_front h g n t typed)
   more_around g h (terms.Import x) t typed = ap or_com typed
   more_around g h (terms.Lam a m) t (b, e, typed) = ap (λ (c : Type'). Fun a c) (more_around g (a ∷ h) m b typed) ∙ sym e
   more_around g h (terms.App m n) t (a, typed, other, apart) = ap after_fun (more_around g h m (Fun a t) typed)
@@ -73,7 +73,7 @@ module _ (i : Imports) where
     HaveTypes g ns e = (k : ℕ) → Contains ns k → IsOf g (e k) (types k)
 
     in_list : (ns : List ℕ) (k n : ℕ) → nat_eq k n ≡ false → Contains (n ∷ ns) k → Contains ns k
-    in_list ns k n apart (zero, small, e) = absurd (cc (sym (eq_true k n (sym e)) ∙ apart))
+    in_list ns k n apart (zero, small, e) = absurd (cc (sym (eq-eqb k n (sym e)) ∙ apart))
     in_list ns k n apart (suc j, small, e) = (j, omega (arith, small), e)
 
     -- a side of a split has the type of what is split
@@ -81,9 +81,9 @@ module _ (i : Imports) where
         → HaveTypes g ns e → (k : ℕ) → Contains (s.left ∷ s.right ∷ ns) k → (a b : Bool) → nat_eq k s.left ≡ a → nat_eq k s.right ≡ b
         → IsOf g (if a || b then e s.of else e k) (types k)
     one_inside g s ns e left right source have k has true b is_left is_right =
-        subst (λ (t : Type'). IsOf g (e s.of) t) (sym left ∙ ap types (sym (true_eq k s.left is_left))) (have s.of source)
+        subst (λ (t : Type'). IsOf g (e s.of) t) (sym left ∙ ap types (sym (eqb-true k s.left is_left))) (have s.of source)
     one_inside g s ns e left right source have k has false true is_left is_right =
-        subst (λ (t : Type'). IsOf g (e s.of) t) (sym right ∙ ap types (sym (true_eq k s.right is_right))) (have s.of source)
+        subst (λ (t : Type'). IsOf g (e s.of) t) (sym right ∙ ap types (sym (eqb-true k s.right is_right))) (have s.of source)
     one_inside g s ns e left right source have k has false false is_left is_right =
         have k (in_list ns k s.right is_right (in_list (s.right ∷ ns) k s.left is_left has))
 
@@ -97,7 +97,7 @@ module _ (i : Imports) where
     -- and what a binder binds has its type
     one_below : (b : Type') (g : List Type') (n : ℕ) (ns : List ℕ) (e : Meaning) → b ≡ types n → HaveTypes g ns e
         → (k : ℕ) → Contains (ns ++ n ∷ []) k → (a : Bool) → nat_eq k n ≡ a → IsOf (b ∷ g) (if a then terms.Bound 0 else shifted (e k)) (types k)
-    one_below b g n ns e same have k has true is = inl (0, refl, ap Some (same ∙ ap types (sym (true_eq k n is))))
+    one_below b g n ns e same have k has true is = inl (0, refl, ap Some (same ∙ ap types (sym (eqb-true k n is))))
     one_below b g n ns e same have k has false is = further b g (e k) (types k) (have k (by_list (Contains-append_cases ns (n ∷ []) k has)))
       where
         none : Contains [] k → Contains ns k

@@ -5,13 +5,15 @@ use Rattle.std.proofs.lemmas.Option.{slice_get_within}
 use Rattle.std.proofs.lemmas.List.{append-nil}
 use Rattle.std.proofs.lemmas.List.Elements.{Contains-append_left, Contains-append_right, Contains-append_cases}
 use Rattle.std.proofs.lemmas.Bool.Decides.{nat_tests}
+use Rattle.std.proofs.lemmas.Bool.{eqb-true, lt-ltb, le-ltb, eq-eqb}
 use Rattle.gos_types.specs.Types.{Fun}
+use Rattle.gos_types.proofs.ListLemmas.{found_behind, same_in_front}
 use Rattle.gos_model.specs.Typing.{Imported}
 use Rattle.gos_check.specs.Nodes.{Numbered, Under, OfFun, type_of_node}
-use Rattle.gos_check.proofs.TimesLemmas.{eq_true, true_eq}
 use Rattle.gos_plan.specs.Kinds.{Part, Contact}
 use Rattle.gos_plan.specs.Plans.{End, PartEnd, ImportEnd, ResultEnd, Plan, contact_at, IsRight}
 use Rattle.gos_plan.specs.Joining.{Place as Spot, place, Link, LeftImport, all_left, left_place, origin}
+use Rattle.gos_plan.proofs.ContactLemmas.{part_is_there, import_is_there}
 use Rattle.gos_ties.specs.declared.points.Place.{Place}
 use Rattle.gos_ties.specs.declared.points.Place.TheVariants as places
 use Rattle.gos_ties.specs.declared.points.Point.{Point}
@@ -35,13 +37,12 @@ use Rattle.gos_compile.specs.Wiring.{Types, row, led, parts_of, ties_of}
 use Rattle.gos_terms.specs.wired.Wired.{Supplies, Placing, Source, Own, Supplied, Origin, IsFrom, placed, source_dot, dot_at, dot_of_place, dot_of, dot_ties, result_ties, supply_ties, all_supply_ties, wired_web, IsWired}
 use Rattle.gos_terms.proofs.wired.TieLemmas.{OfSupplies, of_supplies, in_supplies, of_results, in_results}
 use Rattle.gos_joining.proofs.weaving.CrossingLemmas.{still}
+use Rattle.gos_sharing.proofs.function_types.SideLemmas.{link_is_in}
 use Rattle.gos_terms.proofs.applying.RenamedLemmas.{renamed_at, renamed, renamed_tie, map_two, ties_renamed}
 use Rattle.gos_terms.proofs.applying.RowLemmas.{row_two}
 use Rattle.gos_terms.proofs.applying.SupplyLemmas.{inside, result_tie, IsSupplyTie, of_supply, tied_at}
 use Rattle.gos_terms.proofs.applying.ChildLemmas.{dot_tie, child_ties, own_ties, node_ties, own_tie, node_tie, of_own, in_own, of_node, in_node}
-use Rattle.gos_terms.proofs.applying.SideLemmas.{its_part, its_import}
-use Rattle.gos_terms.proofs.applying.PermuteLemmas.{front, behind}
-use Rattle.gos_terms.proofs.applying.ApplyWebLemmas.{below, not_below, in_links, of_links}
+use Rattle.gos_terms.proofs.applying.ApplyWebLemmas.{of_links}
 use Rattle.gos_terms.proofs.regions.NamedLemmas.{before}
 use Rattle.gos_terms.specs.function_forms.Bodies.{with_supply, AppliedIsBody}
 
@@ -121,7 +122,7 @@ module _
   inner_there k is = ap (λ (c : Bool). if c then s else env k) is
 
   itself : nat_eq n n ≡ true
-  itself = eq_true n n refl
+  itself = eq-eqb n n refl
 
   supplied_here : (l k : ℕ) → nat_eq l n ≡ true → body_placing.supplied l k ≡ len + k
   supplied_here l k is = ap (λ (c : Bool). if c then len + k else pl.supplied l k) is
@@ -158,15 +159,15 @@ module _
 
   -- the parts
   part_front : (k : ℕ) (x : Part) → slice_get r.parts k ≡ Some x → slice_get r'.parts k ≡ Some x
-  part_front k x at = ap (λ (ps : List Part). slice_get ps k) parts_are ∙ (front r.parts s.plan.parts k (slice_get_within r.parts k x at) ∙ at)
+  part_front k x at = ap (λ (ps : List Part). slice_get ps k) parts_are ∙ (same_in_front r.parts s.plan.parts k (slice_get_within r.parts k x at) ∙ at)
 
   part_behind : (k : ℕ) → slice_get r'.parts (len + k) ≡ slice_get s.plan.parts k
-  part_behind k = ap (λ (ps : List Part). slice_get ps (len + k)) parts_are ∙ behind r.parts s.plan.parts k
+  part_behind k = ap (λ (ps : List Part). slice_get ps (len + k)) parts_are ∙ found_behind r.parts s.plan.parts k
 
   part_low : (k : ℕ) (x : Part) → slice_get r'.parts k ≡ Some x → nat_lt k len ≡ true → slice_get r.parts k ≡ Some x
   part_low k x at is =
       let low : k < len = grind (arith, nat_tests) in
-      sym (front r.parts s.plan.parts k low) ∙ (ap (λ (ps : List Part). slice_get ps k) (sym parts_are) ∙ at)
+      sym (same_in_front r.parts s.plan.parts k low) ∙ (ap (λ (ps : List Part). slice_get ps k) (sym parts_are) ∙ at)
 
   part_high : (k : ℕ) (x : Part) → slice_get r'.parts k ≡ Some x → nat_lt k len ≡ false → (len + (k - len) ≡ k) × (slice_get s.plan.parts (k - len) ≡ Some x)
   part_high k x at is =
@@ -180,24 +181,24 @@ module _
   parts_placed : (x : Part) (o : Source) → IsFrom (parts_of types m) body_numbers inner x o → PartPlaced x o
   parts_placed x (Own k) from =
       let (at, back) = w.parts x (Own k) from in
-      (part_front (pl.own k) x at, source_low (pl.own k) (below (pl.own k) len (slice_get_within r.parts (pl.own k) x at)) ∙ back)
+      (part_front (pl.own k) x at, source_low (pl.own k) (lt-ltb (pl.own k) len (slice_get_within r.parts (pl.own k) x at)) ∙ back)
   parts_placed x (Supplied l k) (has, from) = by_test (nat_eq l n) refl
     where
       by_test : (c : Bool) → nat_eq l n ≡ c → PartPlaced x (Supplied l k)
       by_test true is =
-          let number : n ≡ l = sym (true_eq l n is) in
+          let number : n ≡ l = sym (eqb-true l n is) in
           let less : (len + k) - len ≡ k = omega arith in (
             ap (slice_get r'.parts) (supplied_here l k is)
                 ∙ (part_behind k ∙ (ap (λ (z : Supply). slice_get z.plan.parts k) (sym (inner_here l is)) ∙ from)),
             ap body_placing.source (supplied_here l k is)
-                ∙ (source_high (len + k) (not_below (len + k) len (omega arith)) ∙ (λ z. Supplied (number z) (less z))),
+                ∙ (source_high (len + k) (le-ltb (len + k) len (omega arith)) ∙ (λ z. Supplied (number z) (less z))),
           )
       by_test false is =
           let (at, back) =
           w.parts x (Supplied l k) (before ns n l is has, ap (λ (z : Supply). slice_get z.plan.parts k) (sym (inner_there l is)) ∙ from) in (
             ap (slice_get r'.parts) (supplied_there l k is) ∙ part_front (pl.supplied l k) x at,
             ap body_placing.source (supplied_there l k is)
-                ∙ (source_low (pl.supplied l k) (below (pl.supplied l k) len (slice_get_within r.parts (pl.supplied l k) x at)) ∙ back),
+                ∙ (source_low (pl.supplied l k) (lt-ltb (pl.supplied l k) len (slice_get_within r.parts (pl.supplied l k) x at)) ∙ back),
           )
 
   lifted : (x : Part) (o : Source) → IsFrom (parts_of types m) ns env x o
@@ -232,15 +233,15 @@ module _
   -- the imports
   import_front : (k : ℕ) (x : Imported) → slice_get r.imports k ≡ Some x → slice_get r'.imports k ≡ Some x
   import_front k x at =
-      ap (λ (ps : List Imported). slice_get ps k) imports_are ∙ (front r.imports s.plan.imports k (slice_get_within r.imports k x at) ∙ at)
+      ap (λ (ps : List Imported). slice_get ps k) imports_are ∙ (same_in_front r.imports s.plan.imports k (slice_get_within r.imports k x at) ∙ at)
 
   import_behind : (k : ℕ) → slice_get r'.imports (len_i + k) ≡ slice_get s.plan.imports k
-  import_behind k = ap (λ (ps : List Imported). slice_get ps (len_i + k)) imports_are ∙ behind r.imports s.plan.imports k
+  import_behind k = ap (λ (ps : List Imported). slice_get ps (len_i + k)) imports_are ∙ found_behind r.imports s.plan.imports k
 
   import_low : (k : ℕ) (x : Imported) → slice_get r'.imports k ≡ Some x → nat_lt k len_i ≡ true → slice_get r.imports k ≡ Some x
   import_low k x at is =
       let low : k < len_i = grind (arith, nat_tests) in
-      sym (front r.imports s.plan.imports k low) ∙ (ap (λ (ps : List Imported). slice_get ps k) (sym imports_are) ∙ at)
+      sym (same_in_front r.imports s.plan.imports k low) ∙ (ap (λ (ps : List Imported). slice_get ps k) (sym imports_are) ∙ at)
 
   import_high : (k : ℕ) (x : Imported) → slice_get r'.imports k ≡ Some x → nat_lt k len_i ≡ false
       → (len_i + (k - len_i) ≡ k) × (slice_get s.plan.imports (k - len_i) ≡ Some x)
@@ -257,19 +258,19 @@ module _
     where
       by_test : (c : Bool) → nat_eq l n ≡ c → ImportPlaced x l k
       by_test true is =
-          let number : n ≡ l = sym (true_eq l n is) in
+          let number : n ≡ l = sym (eqb-true l n is) in
           let less : (len_i + k) - len_i ≡ k = omega arith in (
             ap (slice_get r'.imports) (import_here l k is)
                 ∙ (import_behind k ∙ (ap (λ (z : Supply). slice_get z.plan.imports k) (sym (inner_here l is)) ∙ from)),
             ap body_placing.origin (import_here l k is)
-                ∙ (origin_high (len_i + k) (not_below (len_i + k) len_i (omega arith)) ∙ (λ z. record { number = number z; import = less z })),
+                ∙ (origin_high (len_i + k) (le-ltb (len_i + k) len_i (omega arith)) ∙ (λ z. record { number = number z; import = less z })),
           )
       by_test false is =
           let (at, back) =
           w.imports l k x (before ns n l is has) (ap (λ (z : Supply). slice_get z.plan.imports k) (sym (inner_there l is)) ∙ from) in (
             ap (slice_get r'.imports) (import_there l k is) ∙ import_front (pl.import l k) x at,
             ap body_placing.origin (import_there l k is)
-                ∙ (origin_low (pl.import l k) (below (pl.import l k) len_i (slice_get_within r.imports (pl.import l k) x at)) ∙ back),
+                ∙ (origin_low (pl.import l k) (lt-ltb (pl.import l k) len_i (slice_get_within r.imports (pl.import l k) x at)) ∙ back),
           )
 
   abbrev ImportFrom : Imported → ℕ → Origin → Type 0
@@ -400,12 +401,12 @@ module _
   back_there k d is = ap (λ (c : Bool). if c then Within 1 d else Within 0 (Within (suc k) d)) is
 
   argument_dot : (h : ℕ) → h < ca → at_zero (Of (ResultEnd h)) ≡ Within (suc n) (Of (ResultEnd h))
-  argument_dot h low = ap (λ (c : Bool). if c then Within (suc n) (Of (ResultEnd h)) else Within 0 (Of (ResultEnd (h - ca)))) (below h ca low)
+  argument_dot h low = ap (λ (c : Bool). if c then Within (suc n) (Of (ResultEnd h)) else Within 0 (Of (ResultEnd (h - ca)))) (lt-ltb h ca low)
 
   result_dot : (h : ℕ) → at_zero (Of (ResultEnd (ca + h))) ≡ Within 0 (Of (ResultEnd h))
   result_dot h =
       let less : (ca + h) - ca ≡ h = omega arith in
-      ap (λ (c : Bool). if c then Within (suc n) (Of (ResultEnd (ca + h))) else Within 0 (Of (ResultEnd ((ca + h) - ca)))) (not_below (ca + h) ca (omega arith))
+      ap (λ (c : Bool). if c then Within (suc n) (Of (ResultEnd (ca + h))) else Within 0 (Of (ResultEnd ((ca + h) - ca)))) (le-ltb (ca + h) ca (omega arith))
       ∙ ap (λ (x : ℕ). Within 0 (Of (ResultEnd x))) less
 
   raised : (q : Place) (h : ℕ) → at_zero (dot_of (renamed_at to q h)) ≡ Within 0 (dot_of_place q h)
@@ -467,7 +468,7 @@ module _
   link_there : (h : ℕ) → h < ca → Contains u.ties (linked h)
   link_there h low =
       Contains-append_right (within 0 v.ties ++ (within 1 (own_web s.plan).ties ++ [])) (link_ties webs (results_linked 1 0 ca)) (linked h)
-      (in_image of_link (results_linked 1 0 ca) (link 0 (ResultEnd h) 1 (ResultEnd h)) (in_links 0 ca h (omega arith) (omega (arith, low))))
+      (in_image of_link (results_linked 1 0 ca) (link 0 (ResultEnd h) 1 (ResultEnd h)) (link_is_in 0 ca h (omega arith) (omega (arith, low))))
 
   -- ties of the union are ways of the body's web
   abbrev Forth : Tie → Type 0
@@ -597,7 +598,7 @@ module _
 
       by_test : (c : Bool) → nat_eq l n ≡ c → Back t
       by_test true is =
-          let number : l ≡ n = true_eq l n is in
+          let number : l ≡ n = eqb-true l n is in
           at_argument
           (Contains-append_cases (within (suc n) (own_web s.plan).ties) (result_ties n 0 ca) t
           (subst (λ (z : Supply). Contains (ties_with n z) t) (inner_here n itself) (subst (λ (k : ℕ). Contains (supply_ties types inner k) t) number h)))
@@ -658,7 +659,7 @@ module _
       }
   part_end k h x at false is =
       let (sum, at_q) = part_high k x at is in
-      let low = below (k - len) (length s.plan.parts) (slice_get_within s.plan.parts (k - len) x at_q) in
+      let low = lt-ltb (k - len) (length s.plan.parts) (slice_get_within s.plan.parts (k - len) x at_q) in
       let where_is : spot (PartEnd k h) ≡ place 1 (PartEnd (k - len) h) =
       ap
       (λ (c : Bool). if c then place 0 (PartEnd k h)
@@ -686,7 +687,7 @@ module _
       let zeros : 0 + k ≡ k = omega arith in
       let left : slice_get (all_left (applying (types n) (type_of_node m) r s.plan)) k ≡ Some (record { plan = 0; number = 0 + k; import = x }) =
       ap (λ (l : List LeftImport). slice_get l k) left_all
-      ∙ (front (listed 0 0 r.imports) (listed 1 0 s.plan.imports) k (omega (arith, low, long)) ∙ listed_at 0 0 r.imports k x at_r) in
+      ∙ (same_in_front (listed 0 0 r.imports) (listed 1 0 s.plan.imports) k (omega (arith, low, long)) ∙ listed_at 0 0 r.imports k x at_r) in
       let where_is : spot (ImportEnd k h) ≡ place 0 (ImportEnd k h) =
       ap (λ (o : Option LeftImport). left_place o h) left ∙ ap (λ (y : ℕ). place 0 (ImportEnd y h)) zeros in
       let (has, from, home) = w.no_import k x at_r in
@@ -705,7 +706,7 @@ module _
       let left : slice_get (all_left (applying (types n) (type_of_node m) r s.plan)) k ≡ Some (record { plan = 1; number = 0 + (k - len_i); import = x }) =
       ap (λ (l : List LeftImport). slice_get l k) left_all
       ∙ (ap (slice_get (listed 0 0 r.imports ++ listed 1 0 s.plan.imports)) sums
-      ∙ (behind (listed 0 0 r.imports) (listed 1 0 s.plan.imports) (k - len_i) ∙ listed_at 1 0 s.plan.imports (k - len_i) x at_q)) in
+      ∙ (found_behind (listed 0 0 r.imports) (listed 1 0 s.plan.imports) (k - len_i) ∙ listed_at 1 0 s.plan.imports (k - len_i) x at_q)) in
       let where_is : spot (ImportEnd k h) ≡ place 1 (ImportEnd (k - len_i) h) =
       ap (λ (o : Option LeftImport). left_place o h) left ∙ ap (λ (y : ℕ). place 1 (ImportEnd y h)) zeros in
       let same = origin_high k is in
@@ -717,8 +718,8 @@ module _
       }
 
   end_at : (e : End) (c : Contact) → contact_at r' e ≡ Some c → EndAt e
-  end_at (PartEnd k h) c at = let (x, is) = its_part (slice_get r'.parts k) h c at in part_end k h x is (nat_lt k len) refl
-  end_at (ImportEnd k h) c at = let (x, is) = its_import (slice_get r'.imports k) h c at in import_end k h x is (nat_lt k len_i) refl
+  end_at (PartEnd k h) c at = let (x, is) = part_is_there (slice_get r'.parts k) h c at in part_end k h x is (nat_lt k len) refl
+  end_at (ImportEnd k h) c at = let (x, is) = import_is_there (slice_get r'.imports k) h c at in import_end k h x is (nat_lt k len_i) refl
   end_at (ResultEnd h) c at = record { there = result_dot h; home = refl }
 
   ways_forth : (d e : End) → EndAt d → EndAt e → Way u.ties (u.at d) (u.at e) → Way v'.ties (v'.at d) (v'.at e)
@@ -752,5 +753,5 @@ applied_is_body types i j n m ns env pl r s r' w other right joined =
     fresh k has = by_test (nat_eq k n) refl
       where
         by_test : (b : Bool) → nat_eq k n ≡ b → nat_eq k n ≡ false
-        by_test true is = absurd (other k has (true_eq k n is))
+        by_test true is = absurd (other k has (eqb-true k n is))
         by_test false is = is

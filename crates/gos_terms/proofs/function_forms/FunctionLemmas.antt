@@ -3,12 +3,13 @@ use Rattle.std.specs.Prelude.{◌≡◌, ◌≢◌, ℕ, zero, suc, Bool, true, 
 use Rattle.std.proofs.Common.{refl, sym, ◌∙◌, ap, subst, arith}
 use Rattle.std.proofs.lemmas.List.{append-nil}
 use Rattle.std.proofs.lemmas.List.Elements.{All-nil, All-append}
+use Rattle.std.proofs.lemmas.Bool.{eqb-true}
 use Rattle.gos_types.specs.Types.{Type', Fun}
 use Rattle.gos_model.specs.Terms.{Import}
 use Rattle.gos_model.specs.Typing.{Imported}
 use Rattle.gos_check.specs.Nodes.{Numbered, Under, OfFun, type_of_node}
 use Rattle.gos_check.specs.Linearity.{made}
-use Rattle.gos_check.proofs.TimesLemmas.{times_same, some_times, true_eq}
+use Rattle.gos_check.proofs.TimesLemmas.{times_same, some_times}
 use Rattle.gos_plan.specs.Kinds.{Part}
 use Rattle.gos_plan.specs.Plans.{Plan}
 use Rattle.gos_plan.specs.TokenBits.{LiteralFits}
@@ -51,7 +52,7 @@ all_with P ns env n s all one k has = by_test (nat_eq k n) refl
   where
     by_test : (b : Bool) → nat_eq k n ≡ b → P k (with_supply n s env k)
     by_test true is =
-        let number : n ≡ k = sym (true_eq k n is) in
+        let number : n ≡ k = sym (eqb-true k n is) in
         let here : with_supply n s env k ≡ s = ap (λ (c : Bool). if c then s else env k) is in
         subst (P k) (sym here) (subst (λ (x : ℕ). P x s) number one)
     by_test false is =

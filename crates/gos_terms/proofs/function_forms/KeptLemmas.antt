@@ -2,6 +2,7 @@
 use Rattle.std.specs.Prelude.{ℕ, ◌+◌, ◌<◌, ◌⊎◌, List, ◌++◌, All, slice_get, Contains, length}
 use Rattle.std.proofs.Common.{sym, ◌∙◌, ap, arith, inl, inr}
 use Rattle.std.proofs.lemmas.Option.{slice_get_within}
+use Rattle.gos_types.proofs.ListLemmas.{found_behind, same_in_front}
 use Rattle.gos_model.proofs.NumberLemmas.{either}
 use Rattle.gos_check.specs.Nodes.{Numbered}
 use Rattle.gos_check.specs.Linearity.{times, used, made}
@@ -15,7 +16,6 @@ use Rattle.gos_compile.specs.Wiring.{Types}
 use Rattle.gos_terms.specs.wired.Wired.{Supplies}
 use Rattle.gos_terms.specs.wired.NodeFitting.{IsLinear, AreOfTypes, WiredNodeFits, FittingIsPlain}
 use Rattle.gos_terms.specs.applying.Uses.{CanBeWired, Stands, AreParted, AreApart}
-use Rattle.gos_terms.proofs.applying.PermuteLemmas.{front, behind}
 use Rattle.gos_terms.specs.regions.Frames as frames
 use Rattle.gos_terms.proofs.regions.PartedLemmas.{first_among, second_among}
 use Rattle.gos_terms.specs.numbers.Kept.{IsKept}
@@ -90,7 +90,7 @@ literals_renumbered g r s is fit =
     (λ k x at. sym (is.parts (g.part_back k)) ∙ (ap (slice_get s.parts) (is.one_to_one.parts_back k) ∙ at)) fit
 
 pub literals_front : (ps qs : List Part) → All LiteralFits (ps ++ qs) → All LiteralFits ps
-literals_front ps qs fit = literals_among (λ k. k) ps (ps ++ qs) (λ k x at. front ps qs k (slice_get_within ps k x at) ∙ at) fit
+literals_front ps qs fit = literals_among (λ k. k) ps (ps ++ qs) (λ k x at. same_in_front ps qs k (slice_get_within ps k x at) ∙ at) fit
 
 pub literals_behind : (ps qs : List Part) → All LiteralFits (ps ++ qs) → All LiteralFits qs
-literals_behind ps qs fit = literals_among (λ k. length ps + k) qs (ps ++ qs) (λ k x at. behind ps qs k ∙ at) fit
+literals_behind ps qs fit = literals_among (λ k. length ps + k) qs (ps ++ qs) (λ k x at. found_behind ps qs k ∙ at) fit

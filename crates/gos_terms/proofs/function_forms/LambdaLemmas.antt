@@ -2,13 +2,13 @@
 use Rattle.std.specs.Prelude.{◌≡◌, ◌≢◌, ℕ, suc, Bool, true, false, List, [], ◌∷◌, ◌++◌, All, Contains, nat_eq, if◌then◌else◌}
 use Rattle.std.proofs.Common.{refl, sym, ap, subst, arith, inl}
 use Rattle.std.proofs.lemmas.List.Elements.{Contains-append_left, Contains-append_right}
+use Rattle.std.proofs.lemmas.Bool.{eqb-true, eq-eqb}
 use Rattle.gos_types.specs.Types.{Type', Fun}
 use Rattle.gos_model.specs.Terms.{Term, Lam, App}
 use Rattle.gos_model.specs.Typing.{Imports, Thing, Named, things, Apart, Typed}
 use Rattle.gos_model.specs.Laws.{OneType}
 use Rattle.gos_model.specs.Substitution.{instantiate}
 use Rattle.gos_check.specs.Nodes.{Numbered, Under, OfFun, below, meaning, type_of_node}
-use Rattle.gos_check.proofs.TimesLemmas.{eq_true, true_eq}
 use Rattle.gos_plan.specs.Plans.{Plan}
 use Rattle.gos_plan.specs.TokenBits.{LiteralFits}
 use Rattle.gos_realises.specs.realises.Regular.{IsRegular}
@@ -94,14 +94,14 @@ module _
 
     argument_typed : Typed q.imports [] s.term a
     argument_typed =
-        subst (λ (z : Supply). Typed q.imports [] z.term a) (inner_here n (eq_true n n refl))
+        subst (λ (z : Supply). Typed q.imports [] z.term a) (inner_here n (eq-eqb n n refl))
         (typed_at n (Contains-append_right ns (n ∷ []) n (0, omega arith, refl)))
 
     not_it : (k : ℕ) → Contains ns k → nat_eq k n ≡ false
     not_it k has = by_test (nat_eq k n) refl
       where
         by_test : (c : Bool) → nat_eq k n ≡ c → nat_eq k n ≡ false
-        by_test true is = absurd (other k has (true_eq k n is))
+        by_test true is = absurd (other k has (eqb-true k n is))
         by_test false is = is
 
     -- the body with the argument in it is what it means with the argument's supply

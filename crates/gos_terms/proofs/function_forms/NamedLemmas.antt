@@ -5,16 +5,19 @@ use Rattle.std.proofs.lemmas.Option.{slice_get_within, slice_get_past}
 use Rattle.std.proofs.lemmas.List.{append-nil}
 use Rattle.std.proofs.lemmas.List.Elements.{Contains-append_left, Contains-append_right, Contains-append_cases}
 use Rattle.std.proofs.lemmas.Bool.Decides.{nat_tests}
+use Rattle.std.proofs.lemmas.Bool.{lt-ltb, le-ltb}
 use Rattle.gos_types.specs.declared.shakes.Role.{Role}
 use Rattle.gos_types.specs.declared.shakes.Role.TheVariants.{Serve, Ask}
 use Rattle.gos_types.specs.Types.{Type', Fun}
 use Rattle.gos_types.specs.Handshakes.{turned}
+use Rattle.gos_types.proofs.ListLemmas.{found_behind, same_in_front, none_in_empty}
 use Rattle.gos_model.specs.Typing.{Imported}
 use Rattle.gos_plan.specs.Kinds.{Part, Contact, asks, serves, contacts_of, other_side, turned_contact}
 use Rattle.gos_plan.specs.Plans.{End, PartEnd, ImportEnd, ResultEnd, Joint, Plan, contact_at, contacts_of_part, contacts_of_import, turned_if, stands_in, IsRight}
 use Rattle.gos_plan.specs.Joining.{Place as Spot, place, Link, LeftImport, all_left, left_place, origin}
 use Rattle.gos_plan.proofs.JointLemmas.{fits, same_itself, one_joint, contained}
 use Rattle.gos_plan.proofs.SideLemmas.{functions_join}
+use Rattle.gos_plan.proofs.ContactLemmas.{other_side_at, part_is_there, import_is_there}
 use Rattle.gos_realises.specs.realises.Regular.{count}
 use Rattle.gos_realises.specs.realises.Links.{IsJoined}
 use Rattle.gos_realises.specs.realises.Wirings.{link, results_linked, applying}
@@ -30,16 +33,12 @@ use Rattle.gos_supplies.proofs.applications.SeamLemmas.{listed, listed_at, liste
 use Rattle.gos_supplies.proofs.applications.TogetherLemmas.{imports_of}
 use Rattle.gos_supplies.specs.turns.Names.{IsNamePlan}
 use Rattle.gos_supplies.proofs.turns.TypeLemmas.{sides}
-use Rattle.gos_supplies.proofs.turns.OpenedLemmas.{twice_turned, turned_side}
+use Rattle.gos_supplies.proofs.turns.OpenedLemmas.{twice_turned}
 use Rattle.gos_supplies.proofs.turns.NameLemmas.{unturned}
 use Rattle.gos_joining.proofs.weaving.CrossingLemmas.{still}
+use Rattle.gos_sharing.proofs.function_types.SideLemmas.{link_is_in}
 use Rattle.gos_terms.proofs.applying.SupplyLemmas.{inside, tied_at}
-use Rattle.gos_terms.proofs.applying.SideLemmas.{its_part, its_import}
-use Rattle.gos_terms.proofs.applying.PermuteLemmas.{front, behind}
-use Rattle.gos_terms.proofs.applying.ApplyWebLemmas.{below, not_below, in_links, of_links}
-
-none_there : (X : Type 0) (x : X) → Contains [] x → ⊥
-none_there X x (k, small, e) = omega (arith, small)
+use Rattle.gos_terms.proofs.applying.ApplyWebLemmas.{of_links}
 
 module _
     (x : Imported) (b : Type') (r e q : Plan) (right : IsRight r) (outcome : r.outcome ≡ Fun x.ty b) (is : IsNamePlan x e)
@@ -65,7 +64,7 @@ module _
       let long = sides x.ty b in
       ap turned_if
       (ap (λ (cs : List Contact). slice_get cs h) contacts
-      ∙ (front (other_side (contacts_of x.ty)) (contacts_of b) h (omega (arith, low, long)) ∙ turned_side (contacts_of x.ty) h))
+      ∙ (same_in_front (other_side (contacts_of x.ty)) (contacts_of b) h (omega (arith, low, long)) ∙ other_side_at (contacts_of x.ty) h))
       ∙ twice_turned (slice_get (contacts_of x.ty) h)
 
   body_contact : (h : ℕ) → contact_at r (ResultEnd (n + h)) ≡ contact_at q (ResultEnd h)
@@ -74,13 +73,13 @@ module _
       let sum : n + h ≡ length (other_side (contacts_of x.ty)) + h = omega (arith, long) in
       ap turned_if
       (ap (λ (cs : List Contact). slice_get cs (n + h)) contacts
-      ∙ (ap (slice_get (other_side (contacts_of x.ty) ++ contacts_of b)) sum ∙ behind (other_side (contacts_of x.ty)) (contacts_of b) h))
+      ∙ (ap (slice_get (other_side (contacts_of x.ty) ++ contacts_of b)) sum ∙ found_behind (other_side (contacts_of x.ty)) (contacts_of b) h))
       ∙ ap (λ (t : Type'). turned_if (slice_get (contacts_of t) h)) (sym joined.joining.outcome)
 
   last_import : slice_get q.imports k ≡ Some x
   last_import =
       let zeros : k ≡ k + 0 = omega arith in
-      ap (λ (xs : List Imported). slice_get xs k) imports_same ∙ (ap (slice_get (r.imports ++ (x ∷ []))) zeros ∙ behind r.imports (x ∷ []) 0)
+      ap (λ (xs : List Imported). slice_get xs k) imports_same ∙ (ap (slice_get (r.imports ++ (x ∷ []))) zeros ∙ found_behind r.imports (x ∷ []) 0)
 
   last_contact : (h : ℕ) → contact_at q (ImportEnd k h) ≡ slice_get (contacts_of x.ty) h
   last_contact h = ap (λ (o : Option Imported). slice_get (contacts_of_import o) h) last_import
@@ -88,7 +87,7 @@ module _
   import_contact : (i h : ℕ) → i < k → contact_at q (ImportEnd i h) ≡ contact_at r (ImportEnd i h)
   import_contact i h low =
       ap (λ (o : Option Imported). slice_get (contacts_of_import o) h)
-      (ap (λ (xs : List Imported). slice_get xs i) imports_same ∙ front r.imports (x ∷ []) i low)
+      (ap (λ (xs : List Imported). slice_get xs i) imports_same ∙ same_in_front r.imports (x ∷ []) i low)
 
   part_contact : (i h : ℕ) → contact_at q (PartEnd i h) ≡ contact_at r (PartEnd i h)
   part_contact i h = ap (λ (ps : List Part). slice_get (contacts_of_part (slice_get ps i)) h) parts_same
@@ -139,7 +138,7 @@ module _
   link_there : (h : ℕ) → h < n → Contains u.ties (linked h)
   link_there h low =
       Contains-append_right (within 0 (own_web r).ties ++ (within 1 (own_web e).ties ++ [])) (link_ties webs (results_linked 1 0 n)) (linked h)
-      (in_image of_link (results_linked 1 0 n) (link 0 (ResultEnd h) 1 (ResultEnd h)) (in_links 0 n h (omega arith) (omega (arith, low))))
+      (in_image of_link (results_linked 1 0 n) (link 0 (ResultEnd h) 1 (ResultEnd h)) (link_is_in 0 n h (omega arith) (omega (arith, low))))
 
   -- through the name
   name_way : (h : ℕ) (c : Contact) → slice_get (contacts_of x.ty) h ≡ Some c → Way u.ties (Within 1 (Of (ResultEnd h))) (Within 1 (Of (ImportEnd 0 h)))
@@ -229,7 +228,7 @@ module _
 
       by_last : Contains (within 1 (own_web e).ties) y ⊎ Contains [] y → Folds y
       by_last (inl h) = second (of_image (inside 1) (own_web e).ties y h)
-      by_last (inr h) = absurd (none_there Tie y h)
+      by_last (inr h) = absurd (none_in_empty y h)
 
       by_web : Contains (within 0 (own_web r).ties) y ⊎ Contains (within 1 (own_web e).ties ++ []) y → Folds y
       by_web (inl h) = first (of_image (inside 0) (own_web r).ties y h)
@@ -258,8 +257,8 @@ module _
 
   part_seam : (i h : ℕ) (c : Contact) → contact_at r (PartEnd i h) ≡ Some c → Seam (PartEnd i h) (PartEnd i h) c
   part_seam i h c at =
-      let (y, is_y) = its_part (slice_get r.parts i) h c at in
-      let low = below i (length r.parts) (slice_get_within r.parts i y is_y) in
+      let (y, is_y) = part_is_there (slice_get r.parts i) h c at in
+      let low = lt-ltb i (length r.parts) (slice_get_within r.parts i y is_y) in
       let where_is : spot (PartEnd i h) ≡ place 0 (PartEnd i h) =
       ap
       (λ (t : Bool). if t then place 0 (PartEnd i h)
@@ -281,7 +280,7 @@ module _
       let zeros : 0 + i ≡ i = omega arith in
       let left : slice_get (all_left (applying x.ty b r e)) i ≡ Some (record { plan = 0; number = 0 + i; import = y }) =
       ap (λ (l : List LeftImport). slice_get l i) left_all
-      ∙ (front (listed 0 0 r.imports) (listed 1 0 e.imports) i (omega (arith, low, long)) ∙ listed_at 0 0 r.imports i y is_y) in
+      ∙ (same_in_front (listed 0 0 r.imports) (listed 1 0 e.imports) i (omega (arith, low, long)) ∙ listed_at 0 0 r.imports i y is_y) in
       let where_is : spot (ImportEnd i h) ≡ place 0 (ImportEnd i h) =
       ap (λ (o : Option LeftImport). left_place o h) left ∙ ap (λ (z : ℕ). place 0 (ImportEnd z h)) zeros in
       record {
@@ -300,10 +299,10 @@ module _
       let left : slice_get (all_left (applying x.ty b r e)) k ≡ Some (record { plan = 1; number = 0 + 0; import = x }) =
       ap (λ (l : List LeftImport). slice_get l k) left_all
       ∙ (ap (slice_get (listed 0 0 r.imports ++ listed 1 0 e.imports)) sum
-      ∙ (behind (listed 0 0 r.imports) (listed 1 0 e.imports) 0 ∙ listed_at 1 0 e.imports 0 x first)) in
+      ∙ (found_behind (listed 0 0 r.imports) (listed 1 0 e.imports) 0 ∙ listed_at 1 0 e.imports 0 x first)) in
       let where_is : spot (ImportEnd k h) ≡ place 1 (ImportEnd 0 h) = ap (λ (o : Option LeftImport). left_place o h) left in
       let test : opened k n (ResultEnd h) ≡ ImportEnd k h =
-      ap (λ (t : Bool). if t then ImportEnd k h else ResultEnd (h - n)) (below h n low) in
+      ap (λ (t : Bool). if t then ImportEnd k h else ResultEnd (h - n)) (lt-ltb h n low) in
       record {
         opens = test;
         here = argument_contact h low ∙ at;
@@ -320,7 +319,7 @@ module _
   result_seam h c at =
       let less : n + h - n ≡ h = omega arith in
       let test : opened k n (ResultEnd (n + h)) ≡ ResultEnd h =
-      ap (λ (t : Bool). if t then ImportEnd k (n + h) else ResultEnd (n + h - n)) (not_below (n + h) n (omega arith)) ∙ ap ResultEnd less in
+      ap (λ (t : Bool). if t then ImportEnd k (n + h) else ResultEnd (n + h - n)) (le-ltb (n + h) n (omega arith)) ∙ ap ResultEnd less in
       record {
         opens = test;
         here = body_contact h ∙ at;
@@ -332,7 +331,7 @@ module _
   -- each end of the function that there is stands so, and each of the body
   forth : (d : End) (c : Contact) → contact_at r d ≡ Some c → (f : End) × Seam d f c
   forth (PartEnd i h) c at = (PartEnd i h, part_seam i h c at)
-  forth (ImportEnd i h) c at = let (y, is_y) = its_import (slice_get r.imports i) h c at in (ImportEnd i h, import_seam i h c y is_y at)
+  forth (ImportEnd i h) c at = let (y, is_y) = import_is_there (slice_get r.imports i) h c at in (ImportEnd i h, import_seam i h c y is_y at)
   forth (ResultEnd h) c at = by_test (nat_lt h n) refl
     where
       by_test : (t : Bool) → nat_lt h n ≡ t → (f : End) × Seam (ResultEnd h) f c
@@ -353,7 +352,7 @@ module _
       by_test true low w same =
           let less : i < k = grind (arith, nat_tests) in
           let here : contact_at r (ImportEnd i h) ≡ Some c = sym (import_contact i h less) ∙ at in
-          let (y, is_y) = its_import (slice_get r.imports i) h c here in
+          let (y, is_y) = import_is_there (slice_get r.imports i) h c here in
           (ImportEnd i h, import_seam i h c y is_y here)
       by_test false high true same =
           let number : k ≡ i = grind (arith, same) in

@@ -2,6 +2,7 @@
 use Rattle.std.specs.Prelude.{◌≡◌, ℕ, suc, Bool, true, false, List, [], ◌∷◌, ◌++◌, ◌||◌, ◌⊎◌, Some, Contains, nat_eq, slice_get, if◌then◌else◌}
 use Rattle.std.proofs.Common.{refl, sym, ◌∙◌, ap, subst, arith, inl, inr}
 use Rattle.gos_types.specs.Types.{Type', Exp, Var, Pair, Fun}
+use Rattle.gos_types.proofs.TypeLemmas.{same_expression_width}
 use Rattle.gos_model.specs.Terms as terms
 use Rattle.gos_model.specs.Terms.{Name, Term}
 use Rattle.gos_model.specs.Typing.{Imports, import_type, Typed}
@@ -98,9 +99,6 @@ has_leaves types (One t ss f m) typed = has_leaves types m typed.2
 has_leaves types (Two t ss f m n) typed = (has_leaves types m typed.2, has_leaves types n typed.3)
 has_leaves types (If t ss m n p) typed = (has_leaves types m typed.2, has_leaves types n typed.3, has_leaves types p typed.4)
 
-bits : (v w : ℕ) → Exp v ≡ Exp w → v ≡ w
-bits v w e = cc e
-
 outcome_of : (a b c d : Type') → Fun a b ≡ Fun c d → b ≡ d
 outcome_of a b c d e = cc e
 
@@ -159,7 +157,7 @@ node_has law i types (Two t ss OfWhile m n) ns g e u nodes scope all typed = typ
 node_has law i types (Two t ss OfAssign m n) ns g e u nodes scope all typed = typed.1 ∙ sym nodes.1.1
 node_has law i types (Two t ss (OfBin op) m n) ns g e u nodes scope all (w, is, one, other) =
     let inner = node_has law i types m (numbers_inside ss ns) g (inside ss e) (Exp w) nodes.2 scope.1 (inside_stands i types ss ns g e nodes.0 scope.0 all) one in
-    let number = bits w nodes.1.0 (inner ∙ nodes.1.2) in
+    let number = same_expression_width w nodes.1.0 (inner ∙ nodes.1.2) in
     is ∙ (ap (λ (v : ℕ). Exp (terms.result_width op v)) number ∙ sym nodes.1.1)
 node_has law i types (If t ss m n p) ns g e u nodes scope all (done, one, other, last) =
     node_has law i types n (numbers_inside ss ns) g (inside ss e) u nodes.3 scope.2 (inside_stands i types ss ns g e nodes.0 scope.0 all) other

@@ -4,20 +4,22 @@ use Rattle.std.specs.Str.{bytes_eq}
 use Rattle.std.proofs.Common.{refl, sym, ◌∙◌, ap, subst, arith}
 use Rattle.std.proofs.lemmas.Slice.Eq.{bytes_eq-Decides}
 use Rattle.std.proofs.lemmas.List.Elements.{Contains-append_left, Contains-append_right}
+use Rattle.std.proofs.lemmas.Bool.{eqb-true, eq-eqb}
 use Rattle.gos_types.specs.Types.{Type', Var}
 use Rattle.gos_types.specs.Widths.{IsWidth}
+use Rattle.gos_types.proofs.BytesLemmas.{bytes_eq_same}
 use Rattle.gos_model.specs.Terms.{Term, Name, Import, New}
 use Rattle.gos_model.specs.Typing.{Imported, import_type, Named, things, Typed}
 use Rattle.gos_model.specs.Substitution.{instantiate}
 use Rattle.gos_check.specs.Nodes.{Numbered, Under, OfNew, below, meaning, type_of_node}
 use Rattle.gos_check.specs.Linearity.{times}
-use Rattle.gos_check.proofs.TimesLemmas.{eq_true, true_eq, times-append, times_same, some_times}
+use Rattle.gos_check.proofs.TimesLemmas.{times-append, times_same, some_times}
 use Rattle.gos_plan.specs.Plans.{Plan}
 use Rattle.gos_plan.specs.TokenBits.{LiteralFits}
 use Rattle.gos_realises.specs.realises.Modules.{Supply}
 use Rattle.gos_realises.specs.realises.Realises.{NamesDiffer, Realises}
 use Rattle.gos_realises.proofs.realises.PlaceLemmas.{contains_at, place_of}
-use Rattle.gos_joining.proofs.renumbered.ImportLemmas.{name_is, type_has}
+use Rattle.gos_joining.proofs.renumbered.ImportLemmas.{type_has}
 use Rattle.gos_supplies.proofs.typing.WhenceLemmas.{named}
 use Rattle.gos_supplies.proofs.typing.NameLemmas.{typed_under_fewer}
 use Rattle.gos_supplies.specs.names.Names.{name_plan, imported, NameIsRealised}
@@ -52,7 +54,7 @@ module _
           let once = bound.once n in
           let sum = times-append n ns (n ∷ []) in
           let last = times_same n [] in
-          let some = some_times n ns (subst (λ (j : ℕ). Contains ns j) (true_eq k n is) has) in
+          let some = some_times n ns (subst (λ (j : ℕ). Contains ns j) (eqb-true k n is) has) in
           absurd (omega (arith, once, sum, last, some))
       by_test false is = is
 
@@ -65,7 +67,7 @@ module _
     where
       by_test : (b : Bool) → nat_eq k n ≡ b → Stands k (inner k)
       by_test true is =
-          let type_k : types k ≡ Var w = ap types (true_eq k n is) ∙ type_n in
+          let type_k : types k ≡ Var w = ap types (eqb-true k n is) ∙ type_n in
           subst (Stands k) (sym (inner_here n x w env k is))
           (subst (λ (u : Type'). Realises u (name_plan x (Var w)) (Import x)) (sym type_k) (law x (Var w) tt wide))
       by_test false is = subst (Stands k) (sym (inner_there n x w env k is)) (supplies k (before ns n k is has))
@@ -121,7 +123,7 @@ module _
         type_has body.imports body_differ x (imported x (Var w))
         (contains_at body.imports (pc.import n 0) (imported x (Var w))
         (v.imports n 0 (imported x (Var w)) (Contains-append_right ns (n ∷ []) n (0, omega arith, refl))
-        (ap (λ (s : Supply). slice_get s.plan.imports 0) (inner_here n x w env n (eq_true n n refl)))).0)
+        (ap (λ (s : Supply). slice_get s.plan.imports 0) (inner_here n x w env n (eq-eqb n n refl)))).0)
         ((bytes_eq-Decides x x).1 refl)
 
     abbrev body_term : Term
@@ -139,7 +141,7 @@ module _
           (k, is_imported k there f y of_k)
 
       without : IsWithout x body_term
-      without has = let (k, name) = body_name x has in fresh name.import name.outside (name_is name.import.name x name.same)
+      without has = let (k, name) = body_name x has in fresh name.import name.outside (bytes_eq_same name.import.name x name.same)
 
       body_typed : Typed r.imports (Var w ∷ []) body_term t → Typed body.imports [] (instantiate body_term (Import x)) t
       body_typed typed =

@@ -3,6 +3,7 @@ use Rattle.std.specs.Prelude.{◌≡◌, ℕ, zero, suc, ◌-◌, Bool, true, fa
 use Rattle.std.proofs.Common.{refl, subst, arith, inl, inr}
 use Rattle.std.proofs.lemmas.List.Elements.{Contains-append_cases}
 use Rattle.gos_types.specs.Types.{Type'}
+use Rattle.gos_types.proofs.ListLemmas.{none_in_empty}
 use Rattle.gos_model.specs.Terms as terms
 use Rattle.gos_model.specs.Terms.{Term, Name}
 use Rattle.gos_model.specs.Typing.{Thing, Variable, Named, things}
@@ -13,15 +14,12 @@ use Rattle.gos_terms.specs.meanings.Meanings.{IsLeaf, HasLeaves}
 use Rattle.gos_terms.specs.numbers.Kept.{InScope}
 use Rattle.gos_terms.proofs.regions.NamedLemmas.{in_list, before}
 
-pub none : (X : Type 0) (x : X) → Contains [] x → ⊥
-none X x (k, small, at) = omega (arith, small)
-
 -- a variable has no name
 pub bound_names : (f j : ℕ) (x : Name) → Contains (things f (terms.Bound j)) (Named x) → ⊥
 bound_names f j x = by_test (nat_lt j f)
   where
     by_test : (b : Bool) → Contains (if b then [] else Variable (j - f) ∷ []) (Named x) → ⊥
-    by_test true h = none Thing (Named x) h
+    by_test true h = none_in_empty (Named x) h
     by_test false (zero, small, e) = cc e
     by_test false (suc k, small, e) = omega (arith, small)
 
@@ -99,8 +97,8 @@ within : (ss : List Split) (ns : List ℕ) (e : Meaning) (x : Name) → AreSplit
 within ss ns e x split (k, f, has, h) = inside_whose ss ns e k f x split has h
 
 leaf_names : (d : ℕ) (c : Term) (x : Name) → IsLeaf c → Contains (things d c) (Named x) → ⊥
-leaf_names d terms.Skip x leaf h = none Thing (Named x) h
-leaf_names d (terms.Lit k w) x leaf h = none Thing (Named x) h
+leaf_names d terms.Skip x leaf h = none_in_empty (Named x) h
+leaf_names d (terms.Lit k w) x leaf h = none_in_empty (Named x) h
 leaf_names d (terms.Bound j) x leaf h = absurd leaf
 leaf_names d (terms.Import y) x leaf h = absurd leaf
 leaf_names d (terms.Lam a m) x leaf h = absurd leaf

@@ -1,9 +1,11 @@
 -- Counting: what stands once in one list, and stands in another, is no more than that.
-use Rattle.std.specs.Prelude.{◌≡◌, ◌≢◌, ℕ, suc, ◌+◌, ◌<◌, ◌≤◌, List, [], ◌∷◌, length}
+use Rattle.std.specs.Prelude.{◌≡◌, ◌≢◌, ℕ, ◌+◌, ◌<◌, ◌≤◌, List, [], ◌∷◌, length}
 use Rattle.std.proofs.Common.{refl, sym, ◌∙◌, ap, subst, arith, inl, inr}
+use Rattle.gos_model.proofs.NumberLemmas.{number_cases}
 use Rattle.gos_check.specs.declared.linear.Split.{Split}
 use Rattle.gos_check.specs.Linearity.{times, split_in, sides, IsOneOf}
-use Rattle.gos_check.proofs.TimesLemmas.{number_cases, times_same, times_other}
+use Rattle.gos_check.proofs.TimesLemmas.{times_same, times_other}
+use Rattle.gos_compile.proofs.KnownLemmas.{split_length}
 
 -- how often what is in one list is in another
 abbrev pub sum_times : List ℕ → List ℕ → ℕ
@@ -56,17 +58,13 @@ pub sides_two : (ss : List Split) → length (sides ss) ≡ length ss + length s
 sides_two [] = omega arith
 sides_two (s ∷ ss) = let rest = sides_two ss in omega (arith, rest)
 
-pub split_one : (ss : List Split) → length (split_in ss) ≡ length ss
-split_one [] = refl
-split_one (s ∷ ss) = ap suc (split_one ss)
-
 -- splits whose sides are all split again by these are none
 pub no_splits : (ss : List Split) → ((k : ℕ) → times k (sides ss) ≤ 1) → ((k : ℕ) → 0 < times k (sides ss) → 0 < times k (split_in ss)) → ss ≡ []
 no_splits [] once all = refl
 no_splits (s ∷ ss) once all =
     let low = no_more (sides (s ∷ ss)) (split_in (s ∷ ss)) once all in
     let two = sides_two (s ∷ ss) in
-    let one = split_one (s ∷ ss) in
+    let one = split_length (s ∷ ss) in
     absurd (omega (arith, low, two, one))
 
 -- the sides of one of the splits are among all sides

@@ -3,14 +3,16 @@
 -- A number that is made further in stands for a location (`import_at`). Such a number is lost, and so are the sides of a split of it.
 use Rattle.std.specs.Prelude.{◌≡◌, ◌≢◌, ℕ, ◌+◌, ◌≤◌, Bool, true, false, List, [], ◌∷◌, ◌++◌, if◌then◌else◌}
 use Rattle.std.proofs.Common.{refl, sym, ◌∙◌, ap, arith}
+use Rattle.std.proofs.lemmas.Bool.{ne_eqb}
 use Rattle.gos_types.specs.Types.{Type', Var}
 use Rattle.gos_model.specs.Terms.{Term, Bound, Loc}
 use Rattle.gos_model.specs.Typing.{Imports, Typed}
+use Rattle.gos_model.proofs.NumberLemmas.{number_cases}
 use Rattle.gos_check.specs.declared.linear.Split.{Split}
 use Rattle.gos_check.specs.Nodes.{Numbered, Closed, Use, Under, One, Two, If, OfFun, OfNew, OfFst, OfSnd, OfDeref, OfNot, OfApp, OfBoth, OfSeq, OfPar, OfWhile, OfAssign, OfBin, Meaning, meaning, shifted, argument_of, below, inside, inside_one}
-use Rattle.gos_check.specs.Linearity.{times, split_in, sides, all_sides, made}
-use Rattle.gos_check.proofs.TimesLemmas.{eq_false, number_cases, times_none, times_other, times-append, split_in-append, sides-append, one_other, one_left, one_right}
-use Rattle.gos_terms.proofs.leaves.CountLemmas.{behind}
+use Rattle.gos_check.specs.Linearity.{times, split_in, sides, all_sides}
+use Rattle.gos_check.proofs.TimesLemmas.{times_none, times_other, times-append, one_other, one_left, one_right}
+use Rattle.gos_compile.proofs.KnownLemmas.{sides_times}
 
 -- a location
 abbrev pub is_loc : Term → Bool
@@ -74,12 +76,6 @@ lost env (One t ss f m) = lost_in env ss ++ lost (inside ss env) m
 lost env (Two t ss f m n) = lost_in env ss ++ (lost (inside ss env) m ++ lost (inside ss env) n)
 lost env (If t ss m n p) = lost_in env ss ++ (lost (inside ss env) m ++ (lost (inside ss env) n ++ lost (inside ss env) p))
 
-pub sides_plus : (k : ℕ) (ss ts : List Split) → times k (sides (ss ++ ts)) ≡ times k (sides ss) + times k (sides ts)
-sides_plus k ss ts = ap (times k) (sides-append ss ts) ∙ times-append k (sides ss) (sides ts)
-
-pub split_plus : (k : ℕ) (ss ts : List Split) → times k (split_in (ss ++ ts)) ≡ times k (split_in ss) + times k (split_in ts)
-split_plus k ss ts = ap (times k) (split_in-append ss ts) ∙ times-append k (split_in ss) (split_in ts)
-
 -- they are some of the splits
 pub row_fewer : (k : ℕ) (env : Meaning) (ss : List Split) → times k (sides (lost_in env ss)) ≤ times k (sides ss)
 row_fewer k env [] = omega arith
@@ -96,21 +92,21 @@ fewer k env (Use t ss n) = row_fewer k env ss
 fewer k env (Under t ss b n m) =
     let row = row_fewer k env ss in
     let part = fewer k (below n (inside ss env)) m in
-    let lost_two = sides_plus k (lost_in env ss) (lost (below n (inside ss env)) m) in
+    let lost_two = sides_times k (lost_in env ss) (lost (below n (inside ss env)) m) in
     let two = times-append k (sides ss) (all_sides m) in
     omega (arith, row, part, lost_two, two)
 fewer k env (One t ss f m) =
     let row = row_fewer k env ss in
     let part = fewer k (inside ss env) m in
-    let lost_two = sides_plus k (lost_in env ss) (lost (inside ss env) m) in
+    let lost_two = sides_times k (lost_in env ss) (lost (inside ss env) m) in
     let two = times-append k (sides ss) (all_sides m) in
     omega (arith, row, part, lost_two, two)
 fewer k env (Two t ss f m n) =
     let row = row_fewer k env ss in
     let part = fewer k (inside ss env) m in
     let other = fewer k (inside ss env) n in
-    let lost_two = sides_plus k (lost_in env ss) (lost (inside ss env) m ++ lost (inside ss env) n) in
-    let lost_more = sides_plus k (lost (inside ss env) m) (lost (inside ss env) n) in
+    let lost_two = sides_times k (lost_in env ss) (lost (inside ss env) m ++ lost (inside ss env) n) in
+    let lost_more = sides_times k (lost (inside ss env) m) (lost (inside ss env) n) in
     let two = times-append k (sides ss) (all_sides m ++ all_sides n) in
     let more = times-append k (all_sides m) (all_sides n) in
     omega (arith, row, part, other, lost_two, lost_more, two, more)
@@ -119,48 +115,13 @@ fewer k env (If t ss m n p) =
     let part = fewer k (inside ss env) m in
     let other = fewer k (inside ss env) n in
     let third = fewer k (inside ss env) p in
-    let lost_two = sides_plus k (lost_in env ss) (lost (inside ss env) m ++ (lost (inside ss env) n ++ lost (inside ss env) p)) in
-    let lost_more = sides_plus k (lost (inside ss env) m) (lost (inside ss env) n ++ lost (inside ss env) p) in
-    let lost_last = sides_plus k (lost (inside ss env) n) (lost (inside ss env) p) in
+    let lost_two = sides_times k (lost_in env ss) (lost (inside ss env) m ++ (lost (inside ss env) n ++ lost (inside ss env) p)) in
+    let lost_more = sides_times k (lost (inside ss env) m) (lost (inside ss env) n ++ lost (inside ss env) p) in
+    let lost_last = sides_times k (lost (inside ss env) n) (lost (inside ss env) p) in
     let two = times-append k (sides ss) (all_sides m ++ (all_sides n ++ all_sides p)) in
     let more = times-append k (all_sides m) (all_sides n ++ all_sides p) in
     let last = times-append k (all_sides n) (all_sides p) in
     omega (arith, row, part, other, third, lost_two, lost_more, lost_last, two, more, last)
-
--- sides are made
-pub sides_made : (k : ℕ) (m : Numbered) → times k (all_sides m) ≤ times k (made m)
-sides_made k (Closed t ss c) = omega arith
-sides_made k (Use t ss n) = omega arith
-sides_made k (Under t ss b n m) =
-    let part = sides_made k m in
-    let one = times-append k (sides ss) (all_sides m) in
-    let two = times-append k (sides ss) (n ∷ made m) in
-    let more = behind k n (made m) in
-    omega (arith, part, one, two, more)
-sides_made k (One t ss f m) =
-    let part = sides_made k m in
-    let one = times-append k (sides ss) (all_sides m) in
-    let two = times-append k (sides ss) (made m) in
-    omega (arith, part, one, two)
-sides_made k (Two t ss f m n) =
-    let part = sides_made k m in
-    let other = sides_made k n in
-    let one = times-append k (sides ss) (all_sides m ++ all_sides n) in
-    let one_more = times-append k (all_sides m) (all_sides n) in
-    let two = times-append k (sides ss) (made m ++ made n) in
-    let two_more = times-append k (made m) (made n) in
-    omega (arith, part, other, one, one_more, two, two_more)
-sides_made k (If t ss m n p) =
-    let part = sides_made k m in
-    let other = sides_made k n in
-    let third = sides_made k p in
-    let one = times-append k (sides ss) (all_sides m ++ (all_sides n ++ all_sides p)) in
-    let one_more = times-append k (all_sides m) (all_sides n ++ all_sides p) in
-    let one_last = times-append k (all_sides n) (all_sides p) in
-    let two = times-append k (sides ss) (made m ++ (made n ++ made p)) in
-    let two_more = times-append k (made m) (made n ++ made p) in
-    let two_last = times-append k (made n) (made p) in
-    omega (arith, part, other, third, one, one_more, one_last, two, two_more, two_last)
 
 -- A lost number that only lost splits make is lost everywhere, and split by lost splits alone.
 abbrev pub RowUses : ℕ → Meaning → List Split → Type 0
@@ -195,5 +156,5 @@ row_uses k env (s ∷ ss) loc same =
 
 pub below_loc : (n k : ℕ) (env : Meaning) → k ≢ n → is_loc (env k) ≡ true → is_loc (below n env k) ≡ true
 below_loc n k env apart loc =
-    let f = eq_false k n apart in
+    let f = ne_eqb k n apart in
     (λ i. is_loc (if f i then Bound 0 else shifted (env k))) ∙ (loc_shifted (env k) ∙ loc)

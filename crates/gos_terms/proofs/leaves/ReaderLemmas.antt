@@ -1,8 +1,9 @@
 -- A variable's plan that is read, joined in two ways: to a Deref, and to the plan of a function of a variable that has the Deref.
-use Rattle.std.specs.Prelude.{ℕ, zero, suc, ◌+◌, ◌-◌, ◌<◌, Bool, true, false, ◌&&◌, ◌||◌, List, Option, Some, None, All, Contains, slice_get, nat_eq, nat_lt, length, map, if◌then◌else◌}
+use Rattle.std.specs.Prelude.{ℕ, zero, suc, ◌+◌, ◌-◌, ◌<◌, Bool, true, false, ◌||◌, List, Option, Some, None, All, Contains, slice_get, nat_eq, nat_lt, length, map, if◌then◌else◌}
 use Rattle.std.proofs.Common.{◌≡◌, [], ◌∷◌, ◌++◌, ◌⊎◌, inl, inr, refl, sym, ◌∙◌, ap, subst, arith}
 use Rattle.std.proofs.lemmas.List.Elements.{All-cons}
 use Rattle.gos_types.specs.Types.{Type', Exp, Var, Fun}
+use Rattle.gos_types.proofs.BoolLemmas.{and_false}
 use Rattle.gos_plan.specs.Kinds as kinds
 use Rattle.gos_plan.specs.Kinds.{Contact, contacts_of}
 use Rattle.gos_plan.specs.Plans.{End, PartEnd, ImportEnd, ResultEnd, Joint, Plan, IsRight, contact_at, turned_if}
@@ -101,16 +102,12 @@ handing w p =
 abbrev reading_link : Link
 reading_link = link 0 (ResultEnd 0) 1 (PartEnd 0 0)
 
-never_and : (b : Bool) → (b && false) ≡ false
-never_and true = refl
-never_and false = refl
-
 read_free : (k i : ℕ) → is_joined (reading_link ∷ []) k i ≡ false
-read_free k i = let one = never_and (nat_eq 0 k) in let other = never_and (nat_eq 1 k) in λ j. (one j || other j) || false
+read_free k i = let one = and_false (nat_eq 0 k) in let other = and_false (nat_eq 1 k) in λ j. (one j || other j) || false
 
 hand_free : (k i : ℕ) → is_joined handing_links k i ≡ false
 hand_free k i =
-    let one = never_and (nat_eq 0 k) in let other = never_and (nat_eq 1 k) in λ j. (one j || other j) || ((one j || other j) || false)
+    let one = and_false (nat_eq 0 k) in let other = and_false (nat_eq 1 k) in λ j. (one j || other j) || ((one j || other j) || false)
 
 -- Places of the one joining in the other
 abbrev on_giver : End → End

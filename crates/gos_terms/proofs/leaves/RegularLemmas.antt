@@ -1,7 +1,8 @@
 -- Leaves are regular and rest.
-use Rattle.std.specs.Prelude.{◌≡◌, ℕ, Bool, true, false, [], ◌∷◌}
+use Rattle.std.specs.Prelude.{◌≡◌, ℕ, Bool, false, [], ◌∷◌}
 use Rattle.std.proofs.Common.{refl, sym, ◌∙◌}
 use Rattle.gos_types.specs.Types.{Com, Exp, Var}
+use Rattle.gos_types.proofs.BoolLemmas.{true_is_not_false}
 use Rattle.gos_model.specs.Terms as terms
 use Rattle.gos_check.specs.Nodes.{Closed, Use, One, OfDeref}
 use Rattle.gos_plan.specs.Kinds as kinds
@@ -33,17 +34,14 @@ use Rattle.gos_terms.proofs.leaves.LeafLemmas.{leaf_regular}
 use Rattle.gos_terms.proofs.leaves.UseLemmas.{use_leaf}
 use Rattle.gos_terms.proofs.leaves.ClosedLemmas.{closed_leaf}
 
-up_down : (b : Bool) → b ≡ true → b ≡ false → ⊥
-up_down b up down = let clash : true ≡ false = sym up ∙ down in cc clash
-
 -- the plan of `skip`, and of a number
 skip_plan_rests : Rests skip_plan
 skip_plan_rests = circle_rests skip_plan Stage skipping.next skipping.succ skipping.At skipping.OpenAt skipping.Opened skipping.circle Resting skipping.first shuts
   where
     shuts : (z : Stage) (t : Tokens) (F : End → Bool) → skipping.At z t → skipping.Opened z F → ((e : End) → F e ≡ false) → IsIdle skip_plan t
     shuts Resting t F here opened shut = is_idle (ResultEnd 0) skip_plan t here
-    shuts Asked t F here opened shut = absurd (up_down (F (ResultEnd 0)) opened (shut (ResultEnd 0)))
-    shuts Answered t F here opened shut = absurd (up_down (F (ResultEnd 0)) opened (shut (ResultEnd 0)))
+    shuts Asked t F here opened shut = absurd (true_is_not_false (F (ResultEnd 0)) opened (shut (ResultEnd 0)))
+    shuts Answered t F here opened shut = absurd (true_is_not_false (F (ResultEnd 0)) opened (shut (ResultEnd 0)))
 
 skip_regular : IsRegular (lone kinds.Skip 0 Com)
 skip_regular = (done_is_realised 0).suits.regular
@@ -66,8 +64,8 @@ number_rests w k =
     shuts : (z : Stage) (t : Tokens) (F : End → Bool) → numbers.At 0 w k z t → skipping.Opened z F → ((e : End) → F e ≡ false)
         → IsIdle (lone (kinds.Lit w k) 0 (Exp w)) t
     shuts Resting t F here opened shut = is_idle (ResultEnd 0) (lone (kinds.Lit w k) 0 (Exp w)) t here
-    shuts Asked t F here opened shut = absurd (up_down (F (ResultEnd 0)) opened (shut (ResultEnd 0)))
-    shuts Answered t F here opened shut = absurd (up_down (F (ResultEnd 0)) opened (shut (ResultEnd 0)))
+    shuts Asked t F here opened shut = absurd (true_is_not_false (F (ResultEnd 0)) opened (shut (ResultEnd 0)))
+    shuts Answered t F here opened shut = absurd (true_is_not_false (F (ResultEnd 0)) opened (shut (ResultEnd 0)))
 
 pub use_is_regular : UseIsRegular
 use_is_regular types ns n t has same i j env pl r is are names literals =

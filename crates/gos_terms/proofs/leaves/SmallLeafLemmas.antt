@@ -6,7 +6,7 @@ use Rattle.gos_types.specs.declared.shakes.Role.{Role}
 use Rattle.gos_types.specs.declared.shakes.Role.TheVariants.{Serve, Ask}
 use Rattle.gos_types.specs.Types.{Com}
 use Rattle.gos_plan.specs.Kinds.{Part, Skip, Contact, asks, serves, turned_contact}
-use Rattle.gos_plan.specs.Plans.{End, PartEnd, ImportEnd, ResultEnd, Joint, IsRight, contact_at}
+use Rattle.gos_plan.specs.Plans.{End, PartEnd, ImportEnd, ResultEnd, Joint, contact_at}
 use Rattle.gos_plan.specs.SmallPlans.{skip_plan}
 use Rattle.gos_plan.specs.TokenBits.{LiteralFits}
 use Rattle.gos_ties.specs.declared.points.Place.TheVariants as places
@@ -17,12 +17,10 @@ use Rattle.gos_compile.specs.Wiring.{row, led}
 use Rattle.gos_terms.specs.wired.Wired.{dot_of, Source, Own, Supplied, IsFrom, placed, dot_at, wired_ties, wired_web}
 use Rattle.gos_terms.specs.wired.SmallWired.{commands, skips, one_use}
 use Rattle.gos_supplies.specs.unjoined.SmallBeside.{skip_and_loose}
+use Rattle.gos_supplies.proofs.unjoined.SmallLemmas.{both_right}
 use Rattle.gos_terms.specs.leaves.SmallLeaves.{one_each, LooseIsWired, OtherIsNotWired, LooseRealisesSkip}
 use Rattle.gos_terms.proofs.leaves.TieLemmas.{by_tie}
 use Rattle.gos_terms.proofs.leaves.UseLemmas.{use_is_realised}
-
-both_right : IsRight skip_and_loose
-both_right = (((0, 0, refl, refl), refl, refl), tt)
 
 abbrev both : List ℕ
 both = 0 ∷ 1 ∷ []

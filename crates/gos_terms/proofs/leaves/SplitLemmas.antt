@@ -1,12 +1,14 @@
 -- A node without parts, or with one, has no splits.
 use Rattle.std.specs.Prelude.{◌≡◌, ℕ, zero, suc, ◌+◌, ◌<◌, ◌≤◌, List, [], ◌∷◌, ◌++◌}
 use Rattle.std.proofs.Common.{refl, sym, ◌∙◌, subst, arith, inl}
+use Rattle.gos_model.proofs.NumberLemmas.{number_cases}
 use Rattle.gos_check.specs.declared.linear.Split.{Split}
 use Rattle.gos_check.specs.Nodes.{Numbered, Closed, Use, Under, One, Two, If}
 use Rattle.gos_check.specs.Linearity.{times, split_in, sides, used, made, IsOneOf, Comes, itself, by_left, by_right, IsSplitBetween}
-use Rattle.gos_check.proofs.TimesLemmas.{number_cases, times-append, times_other}
+use Rattle.gos_check.proofs.TimesLemmas.{times-append, times_other}
+use Rattle.gos_compile.proofs.KnownLemmas.{split_length}
 use Rattle.gos_terms.specs.leaves.Splits.{AreOnceIn, LeavesHaveNoSplits}
-use Rattle.gos_terms.proofs.leaves.CountLemmas.{behind, at_most, split_one, no_splits, left_in, right_in, split_by, one_each}
+use Rattle.gos_terms.proofs.leaves.CountLemmas.{behind, at_most, no_splits, left_in, right_in, split_by, one_each}
 
 -- with one part, and that part's numbers
 module _ (ss : List Split) (m : Numbered) (within : AreOnceIn ss (split_in ss ++ used m)) (once : (k : ℕ) → times k (sides ss) ≤ 1)
@@ -36,7 +38,7 @@ module _ (ss : List Split) (m : Numbered) (within : AreOnceIn ss (split_in ss ++
 
     one_split : (s : Split) → IsOneOf s ss → splits s ≤ 1
     one_split s one =
-        one_each (split_in ss) ss some_split (let few = at_most (sides ss) (split_in ss) once in let size = split_one ss in omega (arith, few, size)) s one
+        one_each (split_in ss) ss some_split (let few = at_most (sides ss) (split_in ss) once in let size = split_length ss in omega (arith, few, size)) s one
 
     -- so what is split comes to the part
     abbrev ComesIn : ℕ → Type 0

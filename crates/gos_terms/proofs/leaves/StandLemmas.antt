@@ -5,8 +5,10 @@ use Rattle.gos_model.specs.Typing.{Imports}
 use Rattle.gos_check.specs.Nodes.{Numbered, Closed, Use, Under, One, Two, If, Meaning, below, inside}
 use Rattle.gos_check.specs.Linearity.{times, split_in, sides, used, all_sides, made, import_at}
 use Rattle.gos_check.proofs.TimesLemmas.{times_same, times_other, times-append}
+use Rattle.gos_compile.proofs.LoadLemmas.{sides_made}
+use Rattle.gos_compile.proofs.KnownLemmas.{split_times, sides_times}
 use Rattle.gos_terms.proofs.leaves.CountLemmas.{behind, no_splits}
-use Rattle.gos_terms.proofs.leaves.LostLemmas.{is_loc, UsesStand, lost_in, lost, sides_plus, split_plus, row_fewer, fewer, sides_made, row_uses, below_loc}
+use Rattle.gos_terms.proofs.leaves.LostLemmas.{is_loc, UsesStand, lost_in, lost, row_fewer, fewer, row_uses, below_loc}
 
 -- a number that is used by itself isn't lost
 not_used : (k n : ℕ) (env : Meaning) → is_loc (env n) ≡ false → is_loc (env k) ≡ true → n ≢ k
@@ -26,7 +28,7 @@ lost_uses k env (Use t ss n) stands loc same =
     omega (arith, row, parted, other)
 lost_uses k env (Under t ss b n m) stands loc same =
     let parted = times-append k (sides ss) (n ∷ made m) in
-    let lost_two = sides_plus k (lost_in env ss) (lost (below n (inside ss env)) m) in
+    let lost_two = sides_times k (lost_in env ss) (lost (below n (inside ss env)) m) in
     let first = row_fewer k env ss in
     let second = few k (below n (inside ss env)) m in
     let more = behind k n (made m) in
@@ -35,7 +37,7 @@ lost_uses k env (Under t ss b n m) stands loc same =
     let part = lost_uses k (below n (inside ss env)) m stands (below_loc n k (inside ss env) (other own) still)
     (omega (arith, same, parted, lost_two, first, second, more)) in
     let uses = times-append k (split_in ss) (used m) in
-    let splits = split_plus k (lost_in env ss) (lost (below n (inside ss env)) m) in
+    let splits = split_times k (lost_in env ss) (lost (below n (inside ss env)) m) in
     omega (arith, row, part, uses, splits)
   where
     other : times k (n ∷ made m) ≡ times k (made m) → k ≢ n
@@ -43,19 +45,19 @@ lost_uses k env (Under t ss b n m) stands loc same =
         let at : times n (n ∷ made m) ≡ times n (made m) = subst (λ (a : ℕ). times a (n ∷ made m) ≡ times a (made m)) e own in omega (arith, one, at)
 lost_uses k env (One t ss f m) stands loc same =
     let parted = times-append k (sides ss) (made m) in
-    let lost_two = sides_plus k (lost_in env ss) (lost (inside ss env) m) in
+    let lost_two = sides_times k (lost_in env ss) (lost (inside ss env) m) in
     let first = row_fewer k env ss in
     let second = few k (inside ss env) m in
     let (row, still) = row_uses k env ss loc (omega (arith, same, parted, lost_two, first, second)) in
     let part = lost_uses k (inside ss env) m stands still (omega (arith, same, parted, lost_two, first, second)) in
     let uses = times-append k (split_in ss) (used m) in
-    let splits = split_plus k (lost_in env ss) (lost (inside ss env) m) in
+    let splits = split_times k (lost_in env ss) (lost (inside ss env) m) in
     omega (arith, row, part, uses, splits)
 lost_uses k env (Two t ss f m n) stands loc same =
     let parted = times-append k (sides ss) (made m ++ made n) in
     let parted_two = times-append k (made m) (made n) in
-    let lost_two = sides_plus k (lost_in env ss) (lost (inside ss env) m ++ lost (inside ss env) n) in
-    let lost_more = sides_plus k (lost (inside ss env) m) (lost (inside ss env) n) in
+    let lost_two = sides_times k (lost_in env ss) (lost (inside ss env) m ++ lost (inside ss env) n) in
+    let lost_more = sides_times k (lost (inside ss env) m) (lost (inside ss env) n) in
     let first = row_fewer k env ss in
     let second = few k (inside ss env) m in
     let third = few k (inside ss env) n in
@@ -64,16 +66,16 @@ lost_uses k env (Two t ss f m n) stands loc same =
     let other = lost_uses k (inside ss env) n stands.1 still (omega (arith, same, parted, parted_two, lost_two, lost_more, first, second, third)) in
     let uses = times-append k (split_in ss) (used m ++ used n) in
     let uses_two = times-append k (used m) (used n) in
-    let splits = split_plus k (lost_in env ss) (lost (inside ss env) m ++ lost (inside ss env) n) in
-    let splits_two = split_plus k (lost (inside ss env) m) (lost (inside ss env) n) in
+    let splits = split_times k (lost_in env ss) (lost (inside ss env) m ++ lost (inside ss env) n) in
+    let splits_two = split_times k (lost (inside ss env) m) (lost (inside ss env) n) in
     omega (arith, row, part, other, uses, uses_two, splits, splits_two)
 lost_uses k env (If t ss m n p) stands loc same =
     let parted = times-append k (sides ss) (made m ++ (made n ++ made p)) in
     let parted_two = times-append k (made m) (made n ++ made p) in
     let parted_three = times-append k (made n) (made p) in
-    let lost_two = sides_plus k (lost_in env ss) (lost (inside ss env) m ++ (lost (inside ss env) n ++ lost (inside ss env) p)) in
-    let lost_more = sides_plus k (lost (inside ss env) m) (lost (inside ss env) n ++ lost (inside ss env) p) in
-    let lost_last = sides_plus k (lost (inside ss env) n) (lost (inside ss env) p) in
+    let lost_two = sides_times k (lost_in env ss) (lost (inside ss env) m ++ (lost (inside ss env) n ++ lost (inside ss env) p)) in
+    let lost_more = sides_times k (lost (inside ss env) m) (lost (inside ss env) n ++ lost (inside ss env) p) in
+    let lost_last = sides_times k (lost (inside ss env) n) (lost (inside ss env) p) in
     let first = row_fewer k env ss in
     let second = few k (inside ss env) m in
     let third = few k (inside ss env) n in
@@ -88,9 +90,9 @@ lost_uses k env (If t ss m n p) stands loc same =
     let uses = times-append k (split_in ss) (used m ++ (used n ++ used p)) in
     let uses_two = times-append k (used m) (used n ++ used p) in
     let uses_three = times-append k (used n) (used p) in
-    let splits = split_plus k (lost_in env ss) (lost (inside ss env) m ++ (lost (inside ss env) n ++ lost (inside ss env) p)) in
-    let splits_two = split_plus k (lost (inside ss env) m) (lost (inside ss env) n ++ lost (inside ss env) p) in
-    let splits_three = split_plus k (lost (inside ss env) n) (lost (inside ss env) p) in
+    let splits = split_times k (lost_in env ss) (lost (inside ss env) m ++ (lost (inside ss env) n ++ lost (inside ss env) p)) in
+    let splits_two = split_times k (lost (inside ss env) m) (lost (inside ss env) n ++ lost (inside ss env) p) in
+    let splits_three = split_times k (lost (inside ss env) n) (lost (inside ss env) p) in
     omega (arith, row, part, other, last, uses, uses_two, uses_three, splits, splits_two, splits_three)
 
 -- a number that is made in the term, and no import's, stands for a location at first

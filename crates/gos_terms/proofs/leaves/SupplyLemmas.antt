@@ -2,7 +2,7 @@
 use Rattle.std.specs.Prelude.{◌≡◌, ◌≢◌, ℕ, Option, Some, None, slice_get, nat_eq, true, false}
 use Rattle.std.proofs.Common.{sym, ◌∙◌, subst}
 use Rattle.gos_model.specs.Typing.{Imported}
-use Rattle.gos_check.proofs.TimesLemmas.{number_cases}
+use Rattle.gos_model.proofs.NumberLemmas.{number_cases}
 use Rattle.gos_plan.specs.Kinds.{Part}
 use Rattle.gos_joining.specs.webs.Webs.{Dot, Web, Way}
 use Rattle.gos_terms.specs.wired.Wired.{Supplies, Supplied, Origin}

@@ -3,8 +3,9 @@ use Rattle.std.specs.Prelude.{◌≡◌, ◌≢◌, ℕ, zero, suc, ◌+◌, ◌
 use Rattle.std.proofs.Common.{refl, sym, ◌∙◌, ap, subst, arith, inl, inr}
 use Rattle.std.proofs.lemmas.List.Elements.{Contains-append_left, Contains-append_right, Contains-append_cases}
 use Rattle.std.proofs.lemmas.Option.{slice_get_within}
+use Rattle.std.proofs.lemmas.Bool.{eq-eqb, ne_eqb}
+use Rattle.gos_model.proofs.NumberLemmas.{number_cases}
 use Rattle.gos_check.specs.Nodes.{Numbered, type_of_node}
-use Rattle.gos_check.proofs.TimesLemmas.{eq_true, eq_false, number_cases}
 use Rattle.gos_plan.specs.Kinds.{Contact, contacts_of}
 use Rattle.gos_plan.specs.Plans.{ResultEnd, Plan, contact_at, turned_if}
 use Rattle.gos_ties.specs.declared.points.Place.{Place}
@@ -25,10 +26,10 @@ abbrev pub if_number : {A : Type 0} → ℕ → ℕ → A → Option A
 if_number m n x = if nat_eq m n then Some x else None
 
 pub same_number : {A : Type 0} (m n : ℕ) (x : A) → m ≡ n → if_number m n x ≡ Some x
-same_number {A} m n x e = let t = eq_true m n e in (λ i. if t i then Some x else None)
+same_number {A} m n x e = let t = eq-eqb m n e in (λ i. if t i then Some x else None)
 
 pub other_number : {A : Type 0} (m n : ℕ) (x : A) → m ≢ n → if_number m n x ≡ None
-other_number {A} m n x e = let f = eq_false m n e in (λ i. if f i then Some x else None)
+other_number {A} m n x e = let f = ne_eqb m n e in (λ i. if f i then Some x else None)
 
 pub is_number : {A : Type 0} (m n : ℕ) (x y : A) → if_number m n x ≡ Some y → (m ≡ n) × (x ≡ y)
 is_number {A} m n x y h = number_cases m n same other
@@ -75,8 +76,8 @@ in_row q p a b (suc n) (suc k) small = behind (subst (Contains (led (row q (suc 
     behind (m, low, same) = (suc m, omega (arith, low), same)
 
 -- a handshake of the result is one of its type's
-pub shake_there : (p : Plan) (h : ℕ) (k : Contact) → contact_at p (ResultEnd h) ≡ Some k → h < count p.outcome
-shake_there p h k at = by_contact (slice_get (contacts_of p.outcome) h) refl
+pub result_is_there : (p : Plan) (h : ℕ) (k : Contact) → contact_at p (ResultEnd h) ≡ Some k → h < count p.outcome
+result_is_there p h k at = by_contact (slice_get (contacts_of p.outcome) h) refl
   where
     by_contact : (o : Option Contact) → slice_get (contacts_of p.outcome) h ≡ o → h < count p.outcome
     by_contact None none = let both : None ≡ Some k = sym (ap turned_if none) ∙ at in absurd (cc both)

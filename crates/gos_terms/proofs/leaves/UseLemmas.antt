@@ -15,7 +15,7 @@ use Rattle.gos_compile.specs.Wiring.{Types, row, led}
 use Rattle.gos_terms.specs.wired.Wired.{dot_of, Supplies, Source, Own, Supplied, Origin, IsFrom, source_dot, wired_ties}
 use Rattle.gos_supplies.specs.unjoined.Homes.{AreHome}
 use Rattle.gos_terms.specs.leaves.Leaves.{UseIsRealised}
-use Rattle.gos_terms.proofs.leaves.TieLemmas.{if_number, same_number, other_number, row_tie, of_row, in_row, shake_there, own_tie, inner_tie, outer_tie, by_tie}
+use Rattle.gos_terms.proofs.leaves.TieLemmas.{if_number, same_number, other_number, row_tie, of_row, in_row, own_tie, inner_tie, outer_tie, by_tie, result_is_there}
 use Rattle.gos_terms.proofs.leaves.SupplyLemmas.{import_by, part_is, import_is, other_one, both_home}
 use Rattle.gos_terms.proofs.leaves.LeafLemmas.{Leaf, leaf_realises}
 
@@ -125,7 +125,7 @@ module _ (types : Types) (i j n : ℕ) (t : Type') (ns : List ℕ) (env : Suppli
           out_ties = λ s there. one_way w_ties (Within (suc n) s.one) (Within (suc n) s.other) (inl (inner_tie types i j (Use t [] n) ns env n has s there));
           part_out = λ k h x at. here (Within (suc n) (Of (PartEnd k h)));
           import_out = λ k h x at. here (Within (suc n) (Of (ImportEnd k h)));
-          result_out = λ h k at. result_out h (subst (λ (u : Type'). h < count u) outcome (shake_there (env n).plan h k at));
+          result_out = λ h k at. result_out h (subst (λ (u : Type'). h < count u) outcome (result_is_there (env n).plan h k at));
         }
 
 pub use_is_realised : UseIsRealised

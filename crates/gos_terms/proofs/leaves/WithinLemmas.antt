@@ -8,10 +8,11 @@ use Rattle.gos_model.specs.Typing.{Typed}
 use Rattle.gos_check.specs.Nodes.{Binding, OneForm, Numbered, Closed, Use, Under, One, Two, If, Meaning, below, inside}
 use Rattle.gos_check.specs.Linearity.{times, split_in, sides, used, all_sides, made, import_at}
 use Rattle.gos_check.proofs.TimesLemmas.{times_same, times-append}
+use Rattle.gos_compile.proofs.LoadLemmas.{sides_made}
 use Rattle.gos_terms.specs.leaves.Splits.{SidesUsedWithin, StandingIsSplitAtForks}
 use Rattle.gos_terms.proofs.leaves.CountLemmas.{behind}
 use Rattle.gos_terms.proofs.leaves.SplitLemmas.{leaves_have_no_splits}
-use Rattle.gos_terms.proofs.leaves.LostLemmas.{is_loc, UsesStand, uses_stand, lost_in, lost, sides_made, row_uses, below_loc}
+use Rattle.gos_terms.proofs.leaves.LostLemmas.{is_loc, UsesStand, uses_stand, lost_in, lost, row_uses, below_loc}
 use Rattle.gos_terms.proofs.leaves.StandLemmas.{lost_uses, loc_first, none_lost}
 
 pub two_none : (ss ts : List Split) → ss ++ ts ≡ [] → (ss ≡ []) × (ts ≡ [])

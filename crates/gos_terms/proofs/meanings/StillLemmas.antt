@@ -1,17 +1,12 @@
 -- A closed typed term is still: it has no variable that a substitution finds or a binder shifts.
-use Rattle.std.specs.Prelude.{◌≡◌, ℕ, zero, suc, ◌<◌, ◌≤◌, Bool, true, false, List, [], ◌∷◌, length, Some, nat_eq, slice_get}
+use Rattle.std.specs.Prelude.{◌≡◌, ℕ, suc, ◌<◌, ◌≤◌, Bool, true, false, List, [], ◌∷◌, length, nat_eq}
 use Rattle.std.proofs.Common.{refl, ap, arith}
+use Rattle.std.proofs.lemmas.Option.{slice_get_within}
 use Rattle.gos_types.specs.Types.{Type', Com, Exp, Var, Pair, Fun}
 use Rattle.gos_model.specs.Terms.{Term, Skip, Lit, Bound, Import, Lam, App, Both, Fst, Snd, Seq, Par, If, While, Assign, Deref, New, Not, Bin, Loc, Scope, Wait, Held, Put}
 use Rattle.gos_model.specs.Typing.{Imports, Typed}
 use Rattle.gos_model.specs.Substitution.{put_at}
 use Rattle.gos_check.specs.Nodes.{shifted}
-
--- a variable that there is lies below the length
-in_list : (g : List Type') (n : ℕ) (t : Type') → slice_get g n ≡ Some t → n < length g
-in_list [] n t e = absurd (cc e)
-in_list (a ∷ g) zero t e = omega arith
-in_list (a ∷ g) (suc n) t e = let l = in_list g n t e in omega (arith, l)
 
 pub other : (n d : ℕ) → n < d → nat_eq n d ≡ false
 other n d l = by_test (nat_eq n d) refl
@@ -23,7 +18,7 @@ other n d l = by_test (nat_eq n d) refl
 pub put_still : (i : Imports) (g : List Type') (m n : Term) (t : Type') (d : ℕ) → length g ≤ d → Typed i g m t → put_at d n m ≡ m
 put_still i g Skip n t d l h = refl
 put_still i g (Lit k w) n t d l h = refl
-put_still i g (Bound j) n t d l h = let below = in_list g j t h in let no = other j d (omega (arith, below, l)) in rw no refl
+put_still i g (Bound j) n t d l h = let below = slice_get_within g j t h in let no = other j d (omega (arith, below, l)) in rw no refl
 put_still i g (Import x) n t d l h = refl
 put_still i g (Lam a m) n t d l (b, e, h) = ap (Lam a) (put_still i (a ∷ g) m n b (suc d) (omega (arith, l)) h)
 put_still i g (App m p) n t d l (a, f, h, apart) =

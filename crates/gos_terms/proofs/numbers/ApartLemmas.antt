@@ -1,15 +1,11 @@
 -- No split has two live sides, as a part that uses what comes from both would be on both sides.
 use Rattle.std.specs.Prelude.{◌≡◌, ℕ, ◌<◌, ◌⊎◌, ◌||◌, Bool, true, false, List, [], ◌∷◌, nat_eq, if◌then◌else◌}
 use Rattle.std.proofs.Common.{refl, sym, subst, inl, inr}
+use Rattle.std.proofs.lemmas.Bool.{eqb-true, or_cases}
 use Rattle.gos_check.specs.declared.linear.Split.{Split}
 use Rattle.gos_check.specs.Linearity.{times, sides, IsOneOf, Comes, itself, by_left, by_right}
-use Rattle.gos_check.proofs.TimesLemmas.{true_eq}
 use Rattle.gos_terms.proofs.leaves.CountLemmas.{left_in, right_in}
 use Rattle.gos_terms.specs.stages.Lodging.{live, AreApart}
-
-or_true : (x y : Bool) → (x || y) ≡ true → (x ≡ true) ⊎ (y ≡ true)
-or_true true y e = inl refl
-or_true false y e = inr e
 
 -- with one split more
 pub further : (s : Split) (ss : List Split) (n a : ℕ) → Comes ss n a → Comes (s ∷ ss) n a
@@ -41,7 +37,7 @@ lives (s ∷ ss) inner n e =
         → (live ss inner s.left ≡ true → Lives ss inner s.left) → (live ss inner s.right ≡ true → Lives ss inner s.right)
         → (live ss inner n ≡ true → Lives ss inner n) → Lives (s ∷ ss) inner n
     by_test true t h left right same =
-        subst (Lives (s ∷ ss) inner) (sym (true_eq n s.of t)) (by_side left right (or_true (live ss inner s.left) (live ss inner s.right) h))
+        subst (Lives (s ∷ ss) inner) (sym (eqb-true n s.of t)) (by_side left right (or_cases (live ss inner s.left) (live ss inner s.right) h))
     by_test false t h left right same = let (a, c, i) = same h in (a, further s ss n a c, i)
 
 pub are_apart : (ss : List Split) (inner : ℕ → Bool)

@@ -1,17 +1,17 @@
 -- What a number stands for is free in a term that uses the number.
-use Rattle.std.specs.Prelude.{◌≡◌, ◌≢◌, ℕ, suc, ◌+◌, ◌-◌, ◌<◌, ◌≤◌, Bool, false, List, [], ◌∷◌, ◌++◌, nat_lt, Contains, if◌then◌else◌}
+use Rattle.std.specs.Prelude.{◌≡◌, ◌≢◌, ℕ, suc, ◌+◌, ◌-◌, ◌<◌, ◌≤◌, Bool, List, [], ◌∷◌, ◌++◌, Contains, if◌then◌else◌}
 use Rattle.std.proofs.Common.{sym, ◌∙◌, ap, subst, arith, inl, inr}
-use Rattle.std.proofs.lemmas.Bool.Decides.{nat_tests}
 use Rattle.std.proofs.lemmas.List.Elements.{Contains-append_left, Contains-append_right}
+use Rattle.std.proofs.lemmas.Bool.{le-ltb, ne_eqb}
 use Rattle.gos_types.specs.Types.{Type'}
 use Rattle.gos_model.specs.Terms as terms
 use Rattle.gos_model.specs.Terms.{Term}
 use Rattle.gos_model.specs.Typing.{Thing, Variable, Named, things}
-use Rattle.gos_model.proofs.NumberLemmas.{either}
+use Rattle.gos_model.proofs.NumberLemmas.{either, number_cases}
 use Rattle.gos_check.specs.declared.linear.Split.{Split}
 use Rattle.gos_check.specs.Nodes.{Numbered, Closed, Use, Under, One, Two, If, Binding, OfFun, OfNew, OneForm, OfFst, OfSnd, OfDeref, OfNot, TwoForm, OfApp, OfBoth, OfSeq, OfPar, OfWhile, OfAssign, OfBin, Meaning, meaning, below, shifted, inside, binder_term, one_term, two_term}
 use Rattle.gos_check.specs.Linearity.{times, split_in, sides, used, made}
-use Rattle.gos_check.proofs.TimesLemmas.{number_cases, eq_false, times_same, times_other, times-append, inside_other}
+use Rattle.gos_check.proofs.TimesLemmas.{times_same, times_other, times-append, inside_other}
 use Rattle.gos_compile.specs.Wiring.{Types}
 use Rattle.gos_terms.proofs.leaves.CountLemmas.{behind}
 use Rattle.gos_terms.specs.numbers.Kept.{IsKept}
@@ -26,12 +26,9 @@ IsThing d (terms.Bound i) th = (d ≤ i) × (Variable (i - d) ≡ th)
 IsThing d (terms.Import x) th = Named x ≡ th
 IsThing d m th = ⊥
 
-not_below : (i d : ℕ) → d ≤ i → nat_lt i d ≡ false
-not_below i d h = grind (arith, nat_tests)
-
 pub thing_free : (d : ℕ) (m : Term) (th : Thing) → IsThing d m th → Contains (things d m) th
 thing_free d (terms.Bound i) th (low, e) =
-    subst (λ (b : Bool). Contains (if b then [] else Variable (i - d) ∷ []) th) (sym (not_below i d low)) (0, omega arith, e)
+    subst (λ (b : Bool). Contains (if b then [] else Variable (i - d) ∷ []) th) (sym (le-ltb i d low)) (0, omega arith, e)
 thing_free d (terms.Import x) th e = (0, omega arith, e)
 thing_free d m th h = absurd h
 
@@ -101,7 +98,7 @@ no_side k ss none = ap (λ (ts : List Split). times k (sides ts)) none
 
 below_other : (k n : ℕ) (env : Meaning) → k ≢ n → shifted (env k) ≡ below n env k
 below_other k n env other =
-    let f = eq_false k n other in
+    let f = ne_eqb k n other in
     let path : below n env k ≡ shifted (env k) = λ i. if f i then terms.Bound 0 else shifted (env k) in
     sym path
 

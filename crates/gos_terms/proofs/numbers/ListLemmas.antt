@@ -2,9 +2,11 @@
 use Rattle.std.specs.Prelude.{◌≡◌, ◌≢◌, ℕ, ◌+◌, ◌<◌, Bool, true, false, cond, List, [], ◌∷◌, nat_eq, nat_lt, filter}
 use Rattle.std.proofs.Common.{refl, sym, ◌∙◌, ap, subst, arith}
 use Rattle.std.proofs.lemmas.Bool.Decides.{nat_tests}
+use Rattle.std.proofs.lemmas.Bool.{eq-eqb, ne_eqb}
+use Rattle.gos_model.proofs.NumberLemmas.{number_cases}
 use Rattle.gos_check.specs.declared.linear.Split.{Split}
 use Rattle.gos_check.specs.Linearity.{times, sides}
-use Rattle.gos_check.proofs.TimesLemmas.{number_cases, eq_true, eq_false, times_same, times_other}
+use Rattle.gos_check.proofs.TimesLemmas.{times_same, times_other}
 use Rattle.gos_terms.specs.stages.Inside.{numbers_inside}
 
 pub times_inside : (k : ℕ) (ss : List Split) (ns : List ℕ) → times k (numbers_inside ss ns) ≡ times k (sides ss) + times k ns
@@ -66,8 +68,8 @@ stopped a ns k e =
 
 pub none_passed : (a : ℕ → ℕ) (ns : List ℕ) (k : ℕ) → a k ≡ 0 → times k (filter (λ j. nat_eq (a j) 0) ns) ≡ times k ns
 none_passed a ns k e =
-    subst (λ (b : Bool). Filtered b (times k (filter (λ j. nat_eq (a j) 0) ns)) (times k ns)) (eq_true (a k) 0 e) (filtered (λ j. nat_eq (a j) 0) ns k)
+    subst (λ (b : Bool). Filtered b (times k (filter (λ j. nat_eq (a j) 0) ns)) (times k ns)) (eq-eqb (a k) 0 e) (filtered (λ j. nat_eq (a j) 0) ns k)
 
 pub some_stopped : (a : ℕ → ℕ) (ns : List ℕ) (k : ℕ) → 0 < a k → times k (filter (λ j. nat_eq (a j) 0) ns) ≡ 0
 some_stopped a ns k h =
-    subst (λ (b : Bool). Filtered b (times k (filter (λ j. nat_eq (a j) 0) ns)) (times k ns)) (eq_false (a k) 0 (λ e. omega (arith, e, h))) (filtered (λ j. nat_eq (a j) 0) ns k)
+    subst (λ (b : Bool). Filtered b (times k (filter (λ j. nat_eq (a j) 0) ns)) (times k ns)) (ne_eqb (a k) 0 (λ e. omega (arith, e, h))) (filtered (λ j. nat_eq (a j) 0) ns k)

@@ -1,10 +1,11 @@
 -- From a number that a node uses or splits, one comes that a part of it uses; both stand for the same.
 use Rattle.std.specs.Prelude.{◌≡◌, ◌≢◌, ℕ, ◌+◌, ◌<◌, ◌≤◌, List, [], ◌∷◌}
 use Rattle.std.proofs.Common.{refl, ◌∙◌, subst, arith, inl}
+use Rattle.gos_model.proofs.NumberLemmas.{number_cases}
 use Rattle.gos_check.specs.declared.linear.Split.{Split}
 use Rattle.gos_check.specs.Nodes.{Meaning, inside, inside_one}
 use Rattle.gos_check.specs.Linearity.{times, split_in, sides, Comes, itself, by_left, by_right}
-use Rattle.gos_check.proofs.TimesLemmas.{number_cases, times_same, times_other, times_none, one_other, one_left, one_right}
+use Rattle.gos_check.proofs.TimesLemmas.{times_same, times_other, times_none, one_other, one_left, one_right}
 use Rattle.gos_terms.proofs.leaves.CountLemmas.{behind, left_in, right_in}
 use Rattle.gos_terms.specs.stages.Lodging.{AreInOrder}
 use Rattle.gos_terms.proofs.numbers.ApartLemmas.{further, side_comes}

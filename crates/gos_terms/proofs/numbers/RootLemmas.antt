@@ -5,11 +5,12 @@ use Rattle.gos_types.specs.Types.{type_of}
 use Rattle.gos_model.specs.Terms as terms
 use Rattle.gos_model.specs.Terms.{Term}
 use Rattle.gos_model.specs.Typing.{Imports}
+use Rattle.gos_model.proofs.NumberLemmas.{number_cases}
 use Rattle.gos_check.specs.declared.linear.Split.{Split}
 use Rattle.gos_check.specs.Nodes.{Numbered, Closed, Use, Under, One, Two, If, Meaning, below, shifted, inside, inside_one, node_seen}
 use Rattle.gos_check.specs.Linearity.{times, made, import_at}
 use Rattle.gos_check.specs.Checked.{program_in}
-use Rattle.gos_check.proofs.TimesLemmas.{number_cases, times_same, times_other, times-append, one_other, listed_times}
+use Rattle.gos_check.proofs.TimesLemmas.{times_same, times_other, times-append, one_other, listed_times}
 use Rattle.gos_compile.specs.Typed.{CheckedIsTyped}
 use Rattle.gos_terms.proofs.leaves.CountLemmas.{behind}
 use Rattle.gos_terms.proofs.leaves.LostLemmas.{is_loc, UsesStand, uses_stand, lost_in, lost, kept}

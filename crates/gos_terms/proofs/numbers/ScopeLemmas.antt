@@ -1,11 +1,11 @@
 -- A term is in scope where all numbers are that it uses.
 use Rattle.std.specs.Prelude.{◌≡◌, ℕ, zero, suc, ◌+◌, ◌<◌, ◌≤◌, List, [], ◌∷◌, ◌++◌}
 use Rattle.std.proofs.Common.{ap, subst, arith, inl, inr}
-use Rattle.gos_model.proofs.NumberLemmas.{either}
+use Rattle.gos_model.proofs.NumberLemmas.{either, number_cases}
 use Rattle.gos_check.specs.declared.linear.Split.{Split}
 use Rattle.gos_check.specs.Nodes.{Numbered, Closed, Use, Under, One, Two, If}
 use Rattle.gos_check.specs.Linearity.{times, split_in, sides, used, made}
-use Rattle.gos_check.proofs.TimesLemmas.{number_cases, times_same, times_other, times-append, some_times, listed_times}
+use Rattle.gos_check.proofs.TimesLemmas.{times_same, times_other, times-append, some_times, listed_times}
 use Rattle.gos_terms.specs.leaves.Splits.{SplitsAtForks}
 use Rattle.gos_terms.specs.stages.Inside.{numbers_inside, AreSplit}
 use Rattle.gos_terms.specs.stages.Lodging.{AreInOrder}

@@ -1,10 +1,12 @@
 -- The two halves of a wired pair are its children, cover its joints, and so are the two sides of its plan.
-use Rattle.std.specs.Prelude.{◌+◌, ◌-◌, ◌<◌, ◌≤◌, ◌⊎◌, length, nat_lt, slice_get, None, Contains}
+use Rattle.std.specs.Prelude.{◌+◌, ◌-◌, ◌<◌, ◌≤◌, ◌⊎◌, length, nat_lt, slice_get, Contains}
 use Rattle.std.proofs.Common.{◌≡◌, ℕ, zero, suc, Bool, true, false, List, [], ◌∷◌, ◌++◌, Option, Some, inl, inr, refl, sym, ◌∙◌, ap, subst, arith}
 use Rattle.std.proofs.lemmas.Bool.Decides.{nat_tests}
 use Rattle.std.proofs.lemmas.List.{length-append}
 use Rattle.std.proofs.lemmas.Option.{slice_get_within}
+use Rattle.std.proofs.lemmas.Bool.{lt-ltb}
 use Rattle.gos_types.specs.Types.{Type', Pair}
+use Rattle.gos_types.proofs.ListLemmas.{found_in_front}
 use Rattle.gos_check.specs.declared.linear.Split.{Split}
 use Rattle.gos_check.specs.Nodes.{Numbered, Two, OfBoth, type_of_node}
 use Rattle.gos_check.specs.Linearity.{times, split_in, made}
@@ -13,24 +15,23 @@ use Rattle.gos_model.proofs.NumberLemmas.{either}
 use Rattle.gos_plan.specs.Kinds.{Contact, Part, Share, contacts_of, part_contacts}
 use Rattle.gos_plan.specs.Plans.{End, PartEnd, ImportEnd, ResultEnd, Plan, contact_at, contacts_of_part}
 use Rattle.gos_plan.proofs.JointLemmas.{fits, contained}
+use Rattle.gos_plan.proofs.ContactLemmas.{turned_some, part_is_there, import_is_there}
 use Rattle.gos_realises.specs.realises.Regular.{count, IsRegular}
 use Rattle.gos_realises.specs.realises.Realises.{NamesDiffer}
+use Rattle.gos_realises.proofs.realises.CountLemmas.{count_pair, share_count}
 use Rattle.gos_joining.specs.webs.Webs.{Dot, Of, Within, Tie, joint}
 use Rattle.gos_compile.specs.Wiring.{Types, shares, parts_of, nodes}
-use Rattle.gos_joining.proofs.unions.LeftLemmas.{front}
 use Rattle.gos_terms.specs.wired.Wired.{Supplies, Source, Own, Supplied, Placing, IsFrom, IsWired, source_dot, dot_at, wired_ties}
 use Rattle.gos_terms.specs.wired.NodeFitting.{AreOfTypes}
-use Rattle.gos_sharing.proofs.behind.BetweenLemmas.{count_pair}
 use Rattle.gos_terms.specs.stages.Inside.{numbers_inside, AreOrdered}
-use Rattle.gos_terms.specs.stages.Lodging.{Spot, live, AreInOrder}
+use Rattle.gos_terms.specs.stages.Lodging.{live, AreInOrder}
 use Rattle.gos_terms.specs.stages.Folding.{AtResult, Child, is_used, lodge, spot_dot, child_back, IsChild, IsLaid}
 use Rattle.gos_terms.specs.stages.Regions.{HasParts, IsStaged}
 use Rattle.gos_terms.proofs.stages.ServedLemmas.{servings_serve}
-use Rattle.gos_terms.proofs.stages.StepLemmas.{low}
-use Rattle.gos_terms.proofs.stages.ChildPartLemmas.{no_more_than, plain_source}
+use Rattle.gos_terms.proofs.stages.ChildPartLemmas.{plain_source}
 use Rattle.gos_terms.proofs.stages.ChildBackLemmas.{lead_stands}
 use Rattle.gos_terms.proofs.stages.ChildStageLemmas.{child_is_staged}
-use Rattle.gos_terms.proofs.stages.ContactLemmas.{turned_some, part_there, import_there, shares_length, share_contacts}
+use Rattle.gos_terms.proofs.stages.ContactLemmas.{shares_length}
 use Rattle.gos_terms.proofs.stages.CoverLemmas.{live_is_covered, own_is_covered}
 use Rattle.gos_terms.proofs.stages.SideLemmas.{served_side, AreUsed, AreOld, all_live, all_serve}
 use Rattle.gos_terms.specs.numbers.Inherited.{IsPart}
@@ -40,10 +41,6 @@ use Rattle.gos_terms.specs.run_children.Pairs.{pair_side, parts_end}
 use Rattle.gos_terms.proofs.run_children.PairLemmas.{sides_are_children, sides_have_parts}
 use Rattle.gos_nodes.specs.products.Both.{Side, IsSide, IsOfSide, IsBoth}
 use Rattle.gos_terms.proofs.pair_forms.SideLemmas.{leads_at, side_of, joint_of, child_is_side}
-
-of_spot : (a : Option Spot) (x : Dot) → spot_dot a ≡ Some x → (z : Spot) × (a ≡ Some z)
-of_spot None x e = absurd (no_more_than x e)
-of_spot (Some z) x e = (z, refl)
 
 -- a part of a pair is a Share, or one of a half's
 abbrev IsOfPair : Types → List Split → List Part → List Part → Part → ℕ → Type 0
@@ -171,8 +168,8 @@ module _ (types : Types) (i j : ℕ) (ss : List Split) (m n : Numbered) (ms ks n
       let sum = all_there k (omega (arith, none)) in
       let is = some_times k (numbers_inside ss ns) there in
       elim (either (times k ms) (times k ks) (omega (arith, sum, is))) [
-        | inl some ↦ (true, low 0 (times k ms) some)
-        | inr some ↦ (false, low 0 (times k ks) some)
+        | inl some ↦ (true, lt-ltb 0 (times k ms) some)
+        | inr some ↦ (false, lt-ltb 0 (times k ks) some)
       ]
 
   order : AreInOrder ss
@@ -191,7 +188,7 @@ module _ (types : Types) (i j : ℕ) (ss : List Split) (m n : Numbered) (ms ks n
       (p, y, ap (λ (s : Source). child_back (child p) (source_dot i s h)) from ∙ back)
 
   share_source : (x : ℕ) (y : Part) → slice_get (shares ss types) x ≡ Some y → pl.source (pl.own x) ≡ Own x
-  share_source x y at = (wired.parts y (Own x) (front (shares ss types) (parts_of types m ++ parts_of types n) x y at)).1
+  share_source x y at = (wired.parts y (Own x) (found_in_front (shares ss types) (parts_of types m ++ parts_of types n) x y at)).1
 
   share_covered : (q h x : ℕ) (t : Type') → pl.source q ≡ Own x → slice_get (shares ss types) x ≡ Some (Share t) → h < count t + (count t + count t)
       → Covered (PartEnd q h)
@@ -227,7 +224,7 @@ module _ (types : Types) (i j : ℕ) (ss : List Split) (m n : Numbered) (ms ks n
     where
       by_kind : IsOfPair types ss (parts_of types m) (parts_of types n) y k → Covered (PartEnd q h)
       by_kind (inl (t, is, share)) =
-          let size : length (part_contacts y) ≡ count t + (count t + count t) = ap (λ (x : Part). length (part_contacts x)) is ∙ share_contacts t in
+          let size : length (part_contacts y) ≡ count t + (count t + count t) = ap (λ (x : Part). length (part_contacts x)) is ∙ share_count t in
           share_covered q h k t from share (omega (arith, lt, size))
       by_kind (inr (inl (x, less, at))) = own_covered q h x true (from ∙ ap Own at) less
       by_kind (inr (inr (x, less, at))) = own_covered q h x false (from ∙ ap Own at) less
@@ -241,11 +238,11 @@ module _ (types : Types) (i j : ℕ) (ss : List Split) (m n : Numbered) (ms ks n
 
   end_covered : (x : End) (k : Contact) → contact_at r x ≡ Some k → Covered x
   end_covered (PartEnd q h) k at =
-      let (y, listed) = part_there (slice_get r.parts q) h k at in
+      let (y, listed) = part_is_there (slice_get r.parts q) h k at in
       let there : slice_get (part_contacts y) h ≡ Some k = subst (λ (o : Option Part). slice_get (contacts_of_part o) h ≡ Some k) listed at in
       part_covered q h y (pl.source q) refl (wired.no_more q y listed).0 (slice_get_within (part_contacts y) h k there)
   end_covered (ImportEnd q h) k at =
-      let (x, listed) = import_there (slice_get r.imports q) h k at in
+      let (x, listed) = import_is_there (slice_get r.imports q) h k at in
       let there = (wired.no_import q x listed).0 in
       let (p, alive) = live_number (pl.origin q).number there in
       let (y, back) = live_is_covered (child p) (pl.origin q).number (ImportEnd (pl.origin q).import h) alive in

@@ -5,6 +5,7 @@ use Rattle.std.proofs.lemmas.Option.{slice_get_within}
 use Rattle.gos_check.specs.Nodes.{type_of_node}
 use Rattle.gos_plan.specs.Kinds.{Part, contacts_of}
 use Rattle.gos_plan.specs.Plans.{End, PartEnd, ImportEnd, ResultEnd, Joint, Plan}
+use Rattle.gos_plan.proofs.ContactLemmas.{turned_some}
 use Rattle.gos_realises.specs.realises.Regular.{count, IsRegular}
 use Rattle.gos_realises.specs.realises.Realises.{NamesDiffer}
 use Rattle.gos_realises.proofs.realises.PlaceLemmas.{contains_at, place_of}
@@ -17,7 +18,6 @@ use Rattle.gos_terms.specs.wired.Wired.{Placing, dot_at}
 use Rattle.gos_terms.specs.stages.Inside.{AreOrdered}
 use Rattle.gos_terms.specs.stages.Folding.{Lead, AtResult, led_end, Child, child_back, child_cut, child_fold, child_servings, child_web, IsChild, IsLaid}
 use Rattle.gos_terms.specs.stages.Regions.{HasParts, IsStaged}
-use Rattle.gos_terms.proofs.stages.ContactLemmas.{turned_some}
 use Rattle.gos_terms.proofs.stages.LoyalLemmas.{servings_are_loyal}
 use Rattle.gos_terms.proofs.stages.StageLemmas.{web_of}
 use Rattle.gos_terms.proofs.stages.ChildNameLemmas as named

@@ -1,27 +1,27 @@
 -- A node `new x : w in m` that is wired to supplies is made of its body, wired to them and to a name.
 use Rattle.std.specs.Prelude.{◌≡◌, ◌≢◌, ℕ, zero, suc, ◌+◌, ◌-◌, ◌<◌, ◌⊎◌, Bool, true, false, List, [], ◌∷◌, ◌++◌, Option, Some, None, slice_get, nat_eq, Contains, if◌then◌else◌}
 use Rattle.std.proofs.Common.{refl, sym, ◌∙◌, ap, subst, arith, inl, inr}
-use Rattle.std.proofs.lemmas.Option.{none-some, same_Some}
+use Rattle.std.proofs.lemmas.Option.{none-some, same_Some, slice_get_within}
 use Rattle.std.proofs.lemmas.List.Elements.{Contains-append_left, Contains-append_cases}
+use Rattle.std.proofs.lemmas.Bool.{eqb-true, eq-eqb}
 use Rattle.gos_types.specs.Types.{Type', Com, Exp, Var, Pair, Fun, IsDone}
 use Rattle.gos_model.specs.Terms.{Name}
 use Rattle.gos_model.specs.Typing.{Imported}
 use Rattle.gos_nodes.specs.sessions.Sessions.{bits}
 use Rattle.gos_check.specs.Nodes.{Numbered, Under, OfNew, type_of_node}
-use Rattle.gos_check.proofs.TimesLemmas.{eq_true, true_eq}
 use Rattle.gos_plan.specs.Kinds as kinds
 use Rattle.gos_plan.specs.Kinds.{Part, Contact, asks, contacts_of, part_contacts}
 use Rattle.gos_plan.specs.Plans.{End, PartEnd, ImportEnd, ResultEnd, Joint, Plan, contacts_of_part, contacts_of_import, turned_if, contact_at}
 use Rattle.gos_plan.specs.Tokens.{IsPortEnd}
 use Rattle.gos_plan.proofs.JointLemmas.{one_joint, contained}
+use Rattle.gos_plan.proofs.ContactLemmas.{serves_is_not_asks, part_is_there}
 use Rattle.gos_realises.specs.realises.Regular.{count}
 use Rattle.gos_realises.specs.realises.Modules.{Supply}
 use Rattle.gos_realises.proofs.realises.ToldLemmas.{there_is}
 use Rattle.gos_realises.proofs.realises.PlaceLemmas.{place_of, contains_at}
 use Rattle.gos_joining.specs.webs.Webs.{Dot, Of, Number, Within, Tie, tie, Way, here, along, joint, own_web}
 use Rattle.gos_joining.specs.webs.Cutting.{Cut, IsOutside, StandsIn}
-use Rattle.gos_joining.proofs.webs.CutLemmas.{part_at}
-use Rattle.gos_joining.proofs.webs.WebLemmas.{asks_there, serves_not_asks}
+use Rattle.gos_joining.proofs.webs.WebLemmas.{asks_there}
 use Rattle.gos_joining.specs.unions.Unions.{within}
 use Rattle.gos_joining.proofs.unions.UnionLemmas.{in_image}
 use Rattle.gos_nodes.proofs.windows.PortLemmas.{stands_contact}
@@ -35,7 +35,7 @@ use Rattle.gos_terms.specs.wired.Wired.{Supplies, Source, Own, Supplied, Placing
 use Rattle.gos_terms.specs.wired.Wired as origins
 use Rattle.gos_terms.proofs.wired.TieLemmas.{of_results}
 use Rattle.gos_terms.specs.regions.Blocks.{with_name, IsBound, HasBody, BlockIsWired}
-use Rattle.gos_terms.proofs.regions.NumberingLemmas.{origin, got_below, import_there, import_is}
+use Rattle.gos_terms.proofs.regions.NumberingLemmas.{origin, import_there, import_is}
 use Rattle.gos_terms.proofs.regions.FrameLemmas as frames
 use Rattle.gos_terms.proofs.regions.FrameLemmas.{size, in_range_true, out_of_range, itself_true, own_part, back, laid, laid_end}
 use Rattle.gos_terms.proofs.regions.ChildLemmas.{Sitting, child_parts, child_placing, child_plan, number_of, number_if, port_of, its_cut, its_outer, its_inner, its_fold, its_web, whole_web, IsPort, IsSitting, HasPorts}
@@ -88,7 +88,7 @@ module _
   name_there k e = ap (λ (y : Supply). y.plan) (bodies.name_there types i j w n t m ns env pl x done type_m type_n bound k e)
 
   same_n : nat_eq n n ≡ true
-  same_n = eq_true n n refl
+  same_n = eq-eqb n n refl
 
   driver : (slice_get r.parts (pl.own 0) ≡ Some local_part) × (pl.source (pl.own 0) ≡ Own 0)
   driver = is.parts local_part (Own 0) refl
@@ -107,7 +107,7 @@ module _
       ap (λ (a : Source). source_dot i a h) driver.1 ∙ ap (λ (a : ℕ). Within 0 (Of (PartEnd a h))) same
 
   own_inner : (h : ℕ) → its_inner s r (PartEnd (pl.own 0) h) ≡ block_port_end place h
-  own_inner h = ap (λ (b : Bool). if b then block_port_end place h else None) (eq_true (pl.own 0) (pl.own 0) refl)
+  own_inner h = ap (λ (b : Bool). if b then block_port_end place h else None) (eq-eqb (pl.own 0) (pl.own 0) refl)
 
   -- the result
   result_contact : contact_at (child_plan s) (ResultEnd 0) ≡ Some (asks 0 v)
@@ -141,7 +141,7 @@ module _
       → (place ≡ a) × (variable ≡ y)
   is_variable a y e named =
       let (has, at, home) = import_is (child_parts s) inner numbers sits.once a y e in
-      let number : (plc.origin a).number ≡ n = true_eq (plc.origin a).number n named in
+      let number : (plc.origin a).number ≡ n = eqb-true (plc.origin a).number n named in
       let (none, same) = only_import (plc.origin a).import y (ap (λ (p : Plan). slice_get p.imports (plc.origin a).import) (sym (name_there (plc.origin a).number named)) ∙ at) in
       ((λ b. plc.import (sym number b) (sym none b)) ∙ home, same)
 
@@ -229,7 +229,7 @@ module _
       ]
 
   ways : (k : ℕ) (u : Tie) → Contains numbers k → nat_eq k n ≡ true → Contains (supply_ties types inner k) u → LaidWay u
-  ways k u has named has_u = name_way u (subst (λ (a : ℕ). Contains (supply_ties types inner a) u) (true_eq k n named) has_u)
+  ways k u has named has_u = name_way u (subst (λ (a : ℕ). Contains (supply_ties types inner a) u) (eqb-true k n named) has_u)
 
   -- the handshakes of the own part
   abbrev PortAt : ℕ → Contact → Type 0
@@ -259,7 +259,7 @@ module _
   whose : (y : Part) (o : Source) → IsFrom (parts_of types (Under t [] (OfNew w) n m)) ns env y o → Whose o
   whose y (Own zero) has = inr refl
   whose y (Own (suc a)) has =
-      let low = got_below (parts_of types (Under t [] (OfNew w) n m)) (suc a) y has in
+      let low = slice_get_within (parts_of types (Under t [] (OfNew w) n m)) (suc a) y has in
       let less : suc a < 1 + size s.frame = omega (arith, low) in inl (in_range_true 1 (size s.frame) (suc a) (omega arith) less)
   whose y (Supplied a b) (has, at) = inl (bodies.outer_kept types i j w n t m ns env pl x done type_m type_n bound a has)
 
@@ -295,9 +295,9 @@ module _
 
   own_asker : (h q c : ℕ) → slice_get (part_contacts local_part) h ≡ Some (asks q c) → Asker (PartEnd (pl.own 0) h)
   own_asker zero q c e = inl (Within 0 (Of (ResultEnd 0)), ap (back s.frame) (own_dot 0) ∙ own_part s.frame 0)
-  own_asker (suc zero) q c e = absurd (serves_not_asks 0 w q c e)
-  own_asker (suc (suc zero)) q c e = absurd (serves_not_asks w 0 q c e)
-  own_asker (suc (suc (suc zero))) q c e = absurd (serves_not_asks 0 v q c e)
+  own_asker (suc zero) q c e = absurd (serves_is_not_asks 0 w q c e)
+  own_asker (suc (suc zero)) q c e = absurd (serves_is_not_asks w 0 q c e)
+  own_asker (suc (suc (suc zero))) q c e = absurd (serves_is_not_asks 0 v q c e)
   own_asker (suc (suc (suc (suc h)))) q c e = absurd (none-some (asks q c) e)
 
   part_asker : (a h q c : ℕ) → contact_at r (PartEnd a h) ≡ Some (asks q c) → placed pl (pl.source a) ≡ a → Whose (pl.source a) → Asker (PartEnd a h)
@@ -313,7 +313,7 @@ module _
 
   asker : (a : End) (q c : ℕ) → contact_at r a ≡ Some (asks q c) → Asker a
   asker (PartEnd a h) q c con =
-      let (y, at) = part_at (slice_get r.parts a) h (asks q c) con in
+      let (y, at) = part_is_there (slice_get r.parts a) h (asks q c) con in
       let (from, placed_at) = is.no_more a y at in part_asker a h q c con placed_at (whose y (pl.source a) from)
   asker (ImportEnd a h) q c con =
       let (y, at) = there_is r.imports a h (asks q c) con in

@@ -3,12 +3,13 @@ use Rattle.std.specs.Prelude.{◌≡◌, ℕ, zero, suc, ◌+◌, ◌<◌, ◌�
 use Rattle.std.proofs.Common.{refl, sym, ◌∙◌, ap, subst, arith, inl, inr}
 use Rattle.std.proofs.lemmas.Option.{none-some}
 use Rattle.std.proofs.lemmas.List.Elements.{Contains-append_left, Contains-append_right, Contains-append_cases}
+use Rattle.std.proofs.lemmas.Bool.{eq-eqb, ne_eqb, eqb-false}
 use Rattle.gos_types.specs.Types.{Type', Com, Exp, Var, Pair, Fun, IsDone}
 use Rattle.gos_model.specs.Terms.{Name, Import}
 use Rattle.gos_model.specs.Typing.{Imported}
 use Rattle.gos_check.specs.Nodes.{Numbered, Under, OfNew}
 use Rattle.gos_check.specs.Linearity.{times, made}
-use Rattle.gos_check.proofs.TimesLemmas.{eq_true, eq_false, false_ne, times-append, times_same, some_times}
+use Rattle.gos_check.proofs.TimesLemmas.{times-append, times_same, some_times}
 use Rattle.gos_plan.specs.Kinds as kinds
 use Rattle.gos_plan.specs.Kinds.{Part, Contact, asks, contacts_of, part_contacts}
 use Rattle.gos_plan.specs.Plans.{End, PartEnd, ImportEnd, ResultEnd, turned_if}
@@ -143,7 +144,7 @@ module _
 
   pub not_bound : (k : ℕ) → Contains ns k → nat_eq k n ≡ false
   not_bound k has =
-      eq_false k n
+      ne_eqb k n
       (λ (same : k ≡ n).
       let many = some_times k ns has in
       let one = once_in k in
@@ -159,7 +160,7 @@ module _
     where
       by_list : Contains ns k ⊎ Contains (n ∷ []) k → Contains ns k
       by_list (inl there) = there
-      by_list (inr (zero, lt, e)) = absurd (false_ne k n other (sym e))
+      by_list (inr (zero, lt, e)) = absurd (eqb-false k n other (sym e))
       by_list (inr (suc a, lt, e)) = absurd (omega (arith, lt))
 
   pub outer_kept : (k : ℕ) → Contains ns k → kept f k ≡ true
@@ -242,7 +243,7 @@ module _
   name_in h lt =
       supply_in (name_tie h)
       (Contains-append_left (within (suc n) (own_web (inner n).plan).ties) (result_ties n 0 (count (types n))) (name_tie h)
-      (subst (λ (y : Supply). Contains (within (suc n) (own_web y.plan).ties) (name_tie h)) (sym (name_there n (eq_true n n refl))) (name_has h lt)))
+      (subst (λ (y : Supply). Contains (within (suc n) (own_web y.plan).ties) (name_tie h)) (sym (name_there n (eq-eqb n n refl))) (name_has h lt)))
 
   -- from the number, by its supply's result, to the import
   variable_way : (h : ℕ) → h < 2 → Way (its_web s).ties (Within 0 (Number n h)) (Within (suc n) (Of (ImportEnd 0 h)))

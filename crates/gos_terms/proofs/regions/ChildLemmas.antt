@@ -1,26 +1,26 @@
 -- The plan of a child, with its supplies, without joints; how it is numbered, and that it lies in the plan of its node as a fold.
 use Rattle.std.specs.Prelude.{◌≡◌, ℕ, zero, suc, ◌+◌, ◌-◌, ◌<◌, ◌≤◌, ◌⊎◌, Bool, true, false, List, [], ◌∷◌, length, Option, Some, None, slice_get, nat_eq, Contains, if◌then◌else◌}
 use Rattle.std.proofs.Common.{refl, sym, ◌∙◌, ap, subst, arith}
-use Rattle.std.proofs.lemmas.Option.{none-some, same_Some}
+use Rattle.std.proofs.lemmas.Option.{none-some, same_Some, slice_get_within}
 use Rattle.gos_model.specs.Typing.{Imported}
 use Rattle.gos_check.specs.Nodes.{Numbered}
 use Rattle.gos_check.specs.Linearity.{times, made, used}
 use Rattle.gos_plan.specs.Kinds.{Part, Contact}
 use Rattle.gos_plan.specs.Plans.{End, PartEnd, ImportEnd, ResultEnd, Plan, contacts_of_import, contact_at}
 use Rattle.gos_plan.specs.Tokens.{IsPortEnd}
+use Rattle.gos_plan.proofs.ContactLemmas.{part_is_there}
 use Rattle.gos_realises.specs.realises.Regular.{count}
 use Rattle.gos_realises.specs.realises.Modules.{Supply}
 use Rattle.gos_realises.proofs.realises.ToldLemmas.{there_is}
 use Rattle.gos_ties.specs.declared.points.Place.TheVariants as places
 use Rattle.gos_joining.specs.webs.Webs.{Dot, Of, Within, Tie, Web, Way}
 use Rattle.gos_joining.specs.webs.Cutting.{Cut, IsOutside}
-use Rattle.gos_joining.proofs.webs.CutLemmas.{part_at}
 use Rattle.gos_nodes.specs.folds.Folds.{Fold, Follows, IsFolded}
 use Rattle.gos_compile.specs.Wiring.{row, parts_of, type_of_node, ties_of}
 use Rattle.gos_terms.specs.wired.Wired as origins
 use Rattle.gos_terms.specs.wired.Wired.{Supplies, Source, Own, Supplied, Placing, IsFrom, placed, source_dot, dot_ties, supply_ties, wired_web, IsWired}
 use Rattle.gos_terms.proofs.regions.SpanLemmas.{EachPoint}
-use Rattle.gos_terms.proofs.regions.NumberingLemmas.{origin, got_below, all_parts, all_imports, numbering, part_there, part_is, import_is}
+use Rattle.gos_terms.proofs.regions.NumberingLemmas.{origin, all_parts, all_imports, numbering, part_there, part_is, import_is}
 use Rattle.gos_terms.proofs.regions.FrameLemmas.{Frame, kept, known, size, in_range, in_range_true, in_range_is, itself_true, kept_true, kept_is, part_held, back, laid, laid_end, Comes, its_ties_there}
 
 -- a source of the child's is one of the node's
@@ -153,9 +153,6 @@ pub record HasPorts (s : Sitting) (r : Plan) : Type 0 where
       → s.frame.port h ≡ Some y → contact_at r (PartEnd (s.placing.own 0) h) ≡ Some k
       → (d : End) × IsPortEnd d × (its_outer s d ≡ PartEnd (s.placing.own 0) h) × (contact_at (child_plan s) d ≡ Some k)
 
-clash : (b : Bool) → b ≡ true → b ≡ false → ⊥
-clash b holds un = let bad : true ≡ false = sym holds ∙ un in cc bad
-
 module _
     (s : Sitting) (r : Plan) (sits : IsSitting s) (ports : HasPorts s r)
     (is : IsWired s.frame.types s.frame.first s.node s.whole s.numbers s.outside s.placing r) where
@@ -194,7 +191,7 @@ module _
 
   number_raised : (x : Part) (o : Source) → From x o → number_of f plc (Some x) (raised f.shift o) ≡ Some (placed plc o)
   number_raised x (Own k) has =
-      let low = got_below (child_parts s) k x has in
+      let low = slice_get_within (child_parts s) k x has in
       let less : f.shift + k - f.shift ≡ k = omega arith in
       ap (λ (b : Bool). number_if b (f.shift + k - f.shift)) (in_range_true f.shift (size f) (f.shift + k) (omega arith) (omega (arith, low))) ∙ ap Some less
   number_raised x (Supplied n k) (there, has) =
@@ -288,14 +285,14 @@ module _
   source_back : (x : Part) (o : Source) (h : ℕ) → From x o
       → back f (source_dot f.first (raised f.shift o) h) ≡ Some (source_dot (f.first + f.shift) o h)
   source_back x (Own k) h has =
-      let low = got_below (child_parts s) k x has in
+      let low = slice_get_within (child_parts s) k x has in
       ap (back f) (sym (sum_dot k h)) ∙ part_held f sits.shifted (f.first + f.shift + k) h (omega arith) (omega (arith, low))
   source_back x (Supplied n k) h (there, has) =
       itself_true (kept f n) (Within (suc n) (Of (PartEnd k h))) (kept_true f n there (unnamed_part n k x there has))
 
   part_folded : (i h : ℕ) (k : Contact) → contact_at c (PartEnd i h) ≡ Some k → IsFolded (its_fold s r) (whole_web s) (its_web s) (PartEnd i h)
   part_folded i h k e =
-      let (x, at) = part_at (slice_get c.parts i) h k e in
+      let (x, at) = part_is_there (slice_get c.parts i) h k e in
       let there = its_part i x at in (
         source_laid x (plc.source i) h there.from ∙ ap (λ (o : Source). source_dot f.first o h) (sym there.source),
         ap (λ (o : Source). back f (source_dot f.first o h)) there.source ∙ source_back x (plc.source i) h there.from,

@@ -4,18 +4,18 @@ use Rattle.std.proofs.Common.{refl, sym, ◌∙◌, ap, subst, arith, inl, inr}
 use Rattle.std.proofs.lemmas.Option.{none-some}
 use Rattle.std.proofs.lemmas.List.Elements.{Contains-append_left, Contains-append_right, Contains-append_cases}
 use Rattle.gos_model.specs.Typing.{Imported}
-use Rattle.gos_check.proofs.TimesLemmas.{number_cases}
+use Rattle.gos_model.proofs.NumberLemmas.{number_cases}
 use Rattle.gos_plan.specs.Kinds.{Part, Contact}
 use Rattle.gos_plan.specs.Plans.{End, PartEnd, ImportEnd, ResultEnd, Joint, Plan, contacts_of_import, contact_at}
 use Rattle.gos_plan.specs.Tokens.{IsPortEnd}
+use Rattle.gos_plan.proofs.ContactLemmas.{part_is_there}
 use Rattle.gos_realises.specs.realises.Regular.{count}
 use Rattle.gos_realises.specs.realises.Modules.{Supply}
 use Rattle.gos_realises.proofs.realises.ToldLemmas.{there_is}
 use Rattle.gos_ties.specs.declared.points.Place.TheVariants as places
 use Rattle.gos_joining.specs.webs.Webs as webs
-use Rattle.gos_joining.specs.webs.Webs.{Dot, Of, Number, Within, Tie, tie, Web, Way, here, along}
+use Rattle.gos_joining.specs.webs.Webs.{Dot, Of, Number, Within, Tie, tie, Web, Way}
 use Rattle.gos_joining.specs.webs.Cutting.{IsOutside}
-use Rattle.gos_joining.proofs.webs.CutLemmas.{part_at}
 use Rattle.gos_joining.specs.unions.Unions.{within}
 use Rattle.gos_joining.proofs.unions.UnionLemmas.{of_image, in_image}
 use Rattle.gos_nodes.specs.windows.Regions.{IsOther, IsRegion}
@@ -29,14 +29,11 @@ use Rattle.gos_terms.proofs.regions.NumberingLemmas.{part_there, part_is, import
 use Rattle.gos_terms.proofs.regions.FrameLemmas.{Frame, kept, known, size, in_range, in_range_true, in_range_is, itself_is, itself_true, itself_false, kept_is, known_of, other_part, own_part, back, laid, Held, its_ties, its_ties_there, led, leads, lead_tie, supply_each}
 use Rattle.gos_terms.proofs.regions.ChildLemmas.{Sitting, child_parts, child_placing, child_plan, its_outer, its_cut, its_fold, its_web, whole_web, whole_ties, number_of, number_if, port_of, IsSitting, HasPorts}
 use Rattle.gos_terms.proofs.regions.ChildLemmas as children
-
--- one tie is a way
-one_tie : (ts : List Tie) (a b : Dot) → Contains ts (tie a b) → Way ts a b
-one_tie ts a b has = along a b b (inl has) (here b)
+use Rattle.gos_terms.proofs.stages.WayLemmas.{way_by_tie}
 
 follows_one : (ts : List Tie) (o p : Option Dot) (x y : Dot) → o ≡ Some x → p ≡ Some y → Contains ts (tie x y) → Follows ts o p
 follows_one ts o p x y e d has =
-    subst (λ (a : Option Dot). Follows ts a p) (sym e) (subst (λ (b : Option Dot). Follows ts (Some x) b) (sym d) (one_tie ts x y has))
+    subst (λ (a : Option Dot). Follows ts a p) (sym e) (subst (λ (b : Option Dot). Follows ts (Some x) b) (sym d) (way_by_tie ts x y has))
 
 pub follows_none : (ts : List Tie) (o p : Option Dot) → o ≡ None → p ≡ None → Follows ts o p
 follows_none ts o p e d =
@@ -107,7 +104,7 @@ module _
             of_image (λ (x : Tie). tie (Within 0 x.one) (Within 0 x.other)) mine t
             (subst (λ (ts : List Tie). Contains (within 0 ts) t) same_ties own) in
             subst (λ (x : Tie). Way w.ties (laid f x.one) (laid f x.other)) same
-            (one_tie w.ties (laid f (Within 0 u.one)) (laid f (Within 0 u.other))
+            (way_by_tie w.ties (laid f (Within 0 u.one)) (laid f (Within 0 u.other))
             (whole_in (lead_tie f sits.shifted sits.knows u)
             (sits.ties (lead_tie f sits.shifted sits.knows u) (leads f sits.shifted sits.knows u has_u))))
         | inr later ↦
@@ -122,7 +119,7 @@ module _
           supply_each f.types s.supplies n (λ (d : Dot). laid f d ≡ d) (λ e. children.laid_supplied s r sits ports is n e unnamed) (λ h. refl) t has_n in
           subst (λ (a : Dot). Way w.ties a (laid f t.other)) (sym each.one)
           (subst (λ (b : Dot). Way w.ties t.one b) (sym each.other)
-          (one_tie w.ties t.one t.other (outer_in n t out (same_supply n t same has_n))))
+          (way_by_tie w.ties t.one t.other (outer_in n t out (same_supply n t same has_n))))
 
   its_stays : (t : Tie) → Contains w.ties t → Follows v.ties (back f t.one) (back f t.other)
   its_stays t has =
@@ -189,7 +186,7 @@ module _
 
   its_comes : (e : End) (k : Contact) (y : Dot) → IsOutside (its_cut s r) e → contact_at r e ≡ Some k → back f (w.at e) ≡ Some y → PortAt e k
   its_comes (PartEnd i h) k y out con stands =
-      let (x, at) = part_at (slice_get r.parts i) h k con in
+      let (x, at) = part_is_there (slice_get r.parts i) h k con in
       let (from, placed_at) = is.no_more i x at in
       numbered x (s.placing.source i) i h k y from placed_at (ap (λ (o : Option Part). number_of f (child_placing s) o (s.placing.source i)) (sym at) ∙ out) con stands
   its_comes (ImportEnd i h) k y out con stands =

@@ -4,7 +4,7 @@ use Rattle.std.proofs.Common.{refl, sym, ◌∙◌, ap, subst, arith, inl, inr}
 use Rattle.std.proofs.lemmas.Option.{none-some}
 use Rattle.gos_check.specs.Nodes.{Numbered}
 use Rattle.gos_check.specs.Linearity.{times, made, used}
-use Rattle.gos_check.proofs.TimesLemmas.{eq_true, eq_false, some_times, listed_times}
+use Rattle.gos_check.proofs.TimesLemmas.{some_times, listed_times}
 use Rattle.gos_plan.specs.Plans.{End, PartEnd, ImportEnd, ResultEnd}
 use Rattle.gos_ties.specs.declared.points.Place.TheVariants as places
 use Rattle.gos_ties.specs.declared.points.Point.{Point}
@@ -14,6 +14,8 @@ use Rattle.gos_realises.specs.realises.Regular.{count}
 use Rattle.gos_joining.specs.unions.Unions.{within}
 use Rattle.gos_joining.proofs.unions.UnionLemmas.{of_image, in_image}
 use Rattle.std.proofs.lemmas.List.Elements.{Contains-append_cases}
+use Rattle.std.proofs.lemmas.Bool.{lt-ltb, eq-eqb, ne_eqb, not-true, and_from}
+use Rattle.gos_types.proofs.BoolLemmas.{and_first, and_second}
 use Rattle.gos_compile.specs.Wiring.{Types, row, parts_of, nodes, ties_of}
 use Rattle.gos_terms.specs.wired.Wired.{Supplies, dot_of, dot_ties, result_ties, supply_ties}
 use Rattle.gos_terms.proofs.wired.TieLemmas.{of_results}
@@ -98,31 +100,15 @@ Comes f p = back f (laid f (Within 0 (dot_of p))) ≡ Some (Within 0 (dot_of p))
 abbrev pub Gone : Frame → Point → Type 0
 Gone f p = back f (Within 0 (dot_of p)) ≡ None
 
-both_true : (a b : Bool) → a ≡ true → b ≡ true → a && b ≡ true
-both_true true b e d = d
-both_true false b e d = let no : false ≡ true = e in absurd (cc no)
-
-pub and_first : (a b : Bool) → a && b ≡ true → a ≡ true
-and_first true b e = refl
-and_first false b e = let no : false ≡ true = e in absurd (cc no)
-
-pub and_second : (a b : Bool) → a && b ≡ true → b ≡ true
-and_second true b e = e
-and_second false b e = let no : false ≡ true = e in absurd (cc no)
-
-pub not_true : (a : Bool) → not a ≡ true → a ≡ false
-not_true true e = let no : false ≡ true = e in absurd (cc no)
-not_true false e = refl
-
 pub in_range_true : (low n k : ℕ) → low ≤ k → k < low + n → in_range low n k ≡ true
 in_range_true low n k a b =
     let below : nat_lt k low ≡ false = grind (arith, a) in
     let above : nat_lt k (low + n) ≡ true = grind (arith, b) in
-    both_true (not (nat_lt k low)) (nat_lt k (low + n)) (ap not below) above
+    and_from (not (nat_lt k low)) (nat_lt k (low + n)) (ap not below) above
 
 pub in_range_is : (low n k : ℕ) → in_range low n k ≡ true → (low ≤ k) × (k < low + n)
 in_range_is low n k e =
-    let one = not_true (nat_lt k low) (and_first (not (nat_lt k low)) (nat_lt k (low + n)) e) in
+    let one = not-true (nat_lt k low) (and_first (not (nat_lt k low)) (nat_lt k (low + n)) e) in
     let other = and_second (not (nat_lt k low)) (nat_lt k (low + n)) e in (grind (arith, one), grind (arith, other))
 
 pub out_of_range : (low n k : ℕ) → (k < low) ⊎ (low + n ≤ k) → in_range low n k ≡ false
@@ -146,36 +132,30 @@ pub itself_is : (b : Bool) (d x : Dot) → itself_if b d ≡ Some x → b ≡ tr
 itself_is true d x e = refl
 itself_is false d x e = absurd (none-some x e)
 
-pub lt_true : (a b : ℕ) → a < b → nat_lt a b ≡ true
-lt_true a b h = grind (arith, h)
-
-pub lt_false : (a b : ℕ) → b ≤ a → nat_lt a b ≡ false
-lt_false a b h = grind (arith, h)
-
 pub kept_true : (f : Frame) (n : ℕ) → Contains f.numbers n → f.named n ≡ false → kept f n ≡ true
 kept_true f n has unnamed =
     let many = some_times n f.numbers has in
-    both_true (is_in n f.numbers) (not (f.named n)) (lt_true 0 (times n f.numbers) (omega (arith, many))) (ap not unnamed)
+    and_from (is_in n f.numbers) (not (f.named n)) (lt-ltb 0 (times n f.numbers) (omega (arith, many))) (ap not unnamed)
 
 pub kept_is : (f : Frame) (n : ℕ) → kept f n ≡ true → Contains f.numbers n × (f.named n ≡ false)
 kept_is f n e =
     let one : nat_lt 0 (times n f.numbers) ≡ true = and_first (is_in n f.numbers) (not (f.named n)) e in
     let many : 1 ≤ times n f.numbers = grind (arith, one) in
-    (listed_times n f.numbers many, not_true (f.named n) (and_second (is_in n f.numbers) (not (f.named n)) e))
+    (listed_times n f.numbers many, not-true (f.named n) (and_second (is_in n f.numbers) (not (f.named n)) e))
 
 pub known_of : (f : Frame) (n : ℕ) → Contains f.numbers n → known f n ≡ true
-known_of f n has = let many = some_times n f.numbers has in lt_true 0 (times n (made f.child) + times n f.numbers) (omega (arith, many))
+known_of f n has = let many = some_times n f.numbers has in lt-ltb 0 (times n (made f.child) + times n f.numbers) (omega (arith, many))
 
 -- a dot of a part of the node that isn't its own
 pub other_part : (f : Frame) (k h : ℕ) → k ≢ f.first
     → back f (Within 0 (Of (PartEnd k h))) ≡ itself_if (in_range (f.first + f.shift) (size f) k) (Within 0 (Of (PartEnd k h)))
 other_part f k h other =
-    ap (λ (b : Bool). if b then f.port h else itself_if (in_range (f.first + f.shift) (size f) k) (Within 0 (Of (PartEnd k h)))) (eq_false k f.first other)
+    ap (λ (b : Bool). if b then f.port h else itself_if (in_range (f.first + f.shift) (size f) k) (Within 0 (Of (PartEnd k h)))) (ne_eqb k f.first other)
 
 pub own_part : (f : Frame) (h : ℕ) → back f (Within 0 (Of (PartEnd f.first h))) ≡ f.port h
 own_part f h =
     ap (λ (b : Bool). if b then f.port h else itself_if (in_range (f.first + f.shift) (size f) f.first) (Within 0 (Of (PartEnd f.first h))))
-    (eq_true f.first f.first refl)
+    (eq-eqb f.first f.first refl)
 
 pub part_held : (f : Frame) → 0 < f.shift → (k h : ℕ) → f.first + f.shift ≤ k → k < f.first + f.shift + size f → Held f (Within 0 (Of (PartEnd k h)))
 part_held f some k h low high =
@@ -195,7 +175,7 @@ module _
             λ k h low high.
             itself_true (in_range f.node (nodes f.child) k) (Within 0 (Node k h)) (in_range_true f.node (nodes f.child) k low high);
         numbers =
-            λ k h many. itself_true (known f k) (Within 0 (Number k h)) (lt_true 0 (times k (made f.child) + times k f.numbers) (by_use k many));
+            λ k h many. itself_true (known f k) (Within 0 (Number k h)) (lt-ltb 0 (times k (made f.child) + times k f.numbers) (by_use k many));
       }
     where
       by_use : (k : ℕ) → 0 < times k (made f.child) + times k (used f.child) → 0 < times k (made f.child) + times k f.numbers

@@ -3,11 +3,11 @@ use Rattle.std.specs.Prelude.{◌≡◌, ◌≢◌, ℕ, zero, suc, Bool, true, 
 use Rattle.std.proofs.Common.{refl, sym, ◌∙◌, ap, arith, inl, inr}
 use Rattle.std.proofs.lemmas.Option.{none-some, same_Some}
 use Rattle.std.proofs.lemmas.List.Elements.{Contains-append_cases}
+use Rattle.std.proofs.lemmas.Bool.{eqb-true}
 use Rattle.gos_types.specs.Types.{Type', Var}
 use Rattle.gos_model.specs.Terms.{Name, Import}
 use Rattle.gos_model.specs.Typing.{Imported}
 use Rattle.gos_check.specs.Nodes.{Numbered, Under, OfNew}
-use Rattle.gos_check.proofs.TimesLemmas.{true_eq}
 use Rattle.gos_plan.specs.Plans.{Plan}
 use Rattle.gos_realises.specs.realises.Modules.{Supply}
 use Rattle.gos_realises.specs.realises.Realises.{NamesDiffer}
@@ -64,7 +64,7 @@ module _
           → pc.import (pc.origin k).number (pc.origin k).import ≡ k
           → (c : Bool) → nat_eq (pc.origin k).number n ≡ c → IsOf k y
       by_test has there home true is =
-          let number : (pc.origin k).number ≡ n = true_eq (pc.origin k).number n is in
+          let number : (pc.origin k).number ≡ n = eqb-true (pc.origin k).number n is in
           let (first, name) =
           only_import x w (pc.origin k).import y
           (ap (λ (s : Supply). slice_get s.plan.imports (pc.origin k).import) (sym (inner_here n x w env (pc.origin k).number is)) ∙ there) in

@@ -1,13 +1,15 @@
 -- The parts and imports of a node that is wired to supplies: its own parts first, and then those of each supply in turn.
 use Rattle.std.specs.Prelude.{◌≡◌, ◌≢◌, ℕ, zero, suc, ◌+◌, ◌-◌, ◌<◌, ◌≤◌, Bool, true, false, List, [], ◌∷◌, ◌++◌, length, Some, slice_get, nat_lt, nat_eq, Contains, if◌then◌else◌}
 use Rattle.std.proofs.Common.{refl, sym, ◌∙◌, ap, subst, arith}
-use Rattle.std.proofs.lemmas.Option.{none-some}
+use Rattle.std.proofs.lemmas.Option.{none-some, slice_get_within}
+use Rattle.std.proofs.lemmas.Bool.{lt-ltb, le-ltb, eq-eqb, ne_eqb}
+use Rattle.gos_types.proofs.ListLemmas.{found_in_front, found_behind, same_in_front}
 use Rattle.gos_model.specs.Typing.{Imported}
+use Rattle.gos_model.proofs.NumberLemmas.{number_cases}
 use Rattle.gos_plan.specs.Kinds.{Part}
 use Rattle.gos_check.specs.Linearity.{times}
-use Rattle.gos_check.proofs.TimesLemmas.{number_cases, eq_true, eq_false, times_same, some_times}
-use Rattle.gos_realises.proofs.joined.OriginLemmas.{front_at, behind_at}
-use Rattle.gos_joining.proofs.unions.LeftLemmas.{front, behind}
+use Rattle.gos_check.proofs.TimesLemmas.{times_same, some_times}
+use Rattle.gos_realises.proofs.joined.OriginLemmas.{behind_at}
 use Rattle.gos_terms.specs.wired.Wired.{Supplies, Source, Own, Supplied, Origin, Placing, IsFrom, placed}
 
 abbrev pub origin : ℕ → ℕ → Origin
@@ -26,17 +28,6 @@ abbrev pub item : (ℕ → ℕ) → List ℕ → ℕ → Origin
 item len [] i = origin 0 0
 item len (a ∷ ns) i = if nat_lt i (len a) then origin a i else item len ns (i - len a)
 
-below_lt : (a b : ℕ) → a < b → nat_lt a b ≡ true
-below_lt a b h = grind (arith, h)
-
-above_lt : (a b : ℕ) → b ≤ a → nat_lt a b ≡ false
-above_lt a b h = grind (arith, h)
-
-pub got_below : {A : Type 0} (xs : List A) (k : ℕ) (x : A) → slice_get xs k ≡ Some x → k < length xs
-got_below [] k x e = absurd (none-some x e)
-got_below (y ∷ xs) zero x e = omega arith
-got_below (y ∷ xs) (suc k) x e = let h = got_below xs k x e in omega (arith, h)
-
 pub contains_cons : (a : ℕ) (ns : List ℕ) (n : ℕ) → Contains (a ∷ ns) n → a ≢ n → Contains ns n
 contains_cons a ns n (zero, lt, e) other = absurd (other e)
 contains_cons a ns n (suc k, lt, e) other = (k, omega (arith, lt), e)
@@ -51,18 +42,18 @@ module _ {A : Type 0} (of : ℕ → List A) where
   item_there (a ∷ ns) n k x there has =
       number_cases n a
       (λ same test.
-      let lt : k < len a = subst (λ m. k < len m) same (got_below (of n) k x has) in
+      let lt : k < len a = subst (λ m. k < len m) same (slice_get_within (of n) k x has) in
       rw test (
-        front (of a) (all_in of ns) k x (subst (λ m. slice_get (of m) k ≡ Some x) same has),
-        rw (below_lt k (len a) lt) (ap (λ m. origin m k) (sym same)),
+        found_in_front (of a) (all_in of ns) k x (subst (λ m. slice_get (of m) k ≡ Some x) same has),
+        rw (lt-ltb k (len a) lt) (ap (λ m. origin m k) (sym same)),
       ))
       (λ other test.
       let rest = item_there ns n k x (contains_cons a ns n there (λ e. other (sym e))) has in
       let s : ℕ = spot len ns n k in
       let less : len a + s - len a ≡ s = omega arith in
       rw test (
-        behind (of a) (all_in of ns) s ∙ rest.0,
-        rw (above_lt (len a + s) (len a) (omega arith)) (ap (item len ns) less ∙ rest.1),
+        found_behind (of a) (all_in of ns) s ∙ rest.0,
+        rw (le-ltb (len a + s) (len a) (omega arith)) (ap (item len ns) less ∙ rest.1),
       ))
 
   abbrev pub IsItem : List ℕ → ℕ → A → Origin → Type 0
@@ -75,8 +66,8 @@ module _ {A : Type 0} (of : ℕ → List A) where
       first : i < len a → IsItem (a ∷ ns) i x (origin a i)
       first lt = (
         (0, omega arith, refl),
-        sym (front_at (of a) (all_in of ns) i lt) ∙ e,
-        ap (λ (b : Bool). if b then i else len a + spot len ns a i) (eq_true a a refl),
+        sym (same_in_front (of a) (all_in of ns) i lt) ∙ e,
+        ap (λ (b : Bool). if b then i else len a + spot len ns a i) (eq-eqb a a refl),
       )
 
       later : len a ≤ i → IsItem ns (i - len a) x (item len ns (i - len a)) → IsItem (a ∷ ns) i x (item len ns (i - len a))
@@ -89,7 +80,7 @@ module _ {A : Type 0} (of : ℕ → List A) where
           let over : times n (n ∷ ns) ≤ 1 = subst (λ m. times n (m ∷ ns) ≤ 1) (sym e) one in omega (arith, twice, over, many) in (
             (suc j, omega (arith, lt), same),
             is,
-            ap (λ (b : Bool). if b then o.import else len a + spot len ns n o.import) (eq_false n a differ) ∙ omega (arith, at, large),
+            ap (λ (b : Bool). if b then o.import else len a + spot len ns n o.import) (ne_eqb n a differ) ∙ omega (arith, at, large),
           )
 
       tested : (slice_get (all_in of ns) (i - len a) ≡ Some x → IsItem ns (i - len a) x (item len ns (i - len a)))
@@ -140,16 +131,16 @@ module _ (own : List Part) (env : Supplies) (ns : List ℕ) where
   pub part_there : (x : Part) (s : Source) → IsFrom own ns env x s
       → (slice_get (all_parts own env ns) (placed pl s) ≡ Some x) × (pl.source (placed pl s) ≡ s)
   part_there x (Own k) has = (
-    front own (all_in (part_list env) ns) k x has,
-    ap (λ (b : Bool). if b then Own k else supplied_by (item lens ns (k - length own))) (below_lt k (length own) (got_below own k x has)),
+    found_in_front own (all_in (part_list env) ns) k x has,
+    ap (λ (b : Bool). if b then Own k else supplied_by (item lens ns (k - length own))) (lt-ltb k (length own) (slice_get_within own k x has)),
   )
   part_there x (Supplied n k) (there, has) =
       let at = item_there (part_list env) ns n k x there has in
       let s : ℕ = spot lens ns n k in
       let less : length own + s - length own ≡ s = omega arith in (
-        behind own (all_in (part_list env) ns) s ∙ at.0,
+        found_behind own (all_in (part_list env) ns) s ∙ at.0,
         ap (λ (b : Bool). if b then Own (length own + s) else supplied_by (item lens ns (length own + s - length own)))
-            (above_lt (length own + s) (length own) (omega arith))
+            (le-ltb (length own + s) (length own) (omega arith))
             ∙ (ap (λ m. supplied_by (item lens ns m)) less ∙ ap supplied_by at.1),
       )
 
@@ -163,7 +154,7 @@ module _ (own : List Part) (env : Supplies) (ns : List ℕ) where
       tested : (b : Bool) → nat_lt k (length own) ≡ b → Is (pl.source k)
       tested true t =
           subst (λ (b : Bool). Is (if b then Own k else supplied_by (item lens ns (k - length own)))) (sym t)
-          (sym (front_at own (all_in (part_list env) ns) k (grind (arith, t))) ∙ e, refl)
+          (sym (same_in_front own (all_in (part_list env) ns) k (grind (arith, t))) ∙ e, refl)
       tested false t =
           let large : length own ≤ k = grind (arith, t) in
           let (there, is, at) = item_is (part_list env) ns once (k - length own) x (sym (behind_at own (all_in (part_list env) ns) k large) ∙ e) in

@@ -1,9 +1,10 @@
 -- A node `m || n` that is wired to supplies is made of its sides, wired to theirs.
 use Rattle.std.specs.Prelude.{◌≡◌, ℕ, zero, suc, ◌+◌, ◌<◌, ◌≤◌, ◌⊎◌, Bool, true, false, List, [], ◌∷◌, ◌++◌, length, Option, Some, slice_get, nat_lt, Contains}
 use Rattle.std.proofs.Common.{refl, sym, ◌∙◌, ap, subst, arith, inl, inr, length-append}
-use Rattle.std.proofs.lemmas.Option.{none-some}
+use Rattle.std.proofs.lemmas.Option.{none-some, slice_get_within}
 use Rattle.std.proofs.lemmas.List.Elements.{Contains-append_left, Contains-append_right, Contains-append_cases}
 use Rattle.gos_types.specs.Types.{Type', Com}
+use Rattle.gos_types.proofs.ListLemmas.{found_in_front, found_behind}
 use Rattle.gos_check.specs.Nodes.{Numbered, Two, OfPar}
 use Rattle.gos_check.specs.Linearity.{times}
 use Rattle.gos_check.proofs.TimesLemmas.{some_times, listed_times}
@@ -11,6 +12,7 @@ use Rattle.gos_plan.specs.Kinds as kinds
 use Rattle.gos_plan.specs.Kinds.{Part, asks, contacts_of, part_contacts}
 use Rattle.gos_plan.specs.Plans.{End, PartEnd, ImportEnd, ResultEnd, Joint, Plan, contacts_of_part, turned_if, contact_at}
 use Rattle.gos_plan.proofs.JointLemmas.{one_joint, contained}
+use Rattle.gos_plan.proofs.ContactLemmas.{serves_is_not_asks, part_is_there}
 use Rattle.gos_realises.specs.realises.Regular.{count}
 use Rattle.gos_realises.specs.realises.Realises.{NamesDiffer, HaveOtherNames}
 use Rattle.gos_realises.proofs.realises.ToldLemmas.{there_is}
@@ -22,10 +24,8 @@ use Rattle.gos_ties.specs.Ties as paths
 use Rattle.gos_ties.specs.Ties.{point}
 use Rattle.gos_joining.specs.webs.Webs.{Dot, Of, Within, Tie, tie, Way, here, along, joint}
 use Rattle.gos_joining.specs.webs.Cutting.{Cut}
-use Rattle.gos_joining.proofs.webs.CutLemmas.{part_at}
-use Rattle.gos_joining.proofs.webs.WebLemmas.{serves_not_asks, asks_there}
+use Rattle.gos_joining.proofs.webs.WebLemmas.{asks_there}
 use Rattle.gos_joining.proofs.unions.UnionLemmas.{of_image, in_image}
-use Rattle.gos_joining.proofs.unions.LeftLemmas.{front, behind}
 use Rattle.gos_joining.specs.unions.Unions.{within}
 use Rattle.gos_nodes.specs.folds.Folds.{joined_cut, with_joints}
 use Rattle.gos_nodes.specs.parallel.Parallel.{IsJointOf, IsPartOf, IsParallel}
@@ -33,7 +33,6 @@ use Rattle.gos_compile.specs.Wiring.{Types, row, parts_of, nodes, type_of_node, 
 use Rattle.gos_terms.specs.wired.Wired.{Supplies, Source, Own, Supplied, Placing, IsFrom, placed, source_dot, dot_of, dot_ties, all_supply_ties, IsWired}
 use Rattle.gos_terms.specs.wired.Wired as origins
 use Rattle.gos_terms.specs.regions.Frames.{AreParted, AreSides, ParallelIsWired}
-use Rattle.gos_terms.proofs.regions.NumberingLemmas.{got_below}
 use Rattle.gos_terms.proofs.regions.FrameLemmas.{Frame, kept, in_range_true, in_range_is, itself_true, kept_true, kept_is, own_part, back}
 use Rattle.gos_terms.proofs.regions.ChildLemmas.{Sitting, IsSitting, HasPorts, child_placing, child_plan, number_of, its_cut, whole_web}
 use Rattle.gos_terms.proofs.regions.FoldLemmas.{HasPlan}
@@ -137,11 +136,11 @@ module _
   -- the parts of the node
   left_part : (a : ℕ) (x : Part) → slice_get pm a ≡ Some x → slice_get (parts_of types whole) (1 + a) ≡ Some x
   left_part a x e =
-      let next : 1 + a ≡ suc a = omega arith in ap (slice_get (parts_of types whole)) next ∙ front pm pn a x e
+      let next : 1 + a ≡ suc a = omega arith in ap (slice_get (parts_of types whole)) next ∙ found_in_front pm pn a x e
 
   right_part : (a : ℕ) (x : Part) → slice_get pn a ≡ Some x → slice_get (parts_of types whole) (1 + lm + a) ≡ Some x
   right_part a x e =
-      let next : 1 + lm + a ≡ suc (lm + a) = omega arith in ap (slice_get (parts_of types whole)) next ∙ (behind pm pn a ∙ e)
+      let next : 1 + lm + a ≡ suc (lm + a) = omega arith in ap (slice_get (parts_of types whole)) next ∙ (found_behind pm pn a ∙ e)
 
   abbrev LeftOf : Type 0
   LeftOf = IsSideOf types i 0 1 (suc j) m ms 1 (1 + lm) (suc j + nodes m) n ks j whole ns run
@@ -222,7 +221,7 @@ module _
   whose : (x : Part) (o : Source) → IsFrom (parts_of types whole) ns env x o → Whose o
   whose x (Own zero) has = inr refl
   whose x (Own (suc a)) has =
-      let low = got_below (parts_of types whole) (suc a) x has in
+      let low = slice_get_within (parts_of types whole) (suc a) x has in
       let long = length-append pm pn in
       tested (nat_lt a lm) refl (omega (arith, low, long))
     where
@@ -295,7 +294,7 @@ module _
   own_asker : (h q v : ℕ) → slice_get (part_contacts kinds.Par) h ≡ Some (asks q v) → Asker (PartEnd (pl.own 0) h)
   own_asker zero q v e = inl (inl (Within 0 (Of (ResultEnd 0)), ap (back fl) (own_dot 0) ∙ own_part fl 0))
   own_asker (suc zero) q v e = inl (inr (Within 0 (Of (ResultEnd 0)), ap (back fr) (own_dot 1) ∙ own_part fr 1))
-  own_asker (suc (suc zero)) q v e = absurd (serves_not_asks 0 0 q v e)
+  own_asker (suc (suc zero)) q v e = absurd (serves_is_not_asks 0 0 q v e)
   own_asker (suc (suc (suc h))) q v e = absurd (none-some (asks q v) e)
 
   part_asker : (a h q v : ℕ) → contact_at r (PartEnd a h) ≡ Some (asks q v) → (pl.source a ≡ Own 0 → placed pl (pl.source a) ≡ a)
@@ -327,7 +326,7 @@ module _
 
   asker : (a : End) (q v : ℕ) → contact_at r a ≡ Some (asks q v) → Asker a
   asker (PartEnd a h) q v con =
-      let (x, at) = part_at (slice_get r.parts a) h (asks q v) con in
+      let (x, at) = part_is_there (slice_get r.parts a) h (asks q v) con in
       let (from, placed_at) = is.no_more a x at in
       part_asker a h q v con (λ own. placed_at) (whose x (pl.source a) from)
   asker (ImportEnd a h) q v con =

@@ -2,10 +2,11 @@
 use Rattle.std.specs.Prelude.{◌≡◌, ◌≢◌, ℕ, zero, suc, ◌+◌, ◌-◌, ◌<◌, ◌≤◌, ◌⊎◌, Bool, true, false, ◌&&◌, List, [], ◌∷◌, length, Option, Some, None, slice_get, nat_lt, nat_eq, Contains, if◌then◌else◌}
 use Rattle.std.proofs.Common.{refl, sym, ◌∙◌, ap, subst, arith, inl, inr}
 use Rattle.std.proofs.lemmas.Option.{none-some, same_Some}
+use Rattle.std.proofs.lemmas.Bool.{eqb-true, le-ltb, eq-eqb}
 use Rattle.gos_types.specs.Types.{Type', Com}
 use Rattle.gos_check.specs.Nodes.{Numbered}
 use Rattle.gos_check.specs.Linearity.{times, made, used}
-use Rattle.gos_check.proofs.TimesLemmas.{eq_true, true_eq, some_times, listed_times}
+use Rattle.gos_check.proofs.TimesLemmas.{some_times, listed_times}
 use Rattle.gos_plan.specs.Kinds.{Part, Contact, asks, contacts_of, part_contacts}
 use Rattle.gos_plan.specs.Plans.{End, PartEnd, ResultEnd, Plan, contacts_of_part, turned_if, contact_at}
 use Rattle.gos_realises.specs.realises.Regular.{count}
@@ -18,7 +19,7 @@ use Rattle.gos_nodes.specs.folds.Folds as folds
 use Rattle.gos_compile.specs.Wiring.{Types, row, parts_of, nodes, type_of_node, ties_of}
 use Rattle.gos_terms.specs.wired.Wired.{Supplies, Source, Own, Placing, source_dot, dot_of, dot_ties}
 use Rattle.gos_terms.proofs.regions.SpanLemmas.{Both, HoldsInside, spans, one_tie}
-use Rattle.gos_terms.proofs.regions.FrameLemmas.{Frame, is_in, kept, known, size, in_range, itself_false, out_of_range, lt_false, other_part, own_part, back, Gone, its_ties_there}
+use Rattle.gos_terms.proofs.regions.FrameLemmas.{Frame, is_in, kept, known, size, in_range, itself_false, out_of_range, other_part, own_part, back, Gone, its_ties_there}
 use Rattle.gos_terms.proofs.regions.FoldLemmas.{follows_none}
 use Rattle.gos_terms.proofs.regions.ChildLemmas.{Sitting, child_placing, child_plan, number_of, number_if, its_cut, its_web, whole_web, IsPort, IsSitting, HasPorts}
 
@@ -95,10 +96,10 @@ module _
   s = side_sitting types i asked shift l m ms j whole ns env pl
 
   out_known : (n : ℕ) → times n (made m) + times n ms ≡ 0 → known f n ≡ false
-  out_known n none = lt_false 0 (times n (made m) + times n ms) (omega (arith, none))
+  out_known n none = le-ltb 0 (times n (made m) + times n ms) (omega (arith, none))
 
   its_handshake : back f (Within 0 (Of (PartEnd i asked))) ≡ Some (Within 0 (Of (ResultEnd 0)))
-  its_handshake = own_part f asked ∙ ap result_if (eq_true asked asked refl)
+  its_handshake = own_part f asked ∙ ap result_if (eq-eqb asked asked refl)
 
   -- the other side's ties are none of its own
   gone_inside : HoldsInside (Gone f) types (i + other_shift) k o
@@ -224,8 +225,8 @@ module _
         record {
           outside = own_outside;
           inner =
-              ap (λ (b : Bool). if b then result_end_if (nat_eq asked asked) else None) (eq_true (pl.own 0) (pl.own 0) refl)
-              ∙ ap result_end_if (eq_true asked asked refl);
+              ap (λ (b : Bool). if b then result_end_if (nat_eq asked asked) else None) (eq-eqb (pl.own 0) (pl.own 0) refl)
+              ∙ ap result_end_if (eq-eqb asked asked refl);
           contact = own_contact;
           folded = (sym own_dot, ap (back f) own_dot ∙ its_handshake);
         }
@@ -245,7 +246,7 @@ module _
           ways = λ n t has named has_t. absurd (cc named);
           own =
               λ h c y stands con.
-              let same : h ≡ asked = true_eq h asked (asked_is (nat_eq h asked) y stands) in
+              let same : h ≡ asked = eqb-true h asked (asked_is (nat_eq h asked) y stands) in
               let one : asks 0 0 ≡ c = same_Some (asks 0 0) c (sym own_contact ∙ (ap (λ (n : ℕ). contact_at r (PartEnd (pl.own 0) n)) (sym same) ∙ con)) in (
                 ResultEnd 0,
                 tt,

@@ -1,9 +1,10 @@
 -- Small examples of numbers that are parted and bound, and of what ties speak.
 use Rattle.std.specs.Prelude.{◌≤◌, ℕ, [], ◌∷◌}
 use Rattle.std.proofs.Common.{arith, subst, ◌≡◌, ap, refl}
+use Rattle.gos_model.proofs.NumberLemmas.{number_cases}
 use Rattle.gos_plan.specs.Plans.{PartEnd, ImportEnd}
 use Rattle.gos_check.specs.Linearity.{times}
-use Rattle.gos_check.proofs.TimesLemmas.{number_cases, times_same, times_other}
+use Rattle.gos_check.proofs.TimesLemmas.{times_same, times_other}
 use Rattle.gos_terms.specs.regions.SmallFrames.{UsesAreParted, SharedIsNotParted, UseIsBound, OtherIsNotBound, UseSpeaksOfIt, NotOfParts, WholeIsKept, TornIsNotKept}
 
 -- a list of one number has it once, and of two numbers each once

@@ -1,6 +1,7 @@
 -- What holds of a term's own points, and of those to which its handshakes lead, holds of all points of its ties.
 use Rattle.std.specs.Prelude.{◌-◌, ◌<◌, ◌≤◌, take, drop, length, Contains}
 use Rattle.std.proofs.Common.{◌≡◌, ℕ, zero, suc, ◌+◌, List, [], ◌∷◌, ◌++◌, inl, inr, refl, sym, ◌∙◌, ap, subst, arith, length-append}
+use Rattle.std.proofs.lemmas.List.{append-nil}
 use Rattle.gos_types.specs.Types.{Type'}
 use Rattle.gos_check.specs.declared.linear.Split.{Split}
 use Rattle.gos_check.specs.Nodes.{Numbered, Closed, Use, Under, One, Two, If, Binding, OfFun, OfNew, OneForm, OfFst, OfSnd, OfDeref, OfNot, TwoForm, OfApp, OfBoth, OfSeq, OfPar, OfWhile, OfAssign, OfBin, argument_of}
@@ -26,10 +27,6 @@ EachPoint P (p ∷ ps) = P p × EachPoint P ps
 abbrev pub EachTie : (Tie → Type 0) → List Tie → Type 0
 EachTie Q [] = Unit {0}
 EachTie Q (t ∷ ts) = Q t × EachTie Q ts
-
-append_nil : {A : Type 0} (xs : List A) → xs ++ [] ≡ xs
-append_nil [] = refl
-append_nil (x ∷ xs) = ap (λ ys. x ∷ ys) (append_nil xs)
 
 -- A term's own points: its parts have numbers from i on, and its nodes from j on.
 pub record HoldsInside (P : Point → Type 0) (types : Types) (i j : ℕ) (m : Numbered) : Type 0 where
@@ -219,11 +216,11 @@ module _ (P : Point → Type 0) where
   pub spans : (types : Types) (i j : ℕ) (m : Numbered) (out : List Point)
       → HoldsInside P types i j m → EachPoint P out → EachTie Both (ties_of types i j m out)
   spans types i j (Closed t ss c) out inside all =
-      let (of_shares, parts, numbers) = front types i j (Closed t ss c) ss (closed_part c) [] [] inside refl (sym (append_nil (sides ss))) (sym (append_nil (split_in ss))) in
+      let (of_shares, parts, numbers) = front types i j (Closed t ss c) ss (closed_part c) [] [] inside refl (sym (append-nil (sides ss))) (sym (append-nil (split_in ss))) in
       ties_both (shares_ties i ss types) (led out (places.Part (i + length ss)) 0) of_shares
       (led_holds (places.Part (i + length ss)) (λ h. parts (i + length ss) h (omega arith) (let some = closed_length c in omega (arith, some))) out all 0)
   spans types i j (Use t ss n) out inside all =
-      let (of_shares, parts, numbers) = front types i j (Use t ss n) ss [] [] (n ∷ []) inside (sym (append_nil (shares ss types))) (sym (append_nil (sides ss))) refl in
+      let (of_shares, parts, numbers) = front types i j (Use t ss n) ss [] [] (n ∷ []) inside (sym (append-nil (shares ss types))) (sym (append-nil (sides ss))) refl in
       ties_both (shares_ties i ss types) (led out (places.Number n) 0) of_shares
       (led_holds (places.Number n) (λ h. numbers n h (let same = times_same n [] in omega (arith, same))) out all 0)
   spans types i j (Under t ss b n m) out inside all =

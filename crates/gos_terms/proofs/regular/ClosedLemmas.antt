@@ -1,9 +1,10 @@
 -- A node, closed by functions over its numbers.
-use Rattle.std.specs.Prelude.{◌≡◌, ℕ, List, [], ◌∷◌, ◌++◌, Some, Contains, slice_get}
+use Rattle.std.specs.Prelude.{◌≡◌, ℕ, List, [], ◌∷◌, ◌++◌, Some, slice_get}
 use Rattle.std.proofs.Common.{refl, sym, ap, subst, arith}
 use Rattle.std.proofs.lemmas.List.{append-nil}
 use Rattle.std.proofs.lemmas.Option.{slice_get_within}
 use Rattle.gos_types.specs.Types.{Fun}
+use Rattle.gos_types.proofs.ListLemmas.{none_in_empty}
 use Rattle.gos_check.specs.Nodes.{Numbered, Under, OfFun, type_of_node}
 use Rattle.gos_check.proofs.TimesLemmas.{times-append}
 use Rattle.gos_plan.specs.Kinds.{Part}
@@ -55,9 +56,6 @@ pub closed_parts : (types : Types) (ns : List ℕ) (m : Numbered) → parts_of t
 closed_parts types [] m = refl
 closed_parts types (n ∷ ns) m = closed_parts types ns m
 
-none_in : (n : ℕ) → Contains [] n → ⊥
-none_in n (k, small, e) = omega (arith, small)
-
 -- Each part of the plan is the node's own.
 abbrev pub at_home : Placing
 at_home =
@@ -71,7 +69,7 @@ module _ (fits : WiredNodeFits) (plain : FittingIsPlain) (types : Types) (i j : 
   there : (x : Part) (s : Source) → IsFrom (parts_of types m) [] env x s
       → (slice_get unjoined.parts (placed at_home s) ≡ Some x) × (at_home.source (placed at_home s) ≡ s)
   there x (Own k) from = (from, refl)
-  there x (Supplied n k) from = absurd (none_in n from.0)
+  there x (Supplied n k) from = absurd (none_in_empty n from.0)
 
   are_placed : IsPlaced types m [] env at_home unjoined
   are_placed =
@@ -79,12 +77,12 @@ module _ (fits : WiredNodeFits) (plain : FittingIsPlain) (types : Types) (i j : 
         outcome = refl;
         parts = there;
         no_more = λ k x at. (at, refl);
-        imports = λ n k x has at. absurd (none_in n has);
+        imports = λ n k x has at. absurd (none_in_empty n has);
         no_import = λ k x at. absurd (let small = slice_get_within unjoined.imports k x at in omega (arith, small));
       }
 
   of_types : AreOfTypes types env []
-  of_types n has = absurd (none_in n has)
+  of_types n has = absurd (none_in_empty n has)
 
   pub closed_wired : (pl : Placing) × (r : Plan) × IsWired types i j m [] env pl r × (r.imports ≡ []) × (r.parts ≡ parts_of types m)
   closed_wired =

@@ -9,6 +9,7 @@ use Rattle.gos_types.specs.declared.shakes.Role.{Role}
 use Rattle.gos_types.specs.declared.shakes.Role.TheVariants.{Serve, Ask}
 use Rattle.gos_types.specs.Types.{Type', Com}
 use Rattle.gos_types.specs.Handshakes.{turned}
+use Rattle.gos_types.proofs.ListLemmas.{element_at}
 use Rattle.gos_model.specs.Terms.{Skip, Import}
 use Rattle.gos_model.specs.Typing.{Imports, Imported}
 use Rattle.gos_check.specs.Nodes.{Numbered, type_of_node}
@@ -39,7 +40,6 @@ use Rattle.gos_terms.proofs.wired.TieLemmas.{import_tie, in_import_ties, inside,
 use Rattle.gos_terms.proofs.wired.TypeLemmas.{type_is}
 use Rattle.gos_terms.proofs.wired.ModuleLemmas.{term_web, of_term}
 use Rattle.gos_terms.specs.regular.Opened.{ModuleIsRegular}
-use Rattle.gos_terms.proofs.regular.OneLemmas.{listed_there}
 
 -- the tie of an import's handshake is that of one that there is
 abbrev OfImport : ℕ → Imports → point_ties.Tie → Type 0
@@ -214,7 +214,7 @@ module _
     own_tie c d has = in_image (λ (j : Joint). tie (Of j.asking) (Of j.serving)) (env n).plan.joints (joint c d) has
 
     through_name : Way ties (Within (suc n) (Of (ImportEnd 0 h))) (Within (suc n) (Of (ResultEnd h)))
-    through_name = let (c, there) = listed_there (contacts_of x.ty) h low in by_role c c.role (name_joint x (env n).plan named h c there)
+    through_name = let (c, there) = element_at (contacts_of x.ty) h low in by_role c c.role (name_joint x (env n).plan named h c there)
       where
         by_role : (c : Contact) (y : Role) → Joined x (env n).plan named h c y
             → Way ties (Within (suc n) (Of (ImportEnd 0 h))) (Within (suc n) (Of (ResultEnd h)))

@@ -4,6 +4,7 @@
 use Rattle.std.specs.Prelude.{◌≡◌, ℕ, suc, ◌<◌, ◌≤◌, List, [], ◌∷◌, ◌++◌, length, Option, Some, None, Contains, slice_get, get_or, ◌⊎◌}
 use Rattle.std.proofs.Common.{refl, sym, ◌∙◌, ap, subst, arith, inl, inr}
 use Rattle.std.proofs.lemmas.Option.{slice_get_within, slice_get_past, slice_get_cases}
+use Rattle.gos_types.proofs.ListLemmas.{element_at, first_is_in, rest_is_in}
 use Rattle.gos_model.specs.Typing.{Imported}
 use Rattle.gos_check.specs.Nodes.{Numbered, type_of_node}
 use Rattle.gos_ties.specs.declared.points.Place.TheVariants as places
@@ -24,17 +25,11 @@ use Rattle.gos_joining.proofs.renumbered.SizeLemmas.{AreOneToOne, same_size, ext
 abbrev pub AgreeOn : List ℕ → Supplies → Supplies → Type 0
 AgreeOn ns env other = (n : ℕ) → Contains ns n → env n ≡ other n
 
-first_in : (n : ℕ) (ns : List ℕ) → Contains (n ∷ ns) n
-first_in n ns = (0, omega arith, refl)
-
-rest_in : (n k : ℕ) (ns : List ℕ) → Contains ns k → Contains (n ∷ ns) k
-rest_in n k ns (i, low, e) = (suc i, omega (arith, low), e)
-
 same_ties : (types : Types) (ns : List ℕ) (env other : Supplies) → AgreeOn ns env other → all_supply_ties types env ns ≡ all_supply_ties types other ns
 same_ties types [] env other agree = refl
 same_ties types (n ∷ ns) env other agree =
-    let first = agree n (first_in n ns) in
-    let rest = same_ties types ns env other (λ k has. agree k (rest_in n k ns has)) in
+    let first = agree n (first_is_in n ns) in
+    let rest = same_ties types ns env other (λ k has. agree k (rest_is_in n k ns has)) in
     λ i. (within (suc n) (own_web (first i).plan).ties ++ result_ties n 0 (count (types n))) ++ rest i
 
 -- the part, and the import, of an end that there is
@@ -99,14 +94,6 @@ module _ (types : Types) (i j : ℕ) (m : Numbered) (ns : List ℕ) (env : Suppl
       let (found, origin) = other.imports (pl.origin k).number (pl.origin k).import x has there in
       (found, origin, ap (λ (o : Origin). pl.import o.number o.import) origin ∙ same)
 
-pub listed_there : {A : Type 0} (xs : List A) (k : ℕ) → k < length xs → (x : A) × (slice_get xs k ≡ Some x)
-listed_there xs k low = by_cases (slice_get_cases xs k).1
-  where
-    by_cases : ((x : _) × (k < length xs) × (slice_get xs k ≡ Some x) × (get_or xs k x ≡ x)) ⊎ ((length xs ≤ k) × (slice_get xs k ≡ None))
-        → (x : _) × (slice_get xs k ≡ Some x)
-    by_cases (inl (x, small, at, same)) = (x, at)
-    by_cases (inr (high, none)) = absurd (omega (arith, low, high))
-
 module _ (types : Types) (i j : ℕ) (m : Numbered) (ns : List ℕ) (env : Supplies) (pl plc : Placing) (r s : Plan)
     (is : IsWired types i j m ns env pl r) (other : IsWired types i j m ns env plc s) where
   abbrev forth : ℕ → ℕ
@@ -124,23 +111,23 @@ module _ (types : Types) (i j : ℕ) (m : Numbered) (ns : List ℕ) (env : Suppl
   parts_one : AreOneToOne (length r.parts) (length s.parts) forth back
   parts_one =
       record {
-        forth = λ k low. (let (x, at) = listed_there r.parts k low in
+        forth = λ k low. (let (x, at) = element_at r.parts k low in
             slice_get_within s.parts (forth k) x (part_goes types i j m ns env pl plc r s is other k x at).0);
-        back = λ k low. (let (x, at) = listed_there s.parts k low in
+        back = λ k low. (let (x, at) = element_at s.parts k low in
             slice_get_within r.parts (back k) x (part_goes types i j m ns env plc pl s r other is k x at).0);
-        returns = λ k low. (let (x, at) = listed_there r.parts k low in (part_goes types i j m ns env pl plc r s is other k x at).2);
-        comes = λ k low. (let (x, at) = listed_there s.parts k low in (part_goes types i j m ns env plc pl s r other is k x at).2);
+        returns = λ k low. (let (x, at) = element_at r.parts k low in (part_goes types i j m ns env pl plc r s is other k x at).2);
+        comes = λ k low. (let (x, at) = element_at s.parts k low in (part_goes types i j m ns env plc pl s r other is k x at).2);
       }
 
   imports_one : AreOneToOne (length r.imports) (length s.imports) forth_import back_import
   imports_one =
       record {
-        forth = λ k low. (let (x, at) = listed_there r.imports k low in
+        forth = λ k low. (let (x, at) = element_at r.imports k low in
             slice_get_within s.imports (forth_import k) x (import_goes types i j m ns env pl plc r s is other k x at).0);
-        back = λ k low. (let (x, at) = listed_there s.imports k low in
+        back = λ k low. (let (x, at) = element_at s.imports k low in
             slice_get_within r.imports (back_import k) x (import_goes types i j m ns env plc pl s r other is k x at).0);
-        returns = λ k low. (let (x, at) = listed_there r.imports k low in (import_goes types i j m ns env pl plc r s is other k x at).2);
-        comes = λ k low. (let (x, at) = listed_there s.imports k low in (import_goes types i j m ns env plc pl s r other is k x at).2);
+        returns = λ k low. (let (x, at) = element_at r.imports k low in (import_goes types i j m ns env pl plc r s is other k x at).2);
+        comes = λ k low. (let (x, at) = element_at s.imports k low in (import_goes types i j m ns env plc pl s r other is k x at).2);
       }
 
   same_parts : length r.parts ≡ length s.parts

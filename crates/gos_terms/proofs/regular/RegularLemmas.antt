@@ -3,9 +3,10 @@
 use Rattle.std.specs.Prelude.{◌≡◌, ℕ, suc, Bool, true, false, List, [], ◌∷◌, ◌++◌, All, Contains, nat_eq, if◌then◌else◌}
 use Rattle.std.proofs.Common.{refl, sym, ◌∙◌, ap, subst, arith}
 use Rattle.std.proofs.lemmas.List.{append-nil}
+use Rattle.std.proofs.lemmas.Bool.{eqb-true}
 use Rattle.gos_types.specs.Types.{Type', Fun}
+use Rattle.gos_types.proofs.ListLemmas.{first_is_in, rest_is_in}
 use Rattle.gos_check.specs.Nodes.{Numbered, type_of_node}
-use Rattle.gos_check.proofs.TimesLemmas.{true_eq}
 use Rattle.gos_plan.specs.Kinds.{Part}
 use Rattle.gos_plan.specs.Plans.{Plan}
 use Rattle.gos_plan.specs.TokenBits.{LiteralFits}
@@ -40,17 +41,11 @@ same_at : (n : ℕ) (env : Supplies) (k : ℕ) → with_supply n (env n) env k �
 same_at n env k = by_test (nat_eq k n) refl
   where
     by_test : (b : Bool) → nat_eq k n ≡ b → with_supply n (env n) env k ≡ env k
-    by_test true is = ap (λ (c : Bool). if c then env n else env k) is ∙ ap env (sym (true_eq k n is))
+    by_test true is = ap (λ (c : Bool). if c then env n else env k) is ∙ ap env (sym (eqb-true k n is))
     by_test false is = ap (λ (c : Bool). if c then env n else env k) is
 
 same_supplies : (n : ℕ) (env : Supplies) → with_supply n (env n) env ≡ env
 same_supplies n env = λ i k. same_at n env k i
-
-first_in : (n : ℕ) (ns : List ℕ) → Contains (n ∷ ns) n
-first_in n ns = (0, omega arith, refl)
-
-rest_in : (n k : ℕ) (ns : List ℕ) → Contains ns k → Contains (n ∷ ns) k
-rest_in n k ns (i, low, e) = (suc i, omega (arith, low), e)
 
 -- a regular plan of a node, wired to these supplies
 abbrev Reached : Types → ℕ → ℕ → Numbered → List ℕ → Supplies → Type 0
@@ -67,8 +62,8 @@ module _ (laws : Laws) (types : Types) (i j : ℕ) (m : Numbered) (env : Supplie
       let b = closed types ns m in
       let a : Type' = types n in
       let u : Type' = type_of_node b in
-      let own = are n (first_in n ns) in
-      let lit = literals n (first_in n ns) in
+      let own = are n (first_is_in n ns) in
+      let lit = literals n (first_is_in n ns) in
       let (q, joined) = applied_is_joined a u r (env n).plan w.web.right own.right w.outcome own.outcome in
       let turns : IsRegular q = laws.applying a u r (env n).plan q w.outcome own.outcome fit lit regular own.regular joined in
       let other = other_number types ks (Fun a u) n b (closed_is_kept types ks (n ∷ ns) m kept) in
@@ -79,7 +74,7 @@ module _ (laws : Laws) (types : Types) (i j : ℕ) (m : Numbered) (env : Supplie
       subst (λ (xs : List ℕ). Reached types i j m xs env) (append_three ks n ns)
       (applied (ks ++ n ∷ []) ns p q (subst (λ (xs : List ℕ). IsKept types xs m) (sym (append_three ks n ns)) kept)
       (lowered types i j b (ks ++ n ∷ []) env p q same) turns (applied_fits a u r (env n).plan q joined fit lit)
-      (λ k has. are k (rest_in n k ns has)) (λ k has. literals k (rest_in n k ns has)))
+      (λ k has. are k (rest_is_in n k ns has)) (λ k has. literals k (rest_is_in n k ns has)))
 
 pub regular_is_steady : Laws → RegularIsSteady
 regular_is_steady laws types ns m kept regular i j env pl r w are fit =

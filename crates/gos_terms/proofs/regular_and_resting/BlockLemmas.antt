@@ -2,12 +2,12 @@
 use Rattle.std.specs.Prelude.{◌≢◌, ◌+◌, slice_get, nat_eq, Contains, All}
 use Rattle.std.proofs.Common.{◌≡◌, ℕ, zero, suc, Bool, true, false, List, [], ◌∷◌, ◌++◌, Some, refl, sym, ◌∙◌, ap, subst, arith}
 use Rattle.std.proofs.lemmas.Option.{none-some, same_Some}
+use Rattle.std.proofs.lemmas.Bool.{eqb-true}
 use Rattle.gos_types.specs.declared.shakes.Role.TheVariants.{Serve, Ask}
 use Rattle.gos_types.specs.Types.{Type', Var, IsDone}
 use Rattle.gos_model.specs.Terms.{Name}
 use Rattle.gos_model.specs.Typing.{Imported}
 use Rattle.gos_check.specs.Nodes.{Numbered, Under, OfNew, type_of_node}
-use Rattle.gos_check.proofs.TimesLemmas.{true_eq}
 use Rattle.gos_plan.specs.Kinds.{Contact, contacts_of}
 use Rattle.gos_plan.specs.Plans.{ImportEnd, ResultEnd, Plan}
 use Rattle.gos_plan.specs.TokenBits.{LiteralFits}
@@ -79,7 +79,7 @@ module _ (types : Types) (ns : List ℕ) (w n : ℕ) (m : Numbered) (type_n : ty
     where
       by_test : (b : Bool) → nat_eq k n ≡ b → IsRegularOf (types k) (inner k).plan
       by_test true is =
-          let type_k : types k ≡ Var w = ap types (true_eq k n is) ∙ type_n in
+          let type_k : types k ≡ Var w = ap types (eqb-true k n is) ∙ type_n in
           subst (λ (s : Supply). IsRegularOf (types k) s.plan) (sym (inner_here n x w env k is))
           (subst (λ (u : Type'). IsRegularOf u (name_plan x (Var w))) (sym type_k) (name_is_such x w))
       by_test false is = subst (λ (s : Supply). IsRegularOf (types k) s.plan) (sym (inner_there n x w env k is)) (all k (before ns n k is has))

@@ -3,13 +3,13 @@ use Rattle.std.specs.Prelude.{slice_get, Contains}
 use Rattle.std.proofs.Common.{◌≡◌, ℕ, suc, ◌⊎◌, Some, inl, inr, refl, sym, ◌∙◌, ap, subst}
 use Rattle.gos_types.specs.Types.{IsDone}
 use Rattle.gos_plan.specs.Plans.{End, PartEnd, ImportEnd, ResultEnd, Plan, IsRight}
+use Rattle.gos_plan.proofs.JointLemmas.{asking_stands, serving_stands, which_end}
 use Rattle.gos_realises.specs.realises.Realises.{NamesDiffer, HaveOtherNames}
 use Rattle.gos_realises.proofs.realises.InputLemmas.{result_asks}
 use Rattle.gos_realises.proofs.realises.PlaceLemmas.{contains_at}
 use Rattle.gos_realises.proofs.realises.ToldLemmas.{there_is}
 use Rattle.gos_joining.specs.webs.Webs.{joint}
 use Rattle.gos_joining.specs.webs.Cutting.{Cut, lies_at, StandsIn}
-use Rattle.gos_joining.proofs.webs.CutLemmas.{which_end, first_stands, last_stands}
 use Rattle.gos_nodes.specs.windows.OpenNodes.{IsHeard}
 use Rattle.gos_nodes.proofs.windows.PortLemmas.{stands_contact, one_place}
 use Rattle.gos_nodes.specs.parallel.Parallel.{IsJointOf, IsSide}
@@ -51,9 +51,9 @@ of_joint : (f : Cut) (c : Plan) (k n : ℕ)
     → ((q : ℕ) → StandsIn c (ResultEnd q) → f.outer (ResultEnd q) ≡ ImportEnd k n → ⊥)
     → (a b : End) → IsJointOf f c a b → (ImportEnd k n ≡ a) ⊎ (ImportEnd k n ≡ b) → Other f c k n
 of_joint f c k n shakes result a b (x, y, has, at_x, at_y) (inl is) =
-    of_end f c k n shakes result x (joint x y, has, first_stands (joint x y)) (at_x ∙ sym is)
+    of_end f c k n shakes result x (joint x y, has, asking_stands (joint x y)) (at_x ∙ sym is)
 of_joint f c k n shakes result a b (x, y, has, at_x, at_y) (inr is) =
-    of_end f c k n shakes result y (joint x y, has, last_stands (joint x y)) (at_y ∙ sym is)
+    of_end f c k n shakes result y (joint x y, has, serving_stands (joint x y)) (at_y ∙ sym is)
 
 -- a side of `||`
 module _ (d h : ℕ) (f : Cut) (r p : Plan) (side : IsSide d h f r p) where

@@ -3,10 +3,10 @@ use Rattle.std.specs.Prelude.{◌≢◌, ◌+◌, ◌<◌, ◌≤◌, ◌⊎◌,
 use Rattle.std.proofs.Common.{◌≡◌, ℕ, suc, Bool, false, List, ◌∷◌, ◌++◌, Some, inl, inr, refl, sym, ◌∙◌, ap, subst, arith, if◌then◌else◌}
 use Rattle.std.proofs.lemmas.List.{length-append}
 use Rattle.std.proofs.lemmas.List.Elements.{Contains-append_left, Contains-append_right, Contains-append_cases}
+use Rattle.std.proofs.lemmas.Bool.{ne_eqb}
 use Rattle.gos_check.specs.declared.linear.Split.{Split}
 use Rattle.gos_check.specs.Nodes.{Numbered, type_of_node}
 use Rattle.gos_check.specs.Linearity.{times}
-use Rattle.gos_check.proofs.TimesLemmas.{eq_false}
 use Rattle.gos_plan.specs.Kinds.{Part}
 use Rattle.gos_plan.specs.Plans.{PartEnd, ResultEnd}
 use Rattle.gos_realises.specs.realises.Regular.{count}
@@ -44,7 +44,7 @@ module _ (types : Types) (i j : ℕ) (ss : List Split) (env : Supplies) (ns : Li
 
   -- its own part, at another handshake
   own_nothing : (h : ℕ) → h ≢ length before → IsNothing (Of (PartEnd (i + length ss) h))
-  own_nothing h far = own_back child h ∙ ap (λ (t : Bool). if t then Some (Within 0 (Of (ResultEnd 0))) else None) (eq_false h (length before) far)
+  own_nothing h far = own_back child h ∙ ap (λ (t : Bool). if t then Some (Within 0 (Of (ResultEnd 0))) else None) (ne_eqb h (length before) far)
 
   -- a part behind it that isn't the branch's
   behind_nothing : (k h : ℕ) → i + length ss < k → in_range (child.first + child.off) (length (parts_of types b.term)) k ≡ false

@@ -1,10 +1,10 @@
 -- The numbers of other branches: a branch doesn't use them or make them, and the node doesn't split them.
 use Rattle.std.specs.Prelude.{◌+◌, ◌<◌, ◌≤◌, Contains}
 use Rattle.std.proofs.Common.{◌≡◌, ℕ, suc, List, [], ◌∷◌, ◌++◌, inl, inr, refl, subst, arith}
-use Rattle.gos_model.proofs.NumberLemmas.{either}
+use Rattle.gos_model.proofs.NumberLemmas.{either, number_cases}
 use Rattle.gos_check.specs.declared.linear.Split.{Split}
 use Rattle.gos_check.specs.Linearity.{times, split_in, sides, made}
-use Rattle.gos_check.proofs.TimesLemmas.{number_cases, times_other, times-append, some_times, listed_times}
+use Rattle.gos_check.proofs.TimesLemmas.{times_other, times-append, some_times, listed_times}
 use Rattle.gos_compile.specs.Wiring.{Types}
 use Rattle.gos_terms.specs.stages.Inside.{numbers_inside, AreSplit}
 use Rattle.gos_terms.specs.numbers.Inherited.{IsPart}
@@ -30,7 +30,7 @@ all_uses (a ∷ before) after b k =
     omega (arith, one, two, rest)
 
 -- what isn't there inside splits isn't split
-times_inside : (ss : List Split) (ns : List ℕ) (k : ℕ) → times k (numbers_inside ss ns) ≡ times k ns + times k (sides ss)
+pub times_inside : (ss : List Split) (ns : List ℕ) (k : ℕ) → times k (numbers_inside ss ns) ≡ times k ns + times k (sides ss)
 times_inside [] ns k = omega arith
 times_inside (s ∷ ss) ns k = let rest = times_inside ss (s.left ∷ s.right ∷ ns) k in omega (arith, rest)
 

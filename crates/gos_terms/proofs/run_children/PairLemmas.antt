@@ -3,11 +3,14 @@ use Rattle.std.specs.Prelude.{◌≢◌, ◌+◌, ◌<◌, ◌≤◌, ◌⊎◌,
 use Rattle.std.proofs.Common.{◌≡◌, ℕ, zero, suc, Bool, false, List, [], ◌∷◌, ◌++◌, Option, Some, inl, inr, refl, sym, ◌∙◌, ap, subst, arith, if◌then◌else◌}
 use Rattle.std.proofs.lemmas.List.{length-append}
 use Rattle.std.proofs.lemmas.List.Elements.{Contains-append_left, Contains-append_right, Contains-append_cases}
+use Rattle.std.proofs.lemmas.Bool.{ne_eqb}
+use Rattle.std.proofs.lemmas.Option.{none-some}
 use Rattle.gos_types.specs.Types.{Type', Pair}
+use Rattle.gos_types.proofs.ListLemmas.{found_in_front, found_behind}
 use Rattle.gos_check.specs.declared.linear.Split.{Split}
 use Rattle.gos_check.specs.Nodes.{Numbered, type_of_node}
 use Rattle.gos_check.specs.Linearity.{times, used, made}
-use Rattle.gos_check.proofs.TimesLemmas.{eq_false, times-append, some_times}
+use Rattle.gos_check.proofs.TimesLemmas.{times-append, some_times}
 use Rattle.gos_plan.specs.Kinds.{Contact, contacts_of}
 use Rattle.gos_plan.specs.Plans.{ResultEnd, turned_if}
 use Rattle.gos_plan.proofs.SideLemmas.{pairs_join}
@@ -21,8 +24,8 @@ use Rattle.gos_ties.specs.Ties.{point}
 use Rattle.gos_joining.specs.webs.Webs.{Dot, Of, Number, Node, Within, Tie}
 use Rattle.gos_joining.specs.unions.Unions.{within}
 use Rattle.gos_joining.proofs.unions.UnionLemmas.{of_image}
-use Rattle.gos_joining.proofs.unions.LeftLemmas.{front, behind}
 use Rattle.gos_compile.specs.Wiring.{Types, row, shares, parts_of, nodes, ties_of, shares_ties}
+use Rattle.gos_compile.proofs.TallyLemmas.{row_length}
 use Rattle.gos_terms.specs.wired.Wired.{Supplies, dot_of_place, dot_ties, all_supply_ties, wired_ties}
 use Rattle.gos_terms.specs.wired.NodeFitting.{AreOfTypes}
 use Rattle.gos_terms.specs.stages.Leading.{or_point, leading}
@@ -37,7 +40,6 @@ use Rattle.gos_terms.proofs.stages.LodgingLemmas.{lifted}
 use Rattle.gos_terms.proofs.stages.ChildTieLemmas.{tie_of, tie_in}
 use Rattle.gos_terms.proofs.stages.NothingLemmas.{part_nothing, node_nothing, number_nothing}
 use Rattle.gos_terms.proofs.stages.ChildBackLemmas.{range_below, range_past}
-use Rattle.gos_terms.proofs.stages.ChildPartLemmas.{no_more_than}
 use Rattle.gos_terms.proofs.stages.ContactLemmas.{shares_length}
 use Rattle.gos_terms.specs.numbers.Inherited.{IsPart}
 use Rattle.gos_terms.specs.run_children.Forks.{Branch, branch_made, branch_uses, AreBranches}
@@ -45,10 +47,6 @@ use Rattle.gos_terms.specs.run_children.Pairs.{result_leads, pairing, pair_side,
 use Rattle.gos_terms.proofs.run_children.NumberLemmas.{IsOthers, others_so}
 
 -- rows
-row_length : (p : Place) (c n : ℕ) → length (row p c n) ≡ n
-row_length p c zero = refl
-row_length p c (suc n) = ap suc (row_length p (suc c) n)
-
 row_at : (p : Place) (c n h : ℕ) → h < n → slice_get (row p c n) h ≡ Some (point p (c + h))
 row_at p c zero h lt = absurd (omega (arith, lt))
 row_at p c (suc n) zero lt = let e : c ≡ c + 0 = omega arith in ap (λ (k : ℕ). Some (point p k)) e
@@ -81,7 +79,7 @@ same_shake : (a b : ℕ) → AtResult a ≡ AtResult b → a ≡ b
 same_shake a b e = cc e
 
 lead_is : (c n h : ℕ) (l : Lead) → slice_get (result_leads c n) h ≡ Some l → (l ≡ AtResult (c + h)) × (h < n)
-lead_is c zero h l at = absurd (no_more_than l at)
+lead_is c zero h l at = absurd (none-some l at)
 lead_is c (suc n) zero l at =
     let same : AtResult c ≡ l = cc at in let e : c ≡ c + 0 = omega arith in (sym same ∙ ap AtResult e, omega arith)
 lead_is c (suc n) (suc h) l at =
@@ -98,7 +96,7 @@ own_none c (suc n) k h = own_none (suc c) n (suc k) h
 result_none : (c n k h : ℕ) → (h < c) ⊎ (c + n ≤ h) → of_result (result_leads c n) k h ≡ None
 result_none c zero k h out = refl
 result_none c (suc n) k h out =
-    ap (λ (b : Bool). if b then Some (Within 0 (Of (ResultEnd k))) else of_result (result_leads (suc c) n) (suc k) h) (eq_false h c (apart out))
+    ap (λ (b : Bool). if b then Some (Within 0 (Of (ResultEnd k))) else of_result (result_leads (suc c) n) (suc k) h) (ne_eqb h c (apart out))
     ∙ result_none (suc c) n (suc k) h (later out)
   where
     apart : (h < c) ⊎ (c + suc n ≤ h) → h ≢ c
@@ -429,27 +427,27 @@ module _ (types : Types) (i j : ℕ) (a b : Type') (ss : List Split) (m n : Bran
   behind_shares : (k : ℕ) → slice_get (parts_of types whole) (length ss + k) ≡ slice_get (parts_of types m.term ++ parts_of types n.term) k
   behind_shares k =
       ap (λ (x : ℕ). slice_get (parts_of types whole) (x + k)) (sym (shares_length types ss))
-      ∙ behind (shares ss types) (parts_of types m.term ++ parts_of types n.term) k
+      ∙ found_behind (shares ss types) (parts_of types m.term ++ parts_of types n.term) k
 
   first_contact : (h : ℕ) (k : Contact) → turned_if (slice_get (contacts_of (type_of_node m.term)) h) ≡ Some k → h < u → turned_if (slice_get (contacts_of (Pair a b)) h) ≡ Some k
   first_contact h k at lt = let (d, there) = turned_there (slice_get (contacts_of (type_of_node m.term)) h) k at in
       ap (λ (ks : List Contact). turned_if (slice_get ks h)) (pairs_join a b).joined
-      ∙ ap turned_if (front (contacts_of a) (contacts_of b) h d (ap (λ (t : Type'). slice_get (contacts_of t) h) (sym at_a) ∙ there) ∙ sym there) ∙ at
+      ∙ ap turned_if (found_in_front (contacts_of a) (contacts_of b) h d (ap (λ (t : Type'). slice_get (contacts_of t) h) (sym at_a) ∙ there) ∙ sym there) ∙ at
     where
       turned_there : (o : Option Contact) (k : Contact) → turned_if o ≡ Some k → (d : Contact) × (o ≡ Some d)
-      turned_there None k e = absurd (no_more_than k e)
+      turned_there None k e = absurd (none-some k e)
       turned_there (Some d) k e = (d, refl)
 
   second_contact : (h : ℕ) (k : Contact) → turned_if (slice_get (contacts_of (type_of_node n.term)) h) ≡ Some k → turned_if (slice_get (contacts_of (Pair a b)) (u + h)) ≡ Some k
   second_contact h k at =
       ap (λ (t : Type'). turned_if (slice_get (contacts_of (Pair a b)) (count t + h))) at_a
-      ∙ (ap (λ (ks : List Contact). turned_if (slice_get ks (count a + h))) (pairs_join a b).joined ∙ ap turned_if (behind (contacts_of a) (contacts_of b) h) ∙ (ap (λ (t : Type'). turned_if (slice_get (contacts_of t) h)) (sym at_b) ∙ at))
+      ∙ (ap (λ (ks : List Contact). turned_if (slice_get ks (count a + h))) (pairs_join a b).joined ∙ ap turned_if (found_behind (contacts_of a) (contacts_of b) h) ∙ (ap (λ (t : Type'). turned_if (slice_get (contacts_of t) h)) (sym at_b) ∙ at))
 
   pub left_parts : HasParts (left_side types i j ss env ns m n) (parts_of types whole) (Pair a b)
   left_parts =
       record {
-        shares = λ x y at. front (shares ss types) (parts_of types m.term ++ parts_of types n.term) x y at;
-        child = λ x y at. behind_shares x ∙ front (parts_of types m.term) (parts_of types n.term) x y at;
+        shares = λ x y at. found_in_front (shares ss types) (parts_of types m.term ++ parts_of types n.term) x y at;
+        child = λ x y at. behind_shares x ∙ found_in_front (parts_of types m.term) (parts_of types n.term) x y at;
         asks =
             λ h l k lead at.
             let (same, lt) = lead_is 0 u h l lead in
@@ -460,12 +458,12 @@ module _ (types : Types) (i j : ℕ) (a b : Type') (ss : List Split) (m n : Bran
   pub right_parts : HasParts (right_side types i j ss env ns m n) (parts_of types whole) (Pair a b)
   right_parts =
       record {
-        shares = λ x y at. front (shares ss types) (parts_of types m.term ++ parts_of types n.term) x y at;
+        shares = λ x y at. found_in_front (shares ss types) (parts_of types m.term ++ parts_of types n.term) x y at;
         child =
             λ x y at.
             let sum : length ss + length (parts_of types m.term) + x ≡ length ss + (length (parts_of types m.term) + x) = omega arith in
             ap (slice_get (parts_of types whole)) sum
-            ∙ (behind_shares (length (parts_of types m.term) + x) ∙ (behind (parts_of types m.term) (parts_of types n.term) x ∙ at));
+            ∙ (behind_shares (length (parts_of types m.term) + x) ∙ (found_behind (parts_of types m.term) (parts_of types n.term) x ∙ at));
         asks =
             λ h l k lead at.
             let (same, lt) = lead_is u v h l lead in

@@ -2,18 +2,18 @@
 use Rattle.std.specs.Prelude.{◌+◌, length, slice_get}
 use Rattle.std.proofs.Common.{◌≡◌, ℕ, zero, suc, List, [], ◌∷◌, ◌++◌, Option, Some, refl, sym, ◌∙◌, ap, subst, arith}
 use Rattle.std.proofs.lemmas.List.{append_assoc}
+use Rattle.std.proofs.lemmas.Option.{none-some}
 use Rattle.gos_types.specs.Types.{Type'}
+use Rattle.gos_types.proofs.ListLemmas.{found_in_front, found_behind}
 use Rattle.gos_check.specs.declared.linear.Split.{Split}
 use Rattle.gos_check.specs.Nodes.{Numbered, type_of_node}
 use Rattle.gos_plan.specs.Kinds.{Contact, Part, contacts_of}
 use Rattle.gos_plan.specs.Plans.{contacts_of_part, turned_if}
-use Rattle.gos_joining.proofs.unions.LeftLemmas.{front, behind}
 use Rattle.gos_compile.specs.Wiring.{Types, shares, parts_of}
 use Rattle.gos_terms.specs.wired.Wired.{Supplies}
 use Rattle.gos_terms.specs.stages.Folding.{Lead, AtOwn}
 use Rattle.gos_terms.specs.stages.Folded.{Sees}
 use Rattle.gos_terms.specs.stages.Regions.{HasParts}
-use Rattle.gos_terms.proofs.stages.ChildPartLemmas.{no_more_than}
 use Rattle.gos_terms.proofs.stages.ContactLemmas.{shares_length}
 use Rattle.gos_terms.specs.run_children.Forks.{Branch, branch_parts, IsFork, branch_child, BranchHasParts}
 
@@ -32,7 +32,7 @@ module _ (types : Types) (i j : ℕ) (m : Numbered) (ss : List Split) (own : Par
   behind_shares : (k : ℕ) → slice_get (parts_of types m) (length ss + k) ≡ slice_get rest k
   behind_shares k =
       ap (λ (ps : List Part). slice_get ps (length ss + k)) fork.parts
-      ∙ (ap (λ (n : ℕ). slice_get (shares ss types ++ rest) (n + k)) (sym (shares_length types ss)) ∙ behind (shares ss types) rest k)
+      ∙ (ap (λ (n : ℕ). slice_get (shares ss types ++ rest) (n + k)) (sym (shares_length types ss)) ∙ found_behind (shares ss types) rest k)
 
   own_there : slice_get (parts_of types m) (length ss) ≡ Some own
   own_there = let same : length ss ≡ length ss + 0 = omega arith in ap (slice_get (parts_of types m)) same ∙ behind_shares 0
@@ -41,8 +41,8 @@ module _ (types : Types) (i j : ℕ) (m : Numbered) (ss : List Split) (own : Par
       → slice_get (branch_parts types (before ++ b ∷ after)) (length (branch_parts types before) + x) ≡ Some y
   among x y at =
       ap (λ (ps : List Part). slice_get ps (length (branch_parts types before) + x)) (parts_two types before (b ∷ after))
-      ∙ (behind (branch_parts types before) (parts_of types b.term ++ branch_parts types after) x
-      ∙ front (parts_of types b.term) (branch_parts types after) x y at)
+      ∙ (found_behind (branch_parts types before) (parts_of types b.term ++ branch_parts types after) x
+      ∙ found_in_front (parts_of types b.term) (branch_parts types after) x y at)
 
   its_part : (x : ℕ) (y : Part) → slice_get (parts_of types b.term) x ≡ Some y
       → slice_get (parts_of types m) (length ss + 1 + length (branch_parts types before) + x) ≡ Some y
@@ -58,13 +58,13 @@ module _ (types : Types) (i j : ℕ) (m : Numbered) (ss : List Split) (own : Par
   seen : (t : Type') (h : ℕ) (l : Lead) (k : Contact) → slice_get (AtOwn (length before) ∷ []) h ≡ Some l
       → turned_if (slice_get (contacts_of (type_of_node b.term)) h) ≡ Some k → Sees (length ss) (parts_of types m) t l k
   seen t zero l k lead at = let same : AtOwn (length before) ≡ l = cc lead in subst (λ (x : Lead). Sees (length ss) (parts_of types m) t x k) same (asked k at)
-  seen t (suc h) l k lead at = absurd (no_more_than l lead)
+  seen t (suc h) l k lead at = absurd (none-some l lead)
 
   parts_so : (t : Type') → HasParts (branch_child types i j ss env ns before b) (parts_of types m) t
   parts_so t =
       record {
         shares =
-            λ x y at. subst (λ (ps : List Part). slice_get ps x ≡ Some y) (sym fork.parts) (front (shares ss types) rest x y at);
+            λ x y at. subst (λ (ps : List Part). slice_get ps x ≡ Some y) (sym fork.parts) (found_in_front (shares ss types) rest x y at);
         child = its_part;
         asks = seen t;
       }

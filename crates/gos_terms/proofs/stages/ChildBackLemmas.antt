@@ -2,11 +2,12 @@
 use Rattle.std.specs.Prelude.{◌+◌, ◌<◌, ◌≤◌, ◌⊎◌, ◌||◌, ◌&&◌, not, length, map, nat_eq, nat_lt, slice_get, None, Contains}
 use Rattle.std.proofs.Common.{◌≡◌, ℕ, zero, suc, Bool, true, false, List, [], ◌∷◌, ◌++◌, Option, Some, inl, inr, refl, sym, ◌∙◌, ap, subst, arith, if◌then◌else◌}
 use Rattle.std.proofs.lemmas.List.Elements.{Contains-append_left, Contains-append_right, Contains-append_cases}
+use Rattle.std.proofs.lemmas.Bool.{eqb-true, lt-ltb, le-ltb, ltb-true, eq-eqb, ne_eqb}
 use Rattle.gos_types.specs.Types.{Type'}
 use Rattle.gos_check.specs.declared.linear.Split.{Split}
 use Rattle.gos_check.specs.Nodes.{type_of_node}
 use Rattle.gos_check.specs.Linearity.{times, used, made}
-use Rattle.gos_check.proofs.TimesLemmas.{eq_true, eq_false, true_eq, some_times, listed_times}
+use Rattle.gos_check.proofs.TimesLemmas.{some_times, listed_times}
 use Rattle.gos_plan.specs.Plans.{End, PartEnd, ResultEnd}
 use Rattle.gos_realises.specs.realises.Regular.{count}
 use Rattle.gos_ties.specs.declared.points.Place.{Place}
@@ -28,21 +29,21 @@ use Rattle.gos_terms.specs.stages.Ranges.{IsWithin}
 use Rattle.gos_terms.specs.stages.Lodging.{spot, spot_if, Spot, Near}
 use Rattle.gos_terms.specs.stages.Folding.{Lead, AtOwn, AtResult, lead_point, of_own, of_result, AreDistinct, Child, is_used, lodge, child_out, child_web, in_range, spot_dot, asks_child, is_number, child_back, shared_ties, own_ties, IsChild, ChildStays}
 use Rattle.gos_terms.proofs.stages.RangeLemmas.{ties_stay_within}
-use Rattle.gos_terms.proofs.stages.StepLemmas.{low, high, told_low}
 use Rattle.gos_terms.proofs.stages.LodgingLemmas.{lifted, led_listed, homes_are_kept, numbers_are_held}
 use Rattle.gos_terms.proofs.stages.LiveLemmas.{spots_are_live}
-use Rattle.gos_terms.proofs.stages.WayLemmas.{by_tie}
 use Rattle.gos_terms.proofs.stages.HomeLemmas.{way_mapped}
-use Rattle.gos_terms.proofs.stages.ChildTieLemmas.{dot_tie, put_in, of_supplies, in_supplies, ResultTie, in_results, of_supply, led_of}
+use Rattle.gos_terms.proofs.stages.ChildTieLemmas.{dot_tie, put_in, of_supplies, ResultTie, in_results, of_supply, led_of}
+use Rattle.gos_terms.proofs.wired.TieLemmas.{in_supplies}
+use Rattle.gos_terms.proofs.stages.WayLemmas.{way_by_tie}
 
 pub range_in : (a n k : ℕ) → a ≤ k → k < a + n → in_range a n k ≡ true
-range_in a n k le lt = rw (high k a le, low k (a + n) lt) refl
+range_in a n k le lt = rw (le-ltb k a le, lt-ltb k (a + n) lt) refl
 
 pub range_below : (a n k : ℕ) → k < a → in_range a n k ≡ false
-range_below a n k lt = rw (low k a lt) refl
+range_below a n k lt = rw (lt-ltb k a lt) refl
 
 pub range_past : (a n k : ℕ) → a + n ≤ k → in_range a n k ≡ false
-range_past a n k le = ap (λ (t : Bool). not (nat_lt k a) && t) (high k (a + n) le) ∙ never (not (nat_lt k a))
+range_past a n k le = ap (λ (t : Bool). not (nat_lt k a) && t) (le-ltb k (a + n) le) ∙ never (not (nat_lt k a))
   where
     never : (t : Bool) → (t && false) ≡ false
     never true = refl
@@ -76,16 +77,16 @@ behind_distinct : (x : Lead) (ls : List Lead) → AreDistinct (x ∷ ls) → Are
 behind_distinct x ls apart h k l at_h at_k = let same = apart (suc h) (suc k) l at_h at_k in omega (arith, same)
 
 here_back : (l : Lead) (ls : List Lead) (k : ℕ) → lead_back (l ∷ ls) k l ≡ Some (Within 0 (Of (ResultEnd k)))
-here_back (AtOwn s) ls k = ap (λ (b : Bool). if b then Some (Within 0 (Of (ResultEnd k))) else of_own ls (suc k) s) (eq_true s s refl)
-here_back (AtResult s) ls k = ap (λ (b : Bool). if b then Some (Within 0 (Of (ResultEnd k))) else of_result ls (suc k) s) (eq_true s s refl)
+here_back (AtOwn s) ls k = ap (λ (b : Bool). if b then Some (Within 0 (Of (ResultEnd k))) else of_own ls (suc k) s) (eq-eqb s s refl)
+here_back (AtResult s) ls k = ap (λ (b : Bool). if b then Some (Within 0 (Of (ResultEnd k))) else of_result ls (suc k) s) (eq-eqb s s refl)
 
 later_back : (x l : Lead) (ls : List Lead) (k : ℕ) → (x ≡ l → ⊥) → lead_back (x ∷ ls) k l ≡ lead_back ls (suc k) l
 later_back (AtOwn a) (AtOwn s) ls k apart =
-    ap (λ (b : Bool). if b then Some (Within 0 (Of (ResultEnd k))) else of_own ls (suc k) s) (eq_false s a (λ e. apart (ap AtOwn (sym e))))
+    ap (λ (b : Bool). if b then Some (Within 0 (Of (ResultEnd k))) else of_own ls (suc k) s) (ne_eqb s a (λ e. apart (ap AtOwn (sym e))))
 later_back (AtOwn a) (AtResult s) ls k apart = refl
 later_back (AtResult a) (AtOwn s) ls k apart = refl
 later_back (AtResult a) (AtResult s) ls k apart =
-    ap (λ (b : Bool). if b then Some (Within 0 (Of (ResultEnd k))) else of_result ls (suc k) s) (eq_false s a (λ e. apart (ap AtResult (sym e))))
+    ap (λ (b : Bool). if b then Some (Within 0 (Of (ResultEnd k))) else of_result ls (suc k) s) (ne_eqb s a (λ e. apart (ap AtResult (sym e))))
 
 found_lead : (ls : List Lead) (k h : ℕ) (l : Lead) → AreDistinct ls → slice_get ls h ≡ Some l → lead_back ls k l ≡ Some (Within 0 (Of (ResultEnd (k + h))))
 found_lead [] k h l apart at = absurd (no_lead l at)
@@ -118,7 +119,7 @@ told_lead (AtOwn a ∷ ls) k (AtOwn s) y e = by_test (nat_eq s a) refl e (λ d. 
   where
     by_test : (b : Bool) → nat_eq s a ≡ b → (if b then Some (Within 0 (Of (ResultEnd k))) else of_own ls (suc k) s) ≡ Some y
         → (of_own ls (suc k) s ≡ Some y → Told ls (suc k) (AtOwn s) y) → Told (AtOwn a ∷ ls) k (AtOwn s) y
-    by_test true t e more = subst (λ (m : ℕ). Told (AtOwn m ∷ ls) k (AtOwn s) y) (true_eq s a t) (told_here ls (AtOwn s) k y e)
+    by_test true t e more = subst (λ (m : ℕ). Told (AtOwn m ∷ ls) k (AtOwn s) y) (eqb-true s a t) (told_here ls (AtOwn s) k y e)
     by_test false t e more = told_later (AtOwn a) ls (AtOwn s) k y (more e)
 told_lead (AtOwn a ∷ ls) k (AtResult s) y e = told_later (AtOwn a) ls (AtResult s) k y (told_lead ls (suc k) (AtResult s) y e)
 told_lead (AtResult a ∷ ls) k (AtOwn s) y e = told_later (AtResult a) ls (AtOwn s) k y (told_lead ls (suc k) (AtOwn s) y e)
@@ -126,7 +127,7 @@ told_lead (AtResult a ∷ ls) k (AtResult s) y e = by_test (nat_eq s a) refl e (
   where
     by_test : (b : Bool) → nat_eq s a ≡ b → (if b then Some (Within 0 (Of (ResultEnd k))) else of_result ls (suc k) s) ≡ Some y
         → (of_result ls (suc k) s ≡ Some y → Told ls (suc k) (AtResult s) y) → Told (AtResult a ∷ ls) k (AtResult s) y
-    by_test true t e more = subst (λ (m : ℕ). Told (AtResult m ∷ ls) k (AtResult s) y) (true_eq s a t) (told_here ls (AtResult s) k y e)
+    by_test true t e more = subst (λ (m : ℕ). Told (AtResult m ∷ ls) k (AtResult s) y) (eqb-true s a t) (told_here ls (AtResult s) k y e)
     by_test false t e more = told_later (AtResult a) ls (AtResult s) k y (more e)
 
 mapped_at : (q : ℕ) (ls : List Lead) (h : ℕ) (l : Lead) → slice_get ls h ≡ Some l → slice_get (map (lead_point q) ls) h ≡ Some (lead_point q l)
@@ -149,7 +150,7 @@ module _ (f : Child) (ts : List Tie) (pl : Placing) (is : IsChild f ts) where
       to_back (AtOwn s) =
           ap (λ (b : Bool). if b then asks_child f s
           else if in_range (f.first + f.off) (length (parts_of f.types f.term)) (f.first + f.own) then Some (Within 0 (Of (PartEnd (f.first + f.own) s)))
-          else spot_dot ((lodge f).home (Within 0 (Of (PartEnd (f.first + f.own) s))))) (eq_true (f.first + f.own) (f.first + f.own) refl)
+          else spot_dot ((lodge f).home (Within 0 (Of (PartEnd (f.first + f.own) s))))) (eq-eqb (f.first + f.own) (f.first + f.own) refl)
       to_back (AtResult s) = refl
 
   abbrev web : List Tie
@@ -159,13 +160,13 @@ module _ (f : Child) (ts : List Tie) (pl : Placing) (is : IsChild f ts) where
   mine = ties_of f.types (f.first + f.off) f.node f.term (row places.Result 0 (count (type_of_node f.term)))
 
   pub used_so : (n : ℕ) → Contains f.uses n → is_used f n ≡ true
-  used_so n there = low 0 (times n f.uses) (some_times n f.uses there)
+  used_so n there = lt-ltb 0 (times n f.uses) (some_times n f.uses there)
 
   pub used_in : (n : ℕ) → is_used f n ≡ true → Contains f.uses n
-  used_in n t = listed_times n f.uses (told_low 0 (times n f.uses) t)
+  used_in n t = listed_times n f.uses (ltb-true 0 (times n f.uses) t)
 
   made_so : (n : ℕ) → 0 < times n (made f.term) → is_number f n ≡ true
-  made_so n some = let t = low 0 (times n (made f.term)) some in either (is_used f n) (nat_lt 0 (times n (made f.term))) t
+  made_so n some = let t = lt-ltb 0 (times n (made f.term)) some in either (is_used f n) (nat_lt 0 (times n (made f.term))) t
     where
       either : (a b : Bool) → b ≡ true → (a || b) ≡ true
       either true b e = refl
@@ -179,7 +180,7 @@ module _ (f : Child) (ts : List Tie) (pl : Placing) (is : IsChild f ts) where
       → child_back f (Within 0 (dot_leading (child_out f) (dot_of_place p h))) ≡ Some (Within 0 (dot_of_place p h))
   own_back (places.Part q) h (le, lt) =
       let far : nat_eq q (f.first + f.own) ≡ false =
-      eq_false q (f.first + f.own) (λ e. let same : q ≡ f.first + f.own = e in not_own same is.own_apart)
+      ne_eqb q (f.first + f.own) (λ e. let same : q ≡ f.first + f.own = e in not_own same is.own_apart)
       in
       ap (λ (b : Bool). if b then asks_child f h
       else if in_range (f.first + f.off) (length (parts_of f.types f.term)) q then Some (Within 0 (Of (PartEnd q h)))
@@ -219,7 +220,7 @@ module _ (f : Child) (ts : List Tie) (pl : Placing) (is : IsChild f ts) where
       subst (λ (x : Tie). Follows web (child_back f x.one) (child_back f x.other)) same
       (follows_by web (child_back f (Within 0 (dot_leading (child_out f) (dot_of u.one)))) (child_back f (Within 0 (dot_leading (child_out f) (dot_of u.other))))
       (Within 0 (dot_of u.one)) (Within 0 (dot_of u.other)) (own_back u.one.place u.one.shake one) (own_back u.other.place u.other.shake other)
-      (by_tie web (Within 0 (dot_of u.one)) (Within 0 (dot_of u.other))
+      (way_by_tie web (Within 0 (dot_of u.one)) (Within 0 (dot_of u.other))
       (Contains-append_left (within 0 (dot_ties mine)) (all_supply_ties f.types (lodge f).env f.uses) (lifted u)
       (in_image (put_in 0) (dot_ties mine) (dot_tie u) (in_image dot_tie mine u listed)))))
 
@@ -250,7 +251,7 @@ module _ (f : Child) (ts : List Tie) (pl : Placing) (is : IsChild f ts) where
   number_follows n h None there lt near = near
   number_follows n h (Some y) there lt (same, way) =
       way_then web (Within 0 (Number n h)) (Within (suc n) (Of (ResultEnd h))) (Within (suc y.number) (Of y.end))
-      (by_tie web (Within 0 (Number n h)) (Within (suc n) (Of (ResultEnd h)))
+      (way_by_tie web (Within 0 (Number n h)) (Within (suc n) (Of (ResultEnd h)))
       (in_web n (ResultTie n h) there
       (Contains-append_right (within (suc n) (own_web ((lodge f).env n).plan).ties) (result_ties n 0 (count (f.types n))) (ResultTie n h)
       (in_results n 0 (count (f.types n)) h (omega arith) (omega (arith, lt))))))
@@ -275,7 +276,7 @@ module _ (f : Child) (ts : List Tie) (pl : Placing) (is : IsChild f ts) where
   number_stays n h d has scope lt other = by_use (is_used f n) refl
     where
       unmade : nat_lt 0 (times n (made f.term)) ≡ false
-      unmade = let none = is.unmade n scope in high 0 (times n (made f.term)) (omega (arith, none))
+      unmade = let none = is.unmade n scope in le-ltb 0 (times n (made f.term)) (omega (arith, none))
 
       number : (b : Bool) → is_used f n ≡ b → is_number f n ≡ b
       number true e = ap (λ (x : Bool). x || nat_lt 0 (times n (made f.term))) e
@@ -305,7 +306,7 @@ module _ (f : Child) (ts : List Tie) (pl : Placing) (is : IsChild f ts) where
       let less = is.shares_first in
       let more = is.off_first in
       let far : nat_eq q (f.first + f.own) ≡ false =
-      eq_false q (f.first + f.own) (λ e. let same : q ≡ f.first + f.own = e in omega (arith, same, less, lt))
+      ne_eqb q (f.first + f.own) (λ e. let same : q ≡ f.first + f.own = e in omega (arith, same, less, lt))
       in
       ap (λ (b : Bool). if b then asks_child f h
       else if in_range (f.first + f.off) (length (parts_of f.types f.term)) q then Some (Within 0 (Of (PartEnd q h)))
@@ -343,33 +344,33 @@ module _ (f : Child) (ts : List Tie) (pl : Placing) (is : IsChild f ts) where
                   elim (Contains-append_cases lefts rights u more) [
                     | inl second ↦
                         (let (j, lt, e) = led_listed (places.Number s.left) q 0 (count (f.types s.of)) (count (f.types s.of)) u second in
-                        let low : 0 + j < count (f.types s.of) = omega (arith, lt) in (
+                        let small : 0 + j < count (f.types s.of) = omega (arith, lt) in (
                           s.left,
                           0 + j,
                           q,
                           count (f.types s.of) + j,
                           scope s.left (0, omega arith, refl),
-                          subst (λ (t : Type'). 0 + j < count t) (sym left) low,
+                          subst (λ (t : Type'). 0 + j < count t) (sym left) small,
                           omega arith,
                           e,
                         ))
                     | inr third ↦
                         (let (j, lt, e) = led_listed (places.Number s.right) q 0 (count (f.types s.of)) (count (f.types s.of) + count (f.types s.of)) u third in
-                        let low : 0 + j < count (f.types s.of) = omega (arith, lt) in (
+                        let small : 0 + j < count (f.types s.of) = omega (arith, lt) in (
                           s.right,
                           0 + j,
                           q,
                           count (f.types s.of) + count (f.types s.of) + j,
                           scope s.right (1, omega arith, refl),
-                          subst (λ (t : Type'). 0 + j < count t) (sym right) low,
+                          subst (λ (t : Type'). 0 + j < count t) (sym right) small,
                           omega arith,
                           e,
                         ))
                   ]
             ]
         | inr rest ↦
-            (let (n, h, r, g, there, low, lt, e) = share_of ss (s.left ∷ s.right ∷ ns) (suc q) agree split u rest in
-            (n, h, r, g, there, low, omega (arith, lt), e))
+            (let (n, h, r, g, there, lt-ltb, lt, e) = share_of ss (s.left ∷ s.right ∷ ns) (suc q) agree split u rest in
+            (n, h, r, g, there, lt-ltb, omega (arith, lt), e))
       ]
 
   shared_stays : (t : Tie) → Contains (shared_ties f) t → Follows web (child_back f t.one) (child_back f t.other)

@@ -1,16 +1,17 @@
 -- The plan of a child lies as a fold in its node's: its ports, the Shares that serve it, and its ends.
 use Rattle.std.specs.Prelude.{◌+◌, ◌-◌, ◌*◌, ◌<◌, ◌≤◌, ◌⊎◌, length, nat_eq, slice_get, None, Contains}
 use Rattle.std.proofs.Common.{◌≡◌, ℕ, suc, Bool, true, false, not, List, [], ◌∷◌, Option, Some, inl, inr, refl, sym, ◌∙◌, ap, subst, arith, if◌then◌else◌}
-use Rattle.std.proofs.lemmas.Option.{slice_get_within}
+use Rattle.std.proofs.lemmas.Option.{slice_get_within, none-some}
 use Rattle.std.proofs.lemmas.List.Elements.{Contains-append_cases}
+use Rattle.std.proofs.lemmas.Bool.{eqb-true, lt-ltb, eq-eqb, cases_lt}
 use Rattle.gos_types.specs.Types.{Type'}
+use Rattle.gos_types.proofs.ListLemmas.{element_at}
 use Rattle.gos_model.specs.Typing.{Imported}
-use Rattle.gos_model.proofs.NumberLemmas.{low_or_high}
 use Rattle.gos_check.specs.Nodes.{type_of_node}
-use Rattle.gos_check.proofs.TimesLemmas.{eq_true, true_eq}
 use Rattle.gos_plan.specs.Kinds.{Contact, Part, Share, contacts_of, turned_contact}
 use Rattle.gos_plan.specs.Plans.{End, PartEnd, ImportEnd, ResultEnd, Joint, Plan, contact_at, contacts_of_part, contacts_of_import, turned_if, stands_in}
 use Rattle.gos_plan.specs.Tokens.{IsPortEnd}
+use Rattle.gos_plan.proofs.ContactLemmas.{turned_some, part_is_there, import_is_there}
 use Rattle.gos_realises.specs.realises.Regular.{count}
 use Rattle.gos_ties.specs.declared.points.Place.TheVariants as places
 use Rattle.gos_realises.proofs.realises.CountLemmas.{some_shake}
@@ -28,7 +29,7 @@ use Rattle.gos_terms.specs.stages.Folding.{Lead, AtOwn, AtResult, lead_point, of
 use Rattle.gos_terms.specs.stages.Housing.{IsThere}
 use Rattle.gos_terms.specs.stages.Folded.{HasChild, ChildIsFolded}
 use Rattle.gos_terms.specs.stages.Served.{IsSeenFrom}
-use Rattle.gos_terms.proofs.stages.StepLemmas.{serves_source, low}
+use Rattle.gos_terms.proofs.stages.StepLemmas.{serves_source}
 use Rattle.gos_terms.proofs.stages.PartHomeLemmas.{numbers_are_at_home}
 use Rattle.gos_terms.proofs.stages.HousingLemmas.{imports_are_from, homes_are_there, far_is_nothing}
 use Rattle.gos_terms.proofs.stages.ImportHomeLemmas.{imports_are_there}
@@ -36,8 +37,8 @@ use Rattle.gos_terms.proofs.stages.ServedLemmas.{servings_serve}
 use Rattle.gos_terms.proofs.stages.SpareLemmas.{spares_are_others}
 use Rattle.gos_terms.proofs.stages.ChildTieLemmas.{put_in, of_supplies, of_supply, child_ways}
 use Rattle.gos_terms.proofs.stages.ChildBackLemmas.{lead_back, at_lead, told_lead, lead_lies, lead_stands, used_so, spot_used, child_stays}
-use Rattle.gos_terms.proofs.stages.ContactLemmas.{turned_some, part_there, import_there, shares_length, other_unserved}
-use Rattle.gos_terms.proofs.stages.ChildPartLemmas.{there_at, no_more_than, plain_source, supplied_back, own_source_back, source_from, part_lies, number_so, child_is_part}
+use Rattle.gos_terms.proofs.stages.ContactLemmas.{shares_length, other_unserved}
+use Rattle.gos_terms.proofs.stages.ChildPartLemmas.{plain_source, supplied_back, own_source_back, source_from, part_lies, number_so, child_is_part}
 
 module _ (f : Child) (own : List Part) (ts : List Tie) (pl plc : Placing) (r c : Plan) (is : IsChild f ts) (has : HasChild f own r.outcome c)
     (laid : IsLaid own f.numbers f.env pl r) (laidc : IsLaid (parts_of f.types f.term) f.uses (lodge f).env plc c) where
@@ -63,12 +64,12 @@ module _ (f : Child) (own : List Part) (ts : List Tie) (pl plc : Placing) (r c :
   pub own_outside : (y : Part) → slice_get own f.own ≡ Some y → (child_cut f pl plc size).number (pl.own f.own) ≡ None
   own_outside y at =
       ap (λ (b : Bool). if b then part_of_dot f plc (child_back f (source_dot f.first (pl.source (pl.own f.own)) 0)) else None)
-      (low (pl.own f.own) size (slice_get_within r.parts (pl.own f.own) y (own_there y at).0))
+      (lt-ltb (pl.own f.own) size (slice_get_within r.parts (pl.own f.own) y (own_there y at).0))
       ∙ (ap (λ (s : Source). part_of_dot f plc (child_back f (source_dot f.first s 0))) (own_there y at).1
       ∙ (ap (λ (b : Bool). part_of_dot f plc
       (if b then asks_child f 0
       else if in_range (f.first + f.off) (length (parts_of f.types f.term)) (f.first + f.own) then Some (Within 0 (Of (PartEnd (f.first + f.own) 0)))
-      else spot_dot ((lodge f).home (Within 0 (Of (PartEnd (f.first + f.own) 0)))))) (eq_true (f.first + f.own) (f.first + f.own) refl)
+      else spot_dot ((lodge f).home (Within 0 (Of (PartEnd (f.first + f.own) 0)))))) (eq-eqb (f.first + f.own) (f.first + f.own) refl)
       ∙ asks_no_part f.out 0 0))
 
   -- where its handshakes lead
@@ -85,7 +86,7 @@ module _ (f : Child) (own : List Part) (ts : List Tie) (pl plc : Placing) (r c :
       let lt = slice_get_within f.out h l at in
       let size : count c.outcome ≡ count (type_of_node f.term) = ap count has.outcome in
       let long = is.long in
-      let (d, there) = there_at (contacts_of c.outcome) h (omega (arith, lt, size, long)) in
+      let (d, there) = element_at (contacts_of c.outcome) h (omega (arith, lt, size, long)) in
       (turned_contact d, ap turned_if there)
 
   record Led (h : ℕ) (k : Contact) (l : Lead) : Type 0 where
@@ -97,7 +98,7 @@ module _ (f : Child) (own : List Part) (ts : List Tie) (pl plc : Placing) (r c :
   led : (h : ℕ) (k : Contact) (l : Lead) → slice_get f.out h ≡ Some l → contact_at c (ResultEnd h) ≡ Some k → Led h k l
   led h k (AtOwn s) at contact =
       let sees = has.asks h (AtOwn s) k at contact in
-      let (y, part) = part_there (slice_get own f.own) s k sees in
+      let (y, part) = part_is_there (slice_get own f.own) s k sees in
       let (there, source) = own_there y part in
       record {
         outer = ap (λ (o : Option Lead). led_end (pl.own f.own) o h) at;
@@ -159,7 +160,7 @@ module _ (f : Child) (own : List Part) (ts : List Tie) (pl plc : Placing) (r c :
   pub ports_so : (e : End) (k : Contact) → IsPortEnd e → contact_at c e ≡ Some k → Port e k
   ports_so (PartEnd j h) k port at = absurd port
   ports_so (ImportEnd q h) k port at =
-      let (x, listed) = import_there (slice_get c.imports q) h k at in
+      let (x, listed) = import_is_there (slice_get c.imports q) h k at in
       let it = import_of q x listed in (
         tt,
         ap (λ (d : Dot). port_of_dot plc (child_back f d)) (it.dot h)
@@ -191,7 +192,7 @@ module _ (f : Child) (own : List Part) (ts : List Tie) (pl plc : Placing) (r c :
       let (x, at, it) = servings_serve f.types f.first (is_used f) f.splits f.env f.numbers pl n is.tidy listed in
       let (z, home) = it.seen 0 (serves_source (count n.ty) n.side 0 (some_shake n.ty)) in
       let home_in = homes_are_there f.types f.first (is_used f) f.splits f.env f.numbers (Own x) 0 z is.tidy (share_low x n.ty n.side it) home in
-      let (y, part) = there_at ((lodge f).env z.number).plan.parts home_in.part home_in.within in
+      let (y, part) = element_at ((lodge f).env z.number).plan.parts home_in.part home_in.within in
       let used = spot_used f ts pl is (source_dot f.first (Own x) 0) z home in
       let from : IsFrom (parts_of f.types f.term) f.uses (lodge f).env y (Supplied z.number home_in.part) = (used, part) in
       let number = number_so f ts pl plc is own r c has laid laidc (Supplied z.number home_in.part) y from in
@@ -270,7 +271,7 @@ module _ (f : Child) (own : List Part) (ts : List Tie) (pl plc : Placing) (r c :
   -- and no other end lies there
   one_end : (n q h : ℕ) (d : End) (k : Contact) → contact_at c d ≡ Some k → dot_at (f.first + f.off) plc d ≡ Within (suc n) (Of (PartEnd q h)) → d ≡ PartEnd (plc.supplied n q) h
   one_end n q h (PartEnd j g) k at e =
-      let (y, listed) = part_there (slice_get c.parts j) g k at in
+      let (y, listed) = part_is_there (slice_get c.parts j) g k at in
       let same = (laidc.no_more j y listed).1 in by_source (plc.source j) same e
     where
       by_source : (s : Source) → placed plc s ≡ j → source_dot (f.first + f.off) s g ≡ Within (suc n) (Of (PartEnd q h)) → PartEnd j g ≡ PartEnd (plc.supplied n q) h
@@ -286,7 +287,7 @@ module _ (f : Child) (own : List Part) (ts : List Tie) (pl plc : Placing) (r c :
 
   pub ends_so : (e : End) (k : Contact) → contact_at c e ≡ Some k → Ends e
   ends_so (PartEnd j h) k at =
-      let (y, listed) = part_there (slice_get c.parts j) h k at in
+      let (y, listed) = part_is_there (slice_get c.parts j) h k at in
       let (from, same) = laidc.no_more j y listed in
       by_source (plc.source j) refl y listed from same
     where
@@ -344,7 +345,7 @@ module _ (f : Child) (own : List Part) (ts : List Tie) (pl plc : Placing) (r c :
           let (used, known) = subst (IsFrom (parts_of f.types f.term) f.uses (lodge f).env y) is_s from in
           by_spare n q y is_s listed used known (ap (placed plc) (sym is_s) ∙ same) ((lodge f).spare n q h) refl
   ends_so (ImportEnd q h) k at =
-      let (x, listed) = import_there (slice_get c.imports q) h k at in
+      let (x, listed) = import_is_there (slice_get c.imports q) h k at in
       let it = import_of q x listed in
       inl (sym (it.dot h), ap (child_back f) (it.dot h) ∙ it.home h)
   ends_so (ResultEnd h) k at =
@@ -364,11 +365,11 @@ module _ (f : Child) (own : List Part) (ts : List Tie) (pl plc : Placing) (r c :
       → IsThere (length f.splits) f.numbers f.env s → (lodge f).home (source_dot f.first s h) ≡ Some z → ⊥
   inside_spot i h s z outside at_i there home =
       let it = homes_are_there f.types f.first (is_used f) f.splits f.env f.numbers s h z is.tidy there home in
-      let (y, listed) = there_at ((lodge f).env z.number).plan.parts it.part it.within in
+      let (y, listed) = element_at ((lodge f).env z.number).plan.parts it.part it.within in
       let used = spot_used f ts pl is (source_dot f.first s h) z home in
       let number = number_so f ts pl plc is own r c has laid laidc (Supplied z.number it.part) y (used, listed) in
       let place : placed pl ((lodge f).part z.number it.part) ≡ i = ap (placed pl) it.from ∙ at_i in
-      no_more_than (plc.supplied z.number it.part)
+      none-some (plc.supplied z.number it.part)
       (sym outside ∙ subst (λ (m : ℕ). (child_cut f pl plc size).number m ≡ Some (plc.supplied z.number it.part)) place number)
 
   -- a handshake to which one of its own leads
@@ -381,13 +382,13 @@ module _ (f : Child) (own : List Part) (ts : List Tie) (pl plc : Placing) (r c :
       (ResultEnd h, tt, it.outer ∙ at_e, contact ∙ both)
 
   spot_some : (a : Option Spot) (y : Dot) → spot_dot a ≡ Some y → (z : Spot) × (a ≡ Some z)
-  spot_some None y e = absurd (no_more_than y e)
+  spot_some None y e = absurd (none-some y e)
   spot_some (Some z) y e = (z, refl)
 
   outside_of : (i : ℕ) (y : Part) → slice_get r.parts i ≡ Some y → (child_cut f pl plc size).number i ≡ None
       → part_of_dot f plc (child_back f (source_dot f.first (pl.source i) 0)) ≡ None
   outside_of i y listed outside =
-      sym (ap (λ (b : Bool). if b then part_of_dot f plc (child_back f (source_dot f.first (pl.source i) 0)) else None) (low i size (slice_get_within r.parts i y listed)))
+      sym (ap (λ (b : Bool). if b then part_of_dot f plc (child_back f (source_dot f.first (pl.source i) 0)) else None) (lt-ltb i size (slice_get_within r.parts i y listed)))
       ∙ outside
 
   own_comes : (i h q : ℕ) (k : Contact) (y : Dot) → (child_cut f pl plc size).number i ≡ None → placed pl (Own q) ≡ i → contact_at r (PartEnd i h) ≡ Some k
@@ -397,15 +398,15 @@ module _ (f : Child) (own : List Part) (ts : List Tie) (pl plc : Placing) (r c :
       by_home : (b : Bool) → in_range (f.first + f.off) (length (parts_of f.types f.term)) (f.first + q) ≡ b
           → part_of_dot f plc (if b then Some (Within 0 (Of (PartEnd (f.first + q) 0))) else spot_dot ((lodge f).home (Within 0 (Of (PartEnd (f.first + q) 0))))) ≡ None
           → (if b then Some (Within 0 (Of (PartEnd (f.first + q) h))) else spot_dot ((lodge f).home (Within 0 (Of (PartEnd (f.first + q) h))))) ≡ Some y → Comes (PartEnd i h) k
-      by_home true t none e = absurd (no_more_than (plc.own (f.first + q - (f.first + f.off))) (sym none))
-      by_home false t none e = by_size (low_or_high q (length f.splits))
+      by_home true t none e = absurd (none-some (plc.own (f.first + q - (f.first + f.off))) (sym none))
+      by_home false t none e = by_size (cases_lt q (length f.splits))
         where
           by_size : (q < length f.splits) ⊎ (length f.splits ≤ q) → Comes (PartEnd i h) k
           by_size (inl lt) =
               let (z, home) = spot_some ((lodge f).home (source_dot f.first (Own q) h)) y e in
               absurd (inside_spot i h (Own q) z outside at_i lt home)
           by_size (inr le) =
-              absurd (no_more_than y (sym (ap spot_dot (far_is_nothing f.types f.first (is_used f) f.splits f.env q h le)) ∙ e))
+              absurd (none-some y (sym (ap spot_dot (far_is_nothing f.types f.first (is_used f) f.splits f.env q h le)) ∙ e))
 
       by_asking : (b : Bool) → nat_eq (f.first + q) (f.first + f.own) ≡ b
           → part_of_dot f plc
@@ -416,7 +417,7 @@ module _ (f : Child) (own : List Part) (ts : List Tie) (pl plc : Placing) (r c :
           else if in_range (f.first + f.off) (length (parts_of f.types f.term)) (f.first + q) then Some (Within 0 (Of (PartEnd (f.first + q) h)))
           else spot_dot ((lodge f).home (Within 0 (Of (PartEnd (f.first + q) h))))) ≡ Some y → Comes (PartEnd i h) k
       by_asking true t none e =
-          let sum : f.first + q ≡ f.first + f.own = true_eq (f.first + q) (f.first + f.own) t in
+          let sum : f.first + q ≡ f.first + f.own = eqb-true (f.first + q) (f.first + f.own) t in
           let same : q ≡ f.own = omega (arith, sum) in
           lead_comes (AtOwn h) (PartEnd i h) k y e (ap (λ (m : ℕ). PartEnd m h) (ap pl.own (sym same) ∙ at_i)) at
       by_asking false t none e = by_home (in_range (f.first + f.off) (length (parts_of f.types f.term)) (f.first + q)) refl none e
@@ -430,11 +431,11 @@ module _ (f : Child) (own : List Part) (ts : List Tie) (pl plc : Placing) (r c :
 
   pub comes_so : (e : End) (k : Contact) (y : Dot) → IsOutside (child_cut f pl plc size) e → contact_at r e ≡ Some k → child_back f (dot_at f.first pl e) ≡ Some y → Comes e k
   comes_so (PartEnd i h) k y outside at e =
-      let (x, listed) = part_there (slice_get r.parts i) h k at in
+      let (x, listed) = part_is_there (slice_get r.parts i) h k at in
       let (from, same) = laid.no_more i x listed in
       part_comes (pl.source i) x i h k y outside from same at (outside_of i x listed outside) e
   comes_so (ImportEnd i h) k y outside at e =
-      let (x, listed) = import_there (slice_get r.imports i) h k at in
+      let (x, listed) = import_is_there (slice_get r.imports i) h k at in
       let (there, known, back) = laid.no_import i x listed in
       let (z, home) = spot_some ((lodge f).home (Within (suc (pl.origin i).number) (Of (ImportEnd (pl.origin i).import h)))) y e in
       let it = imports_are_there f.types f.first (is_used f) f.splits f.env f.numbers (pl.origin i).number (pl.origin i).import h z is.tidy there home in

@@ -9,11 +9,11 @@ use Rattle.gos_check.specs.Linearity.{times}
 use Rattle.gos_check.proofs.TimesLemmas.{some_times}
 use Rattle.gos_plan.specs.Kinds.{Part}
 use Rattle.gos_plan.specs.Plans.{End, PartEnd, ImportEnd, ResultEnd, Joint, Plan, IsRight}
+use Rattle.gos_plan.proofs.JointLemmas.{asking_stands, serving_stands, which_end}
 use Rattle.gos_realises.specs.realises.Realises.{NamesDiffer}
 use Rattle.gos_realises.proofs.realises.ToldLemmas.{there_is}
 use Rattle.gos_joining.specs.webs.Webs.{Dot, Of, Within, Tie, joint}
 use Rattle.gos_joining.specs.webs.Cutting.{Cut, StandsIn, lies_at}
-use Rattle.gos_joining.proofs.webs.CutLemmas.{which_end, first_stands, last_stands}
 use Rattle.gos_nodes.proofs.windows.PortLemmas.{stands_contact, one_place}
 use Rattle.gos_terms.specs.wired.Wired.{Supplies, Placing, Origin, IsWired, dot_at}
 use Rattle.gos_terms.proofs.wired.NameLemmas.{names_differ_along}
@@ -138,7 +138,7 @@ module _ (f : Child) (own : List Part) (ts : List Tie) (pl plc : Placing) (r c :
           by_end : (ImportEnd k n ≡ t.asking) ⊎ (ImportEnd k n ≡ t.serving) → StandsIn q (ImportEnd i n)
           by_end (inl same) =
               let (d, e, there, lies_d, lies_e) = folds t (dot_of i n) listed (inl (ap (λ (y : End). child_back f (dot_at f.first pl y)) (sym same) ∙ home)) in
-              of_end d (joint d e, there, first_stands (joint d e)) (lies_d ∙ sym same)
+              of_end d (joint d e, there, asking_stands (joint d e)) (lies_d ∙ sym same)
           by_end (inr same) =
               let (d, e, there, lies_d, lies_e) = folds t (dot_of i n) listed (inr (ap (λ (y : End). child_back f (dot_at f.first pl y)) (sym same) ∙ home)) in
-              of_end e (joint d e, there, last_stands (joint d e)) (lies_e ∙ sym same)
+              of_end e (joint d e, there, serving_stands (joint d e)) (lies_e ∙ sym same)

@@ -1,9 +1,10 @@
 -- The parts of a child's plan are parts of its node's, and are told by them.
 use Rattle.std.specs.Prelude.{◌+◌, ◌-◌, ◌<◌, ◌≤◌, ◌⊎◌, length, nat_eq, nat_lt, slice_get, None, Contains}
-use Rattle.std.proofs.Common.{◌≡◌, ℕ, zero, suc, Bool, true, false, not, List, [], ◌∷◌, Option, Some, inl, inr, refl, sym, ◌∙◌, ap, subst, arith, if◌then◌else◌}
+use Rattle.std.proofs.Common.{◌≡◌, ℕ, suc, Bool, true, false, not, List, [], ◌∷◌, Option, Some, inl, inr, refl, sym, ◌∙◌, ap, subst, arith, if◌then◌else◌}
 use Rattle.std.proofs.lemmas.Bool.Decides.{nat_tests}
-use Rattle.std.proofs.lemmas.Option.{slice_get_within}
-use Rattle.gos_model.proofs.NumberLemmas.{low_or_high}
+use Rattle.std.proofs.lemmas.Option.{slice_get_within, none-some}
+use Rattle.std.proofs.lemmas.Bool.{lt-ltb, ltb-true, cases_lt}
+use Rattle.gos_types.proofs.ListLemmas.{element_at}
 use Rattle.gos_plan.specs.Kinds.{Part}
 use Rattle.gos_plan.specs.Plans.{End, PartEnd, ResultEnd, Plan}
 use Rattle.gos_ties.specs.declared.points.Place.TheVariants as places
@@ -14,21 +15,12 @@ use Rattle.gos_terms.specs.stages.Lodging.{Spot, spot_if}
 use Rattle.gos_terms.specs.stages.Housing.{IsOutsider, IsThere}
 use Rattle.gos_terms.specs.stages.Folding.{Lead, AtOwn, AtResult, of_own, Child, is_used, lodge, in_range, spot_dot, asks_child, child_back, child_source, part_of_dot, IsChild, IsLaid}
 use Rattle.gos_terms.specs.stages.Folded.{HasChild, ChildIsPart}
-use Rattle.gos_terms.proofs.stages.StepLemmas.{low, told_low}
 use Rattle.gos_terms.proofs.stages.PartHomeLemmas.{numbers_are_at_home}
 use Rattle.gos_terms.proofs.stages.HousingLemmas.{parts_are_from, parts_are_outsiders, homes_are_there, far_is_nothing, first_is_kept}
 use Rattle.gos_terms.proofs.stages.ChildBackLemmas.{own_back, plain_share, spot_used, used_so}
 
 pub told_range : (a n k : ℕ) → in_range a n k ≡ true → (a ≤ k) × (k < a + n)
 told_range a n k h = (grind (arith, nat_tests, h), grind (arith, nat_tests, h))
-
-pub there_at : {X : Type 0} (xs : List X) (k : ℕ) → k < length xs → (x : X) × (slice_get xs k ≡ Some x)
-there_at [] k lt = absurd (omega (arith, lt))
-there_at (x ∷ xs) zero lt = (x, refl)
-there_at (x ∷ xs) (suc k) lt = there_at xs k (omega (arith, lt))
-
-pub no_more_than : {A : Type 0} (x : A) → None ≡ Some x → ⊥
-no_more_than x e = cc e
 
 module _ (f : Child) (ts : List Tie) (pl plc : Placing) (is : IsChild f ts) where
   -- a part of what stands for a number
@@ -87,7 +79,7 @@ module _ (f : Child) (ts : List Tie) (pl plc : Placing) (is : IsChild f ts) wher
     number_so s y from =
         let (at, same) = part_lies s y from in
         ap (λ (b : Bool). if b then part_of_dot f plc (child_back f (source_dot f.first (pl.source (placed pl (child_source f s))) 0)) else None)
-        (low (placed pl (child_source f s)) (length r.parts) (slice_get_within r.parts (placed pl (child_source f s)) y at))
+        (lt-ltb (placed pl (child_source f s)) (length r.parts) (slice_get_within r.parts (placed pl (child_source f s)) y at))
         ∙ (ap (λ (z : Source). part_of_dot f plc (child_back f (source_dot f.first z 0))) same
         ∙ (ap (part_of_dot f plc) (first_back s y from) ∙ number_of_source s))
 
@@ -107,22 +99,22 @@ module _ (f : Child) (ts : List Tie) (pl plc : Placing) (is : IsChild f ts) wher
     -- a spot that is told
     by_spot : (s : Source) (i j : ℕ) → IsThere (length f.splits) f.numbers f.env s → placed pl s ≡ i → (a : Option Spot) → (lodge f).home (source_dot f.first s 0) ≡ a
         → part_of_dot f plc (spot_dot a) ≡ Some j → Told i j
-    by_spot s i j there at_i None at e = absurd (no_more_than j e)
+    by_spot s i j there at_i None at e = absurd (none-some j e)
     by_spot s i j there at_i (Some z) at e =
         let it = homes_are_there f.types f.first (is_used f) f.splits f.env f.numbers s 0 z is.tidy there at in
-        let (y, listed) = there_at ((lodge f).env z.number).plan.parts it.part it.within in
+        let (y, listed) = element_at ((lodge f).env z.number).plan.parts it.part it.within in
         let number : Some (plc.supplied z.number it.part) ≡ Some j = sym (ap (λ (d : End). part_of_dot f plc (Some (Within (suc z.number) (Of d)))) it.end) ∙ e in
         let same : plc.supplied z.number it.part ≡ j = cc number in
         back_of (Supplied z.number it.part) y i j (spot_used f ts pl is (source_dot f.first s 0) z at, listed) (ap (placed pl) it.from ∙ at_i) same
 
     -- a part of the node
     asked_none : (ls : List Lead) (k h j : ℕ) → part_of_dot f plc (of_own ls k h) ≡ Some j → ⊥
-    asked_none [] k h j e = no_more_than j e
+    asked_none [] k h j e = none-some j e
     asked_none (AtOwn s ∷ ls) k h j e = by_test (nat_eq h s) e (asked_none ls (suc k) h j)
       where
         by_test : (b : Bool) → part_of_dot f plc (if b then Some (Within 0 (Of (ResultEnd k))) else of_own ls (suc k) h) ≡ Some j
             → (part_of_dot f plc (of_own ls (suc k) h) ≡ Some j → ⊥) → ⊥
-        by_test true e more = no_more_than j e
+        by_test true e more = none-some j e
         by_test false e more = more e
     asked_none (AtResult s ∷ ls) k h j e = asked_none ls (suc k) h j e
 
@@ -135,20 +127,20 @@ module _ (f : Child) (ts : List Tie) (pl plc : Placing) (is : IsChild f ts) wher
             let k : ℕ = q - f.off in
             let same : f.off + (q - f.off) ≡ q = omega (arith, le) in
             let number : f.first + q - (f.first + f.off) ≡ q - f.off = omega arith in
-            let (y, listed) = there_at (parts_of f.types f.term) (q - f.off) (omega (arith, lt, le)) in
+            let (y, listed) = element_at (parts_of f.types f.term) (q - f.off) (omega (arith, lt, le)) in
             let is_j : plc.own (f.first + q - (f.first + f.off)) ≡ j = cc e in
             back_of (Own (q - f.off)) y i j listed (ap (λ (m : ℕ). placed pl (Own m)) same ∙ at_i) (ap plc.own (sym number) ∙ is_j)
 
         by_home : (b : Bool) → in_range (f.first + f.off) (length (parts_of f.types f.term)) (f.first + q) ≡ b
             → part_of_dot f plc (if b then Some (Within 0 (Of (PartEnd (f.first + q) 0))) else spot_dot ((lodge f).home (Within 0 (Of (PartEnd (f.first + q) 0))))) ≡ Some j → Told i j
         by_home true t e = in_child t e
-        by_home false t e = by_size (low_or_high q (length f.splits))
+        by_home false t e = by_size (cases_lt q (length f.splits))
           where
             by_size : (q < length f.splits) ⊎ (length f.splits ≤ q) → Told i j
             by_size (inl lt) = by_spot (Own q) i j lt at_i ((lodge f).home (source_dot f.first (Own q) 0)) refl e
             by_size (inr le) =
                 let none = far_is_nothing f.types f.first (is_used f) f.splits f.env q 0 le in
-                absurd (no_more_than j (sym (ap (λ (a : Option Spot). part_of_dot f plc (spot_dot a)) none) ∙ e))
+                absurd (none-some j (sym (ap (λ (a : Option Spot). part_of_dot f plc (spot_dot a)) none) ∙ e))
 
         by_asking : (b : Bool) → nat_eq (f.first + q) (f.first + f.own) ≡ b
             → part_of_dot f plc
@@ -169,9 +161,9 @@ module _ (f : Child) (ts : List Tie) (pl plc : Placing) (is : IsChild f ts) wher
       where
         by_size : (b : Bool) → nat_lt i (length r.parts) ≡ b
             → (if b then part_of_dot f plc (child_back f (source_dot f.first (pl.source i) 0)) else None) ≡ Some j → Told i j
-        by_size false t e = absurd (no_more_than j e)
+        by_size false t e = absurd (none-some j e)
         by_size true t e =
-            let (y, listed) = there_at r.parts i (told_low i (length r.parts) t) in
+            let (y, listed) = element_at r.parts i (ltb-true i (length r.parts) t) in
             let (from, same) = laid.no_more i y listed in
             by_source (pl.source i) y i j from same e
 

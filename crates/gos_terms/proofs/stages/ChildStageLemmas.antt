@@ -3,13 +3,14 @@ use Rattle.std.specs.Prelude.{◌+◌, ◌-◌, ◌<◌, ◌≤◌, length, nat_
 use Rattle.std.proofs.Common.{◌≡◌, ℕ, Bool, true, false, List, [], ◌++◌, Some, refl, sym, ◌∙◌, ap, subst, arith, if◌then◌else◌}
 use Rattle.std.proofs.lemmas.Bool.Decides.{nat_tests}
 use Rattle.std.proofs.lemmas.Option.{slice_get_within}
+use Rattle.std.proofs.lemmas.Bool.{lt-ltb, le-ltb}
+use Rattle.gos_types.proofs.ListLemmas.{found_in_front, found_behind}
 use Rattle.gos_model.specs.Typing.{Imported}
 use Rattle.gos_check.specs.Nodes.{type_of_node}
 use Rattle.gos_check.specs.Linearity.{times}
 use Rattle.gos_plan.specs.Kinds.{Part}
 use Rattle.gos_plan.specs.Plans.{Plan, Joint}
 use Rattle.gos_joining.specs.webs.Webs.{IsOfWeb}
-use Rattle.gos_joining.proofs.unions.LeftLemmas.{front, behind}
 use Rattle.gos_nodes.specs.folds.Folds.{with_joints}
 use Rattle.gos_nodes.proofs.folds.PlanLemmas.{fold_has_plan}
 use Rattle.gos_compile.specs.Wiring.{parts_of}
@@ -18,7 +19,6 @@ use Rattle.gos_terms.specs.stages.Inside.{inside_supplies}
 use Rattle.gos_terms.specs.stages.Folding.{is_used, lodge, child_web, child_fold, child_servings, IsLaid}
 use Rattle.gos_terms.specs.stages.Folded.{HasChild}
 use Rattle.gos_terms.specs.stages.Regions.{ChildIsStaged}
-use Rattle.gos_terms.proofs.stages.StepLemmas.{low, high}
 use Rattle.gos_terms.proofs.stages.LodgingLemmas.{lodged_are_inside}
 use Rattle.gos_terms.proofs.stages.ChildFoldLemmas.{child_is_folded}
 use Rattle.gos_terms.proofs.stages.LayoutLemmas.{Found, in_front, in_back, all, place, find, placed_there, placed_found, is_found}
@@ -47,14 +47,14 @@ module _ (own : List Part) (ns : List ℕ) (env : Supplies) (once : (k : ℕ) �
   module _ (c : Plan) (parts : c.parts ≡ own ++ all parts_for ns) (imports : c.imports ≡ all imports_for ns) where
     there : (x : Part) (s : Source) → IsFrom own ns env x s → (slice_get c.parts (placed laying s) ≡ Some x) × (laying.source (placed laying s) ≡ s)
     there x (Own k) at = (
-      ap (λ (xs : List Part). slice_get xs k) parts ∙ front own (all parts_for ns) k x at,
-      ap (λ (b : Bool). if b then Own k else source_at (find parts_for ns (k - length own))) (low k (length own) (slice_get_within own k x at)),
+      ap (λ (xs : List Part). slice_get xs k) parts ∙ found_in_front own (all parts_for ns) k x at,
+      ap (λ (b : Bool). if b then Own k else source_at (find parts_for ns (k - length own))) (lt-ltb k (length own) (slice_get_within own k x at)),
     )
     there x (Supplied n k) (listed, at) = (
       ap (λ (xs : List Part). slice_get xs (length own + place parts_for ns n k)) parts
-          ∙ (behind own (all parts_for ns) (place parts_for ns n k) ∙ placed_there parts_for ns n k x listed at),
+          ∙ (found_behind own (all parts_for ns) (place parts_for ns n k) ∙ placed_there parts_for ns n k x listed at),
       ap (λ (b : Bool). if b then Own (length own + place parts_for ns n k) else source_at (find parts_for ns (length own + place parts_for ns n k - length own)))
-          (high (length own + place parts_for ns n k) (length own) (omega arith))
+          (le-ltb (length own + place parts_for ns n k) (length own) (omega arith))
           ∙ (ap (λ (j : ℕ). source_at (find parts_for ns j)) (less (length own) (place parts_for ns n k))
           ∙ ap source_at (placed_found parts_for ns n k listed (slice_get_within (parts_for n) k x at))),
     )

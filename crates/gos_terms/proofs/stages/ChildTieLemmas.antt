@@ -2,9 +2,9 @@
 use Rattle.std.specs.Prelude.{◌≢◌, ◌+◌, ◌<◌, ◌≤◌, ◌⊎◌, map, Contains}
 use Rattle.std.proofs.Common.{◌≡◌, ℕ, zero, suc, List, [], ◌∷◌, inl, inr, refl, sym, ◌∙◌, ap, subst, arith}
 use Rattle.std.proofs.lemmas.List.{length-map}
-use Rattle.std.proofs.lemmas.List.Elements.{Contains-append_left, Contains-append_right, Contains-append_cases}
+use Rattle.std.proofs.lemmas.List.Elements.{Contains-append_cases}
+use Rattle.gos_model.proofs.NumberLemmas.{number_cases}
 use Rattle.gos_check.specs.Nodes.{type_of_node}
-use Rattle.gos_check.proofs.TimesLemmas.{number_cases}
 use Rattle.gos_plan.specs.Plans.{ResultEnd, Joint}
 use Rattle.gos_realises.specs.realises.Regular.{count}
 use Rattle.gos_ties.specs.declared.points.Place.TheVariants as places
@@ -17,7 +17,7 @@ use Rattle.gos_terms.specs.wired.Wired.{Supplies, Placing, dot_of, dot_ties, res
 use Rattle.gos_terms.specs.stages.Leading.{dot_leading}
 use Rattle.gos_terms.specs.stages.Folding.{Child, lead_point, is_used, lodge, child_out, child_web, child_dot, own_ties, IsChild, ChildWays}
 use Rattle.gos_terms.proofs.stages.FollowLemmas.{dots_lead}
-use Rattle.gos_terms.proofs.stages.WayLemmas.{by_tie, joints_are_ways}
+use Rattle.gos_terms.proofs.stages.WayLemmas.{joints_are_ways, way_by_tie}
 use Rattle.gos_terms.proofs.stages.LodgingLemmas.{lifted}
 
 abbrev pub joint_tie : Joint → Tie
@@ -48,14 +48,6 @@ of_supplies types env (n ∷ ns) t has =
       | inl own ↦ (n, (0, omega arith, refl), own)
       | inr rest ↦ (let (m, (k, low, is), there) = of_supplies types env ns t rest in (m, (suc k, omega (arith, low), is), there))
     ]
-
-pub in_supplies : (types : Types) (env : Supplies) (ns : List ℕ) (n : ℕ) (t : Tie) → Contains ns n → Contains (supply_ties types env n) t
-    → Contains (all_supply_ties types env ns) t
-in_supplies types env [] n t (k, lt, e) own = absurd (omega (arith, lt))
-in_supplies types env (m ∷ ms) n t (zero, lt, e) own =
-    Contains-append_left (supply_ties types env m) (all_supply_ties types env ms) t (subst (λ (r : ℕ). Contains (supply_ties types env r) t) (sym e) own)
-in_supplies types env (m ∷ ms) n t (suc k, lt, e) own =
-    Contains-append_right (supply_ties types env m) (all_supply_ties types env ms) t (in_supplies types env ms n t (k, omega (arith, lt), e) own)
 
 abbrev pub ResultTie : ℕ → ℕ → Tie
 ResultTie n h = tie (Within 0 (Number n h)) (Within (suc n) (Of (ResultEnd h)))
@@ -125,7 +117,7 @@ module _ (f : Child) (ts : List Tie) (pl : Placing) (is : IsChild f ts) where
       let (v, there, at_v) = of_image (put_in 0) (dot_ties mine) t has in
       let (u, listed, at_u) = of_image dot_tie mine v there in
       subst (λ (x : Tie). Way ts (child_dot f x.one) (child_dot f x.other)) (ap (put_in 0) at_u ∙ at_v)
-      (by_tie ts (Within 0 (leads (dot_of u.one))) (Within 0 (leads (dot_of u.other)))
+      (way_by_tie ts (Within 0 (leads (dot_of u.one))) (Within 0 (leads (dot_of u.other)))
       (is.has_own (tie (Within 0 (leads (dot_of u.one))) (Within 0 (leads (dot_of u.other)))) (led_in u listed)))
 
   supply_way : (n : ℕ) (t : Tie) → Contains f.uses n → Contains (supply_ties f.types (lodge f).env n) t → Way ts (child_dot f t.one) (child_dot f t.other)

@@ -2,12 +2,14 @@
 use Rattle.std.specs.Prelude.{◌≢◌, ◌+◌, ◌<◌, ◌||◌, length, map, nat_eq, slice_get, None, Contains}
 use Rattle.std.proofs.Common.{◌≡◌, ℕ, zero, suc, Bool, true, false, List, [], ◌∷◌, Option, Some, inl, inr, refl, ap, subst, arith, if◌then◌else◌}
 use Rattle.std.proofs.lemmas.List.Elements.{Contains-append_left, Contains-append_right}
+use Rattle.std.proofs.lemmas.Bool.{eq-eqb, ne_eqb}
 use Rattle.gos_types.specs.declared.shakes.Role.{Role}
 use Rattle.gos_types.specs.declared.shakes.Role.TheVariants.{Serve, Ask}
 use Rattle.gos_types.specs.Types.{Type'}
+use Rattle.gos_types.proofs.ListLemmas.{element_at}
 use Rattle.gos_check.specs.declared.linear.Split.{Split}
 use Rattle.gos_check.specs.Linearity.{times, sides}
-use Rattle.gos_check.proofs.TimesLemmas.{eq_true, eq_false, times_none}
+use Rattle.gos_check.proofs.TimesLemmas.{times_none}
 use Rattle.gos_plan.specs.Kinds.{Contact, contacts_of}
 use Rattle.gos_plan.specs.Plans.{End, PartEnd, ResultEnd, Joint, Plan}
 use Rattle.gos_realises.specs.realises.Regular.{count}
@@ -53,11 +55,6 @@ way_behind t c p a b way = way_mapped (dot_behind k) (own_web p).ties (own_web (
         (Contains-append_left (map (joint_behind k) p.joints) (outer_joints k t c 0 (contacts_of t)) (joint_behind k j) (in_image (joint_behind k) p.joints j there)))
 
 -- and at its caller
-there_is : (ks : List Contact) (h : ℕ) → h < length ks → (k : Contact) × (slice_get ks h ≡ Some k)
-there_is [] h lt = absurd (omega (arith, lt))
-there_is (k ∷ ks) zero lt = (k, refl)
-there_is (k ∷ ks) (suc h) lt = there_is ks h (omega (arith, lt))
-
 outer_listed : (i : ℕ) (t : Type') (c n : ℕ) (ks : List Contact) (h : ℕ) (k : Contact) → slice_get ks h ≡ Some k
     → Contains (outer_joints i t c n ks) (outer_joint i t c (n + h) k.role)
 outer_listed i t c n [] h k at = absurd (cc at)
@@ -73,7 +70,7 @@ outer_listed i t c n (d ∷ ks) (suc h) k at =
 pub way_to_caller : (t : Type') (c : ℕ) (p : Plan) (h : ℕ) → h < count t
     → Way (own_web (passing t c p)).ties (Of (ResultEnd h)) (Of (caller_end (length p.parts) t c h))
 way_to_caller t c p h lt =
-    let (d, at) = there_is (contacts_of t) h lt in
+    let (d, at) = element_at (contacts_of t) h lt in
     let same : 0 + h ≡ h = omega arith in
     by_role d.role
     (subst (λ (m : ℕ). Contains (passing t c p).joints (outer_joint k t c m d.role)) same
@@ -109,13 +106,13 @@ neither_side s ss n none =
     (l.0, r.0, r.1)
 
 pub no_side : (s : Split) (n : ℕ) → n ≢ s.left → n ≢ s.right → is_side s n ≡ false
-no_side s n l r = rw (eq_false n s.left l, eq_false n s.right r) refl
+no_side s n l r = rw (ne_eqb n s.left l, ne_eqb n s.right r) refl
 
 pub left_side : (s : Split) → is_side s s.left ≡ true
-left_side s = rw (eq_true s.left s.left refl) refl
+left_side s = rw (eq-eqb s.left s.left refl) refl
 
 pub right_side : (s : Split) → is_side s s.right ≡ true
-right_side s = let e = eq_true s.right s.right refl in either (nat_eq s.right s.left) (nat_eq s.right s.right) e
+right_side s = let e = eq-eqb s.right s.right refl in either (nat_eq s.right s.left) (nat_eq s.right s.right) e
   where
     either : (a b : Bool) → b ≡ true → (a || b) ≡ true
     either true b e = refl
@@ -130,7 +127,7 @@ untouched_later q s ss d u = tt
 pub plainly : (q m k : ℕ) (s : Split) (ss : List Split) (c : Option ℕ) (home : Dot → Option Spot) (d : Dot)
     → Untouched q (s ∷ ss) d → one_home q m k s c home d ≡ moved s c k (home d)
 plainly q m k s ss c home (Within zero (Of (PartEnd i h))) u =
-    let e : nat_eq i q ≡ false = eq_false i q (λ is. let same : i ≡ q = is in omega (arith, same, u)) in
+    let e : nat_eq i q ≡ false = ne_eqb i q (λ is. let same : i ≡ q = is in omega (arith, same, u)) in
     ap (λ (b : Bool). if b then share_spot m k s c h else moved s c k (home (Within 0 (Of (PartEnd i h))))) e
 plainly q m k s ss c home (Within zero (Number n h)) u =
     let (l, r, rest) = neither_side s ss n u in

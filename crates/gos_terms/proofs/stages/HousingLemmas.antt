@@ -1,9 +1,11 @@
 -- Parts and imports of supplies inside splits, split by split.
 use Rattle.std.specs.Prelude.{◌≢◌, ◌+◌, ◌<◌, ◌≤◌, length, nat_eq, slice_get, None, Contains}
 use Rattle.std.proofs.Common.{◌≡◌, ℕ, suc, Bool, true, false, not, List, [], ◌∷◌, ◌++◌, Option, Some, inl, inr, refl, sym, ◌∙◌, ap, subst, arith, if◌then◌else◌}
+use Rattle.std.proofs.lemmas.Bool.{eq-eqb, ne_eqb}
+use Rattle.std.proofs.lemmas.Option.{none-some}
+use Rattle.gos_model.proofs.NumberLemmas.{number_cases}
 use Rattle.gos_check.specs.declared.linear.Split.{Split}
 use Rattle.gos_check.specs.Linearity.{times, sides}
-use Rattle.gos_check.proofs.TimesLemmas.{number_cases, eq_true, eq_false}
 use Rattle.gos_plan.specs.Kinds.{Part, Share}
 use Rattle.gos_plan.specs.Plans.{PartEnd}
 use Rattle.gos_realises.specs.realises.Regular.{count}
@@ -22,9 +24,6 @@ use Rattle.gos_terms.proofs.stages.InsideLemmas.{of_cons, one_stays}
 use Rattle.gos_terms.proofs.stages.HomeLemmas.{Untouched, IsOld, neither_side, no_side, plainly}
 use Rattle.gos_terms.proofs.stages.StepLemmas.{serves_source, side_is, side_env, side_gone, seen_caller, IsCaller}
 use Rattle.gos_terms.proofs.stages.LodgingLemmas.{IsTidy, tidy_on, tidy_first, seen}
-
-no_number : {A : Type 0} (x : A) → None ≡ Some x → ⊥
-no_number x e = cc e
 
 -- parts and imports that come from outside
 abbrev AreFrom : List Part → List ℕ → Supplies → Lodging → List ℕ → Type 0
@@ -134,8 +133,8 @@ module _ (types : Types) (q x : ℕ) (s : Split) (ss : List Split) (once : (k : 
   moved_in from h b two None was z e = absurd (none_moved b e)
     where
       none_moved : (b : Option ℕ) → moved s b place None ≡ Some z → ⊥
-      none_moved None e = no_number z e
-      none_moved (Some c) e = no_number z e
+      none_moved None e = none-some z e
+      none_moved (Some c) e = none-some z e
   moved_in from h None two (Some y) was z e = subst (λ (w : Spot). IsIn next from h w × IsOld ss (Some w)) same (stay from h y (was y refl))
     where
       same : y ≡ z
@@ -153,7 +152,7 @@ module _ (types : Types) (q x : ℕ) (s : Split) (ss : List Split) (once : (k : 
       goes (it, old) of =
           let here : it.part < place = subst (λ (n : ℕ). it.part < length (l.env n).plan.parts) of it.within in
           let size = longer c two in
-          let far : nat_eq it.part place ≡ false = eq_false it.part place (λ e. let both : it.part ≡ place = e in omega (arith, both, here)) in (
+          let far : nat_eq it.part place ≡ false = ne_eqb it.part place (λ e. let both : it.part ≡ place = e in omega (arith, both, here)) in (
             record {
               part = it.part;
               end = ap (end_behind place) it.end;
@@ -166,11 +165,11 @@ module _ (types : Types) (q x : ℕ) (s : Split) (ss : List Split) (once : (k : 
           )
 
   share_in : (h : ℕ) (b : Option ℕ) → IsCaller b → (z : Spot) → share_spot (count (types s.of)) place s b h ≡ Some z → IsIn next (Own x) h z × IsOld ss (Some z)
-  share_in h None two z e = absurd (no_number z e)
+  share_in h None two z e = absurd (none-some z e)
   share_in h (Some c) two z e = served (serves_side (count (types s.of)) c h) e
     where
       served : (t : Bool) → spot_if t (side_number s c) (PartEnd place h) ≡ Some z → IsIn next (Own x) h z × IsOld ss (Some z)
-      served false e = absurd (no_number z e)
+      served false e = absurd (none-some z e)
       served true e =
           let same : spot (side_number s c) (PartEnd place h) ≡ z = cc e in
           let size = longer c two in
@@ -178,7 +177,7 @@ module _ (types : Types) (q x : ℕ) (s : Split) (ss : List Split) (once : (k : 
             record {
               part = place;
               end = refl;
-              from = side_part c place ∙ ap (λ (t : Bool). if t then Own x else l.part s.of place) (eq_true place place refl);
+              from = side_part c place ∙ ap (λ (t : Bool). if t then Own x else l.part s.of place) (eq-eqb place place refl);
               within = omega (arith, size);
             },
             side_gone types s ss once c,
@@ -274,7 +273,7 @@ module _ (types : Types) (inner : ℕ → Bool) where
               → (one_lodging types q x s (seen types inner ss s) l).home (Within 0 (Of (PartEnd r h))) ≡ share_spot (count (types s.of)) (length (l.env s.of).plan.parts) s (seen types inner ss s) h
           at_share r e =
               ap (λ (t : Bool). if t then share_spot (count (types s.of)) (length (l.env s.of).plan.parts) s (seen types inner ss s) h
-              else moved s (seen types inner ss s) (length (l.env s.of).plan.parts) (l.home (Within 0 (Of (PartEnd r h))))) (eq_true r q e)
+              else moved s (seen types inner ss s) (length (l.env s.of).plan.parts) (l.home (Within 0 (Of (PartEnd r h))))) (eq-eqb r q e)
 
 -- a part behind the Shares
 far_moved : (s : Split) (b : Option ℕ) (k : ℕ) → moved s b k None ≡ None
@@ -288,7 +287,7 @@ far_on types inner i (s ∷ ss) q x at_q l y h le none =
     far_on types inner i ss (suc q) (suc x) (omega (arith, at_q)) (one_lodging types q x s (seen types inner ss s) l) y h (omega (arith, le)) next
   where
     apart : nat_eq (i + y) q ≡ false
-    apart = eq_false (i + y) q (λ e. let same : i + y ≡ q = e in omega (arith, same, at_q, le))
+    apart = ne_eqb (i + y) q (λ e. let same : i + y ≡ q = e in omega (arith, same, at_q, le))
 
     next : (one_lodging types q x s (seen types inner ss s) l).home (source_dot i (Own y) h) ≡ None
     next =
@@ -348,7 +347,7 @@ homes_are_there types i inner ss env ns (Supplied n k) h z tidy there e =
     first z e = by_live (live ss inner n) e
       where
         by_live : (b : Bool) → spot_if b n (PartEnd k h) ≡ Some z → IsIn (first_lodging (live ss inner) env) (Supplied n k) h z × IsOld ss (Some z)
-        by_live false e = absurd (no_number z e)
+        by_live false e = absurd (none-some z e)
         by_live true e =
             let same : spot n (PartEnd k h) ≡ z = cc e in
             subst (λ (w : Spot). IsIn (first_lodging (live ss inner) env) (Supplied n k) h w × IsOld ss (Some w)) same

@@ -1,9 +1,10 @@
 -- Imports that are at home in a supply inside splits are its own, and the node's result is at home nowhere.
 use Rattle.std.specs.Prelude.{◌≤◌, length, nat_eq, None, Contains}
 use Rattle.std.proofs.Common.{◌≡◌, ℕ, suc, Bool, true, false, List, [], ◌∷◌, Option, Some, refl, sym, ◌∙◌, ap, subst, if◌then◌else◌}
+use Rattle.std.proofs.lemmas.Option.{none-some}
+use Rattle.gos_model.proofs.NumberLemmas.{number_cases}
 use Rattle.gos_check.specs.declared.linear.Split.{Split}
 use Rattle.gos_check.specs.Linearity.{times, sides}
-use Rattle.gos_check.proofs.TimesLemmas.{number_cases}
 use Rattle.gos_plan.specs.Plans.{ImportEnd, ResultEnd}
 use Rattle.gos_joining.specs.webs.Webs.{Of, Within}
 use Rattle.gos_compile.specs.Wiring.{Types}
@@ -13,9 +14,6 @@ use Rattle.gos_terms.specs.stages.Lodging.{Spot, spot, spot_if, Lodging, live, f
 use Rattle.gos_terms.proofs.stages.HomeLemmas.{IsOld, neither_side, no_side}
 use Rattle.gos_terms.proofs.stages.StepLemmas.{side_is, side_gone}
 use Rattle.gos_terms.proofs.stages.LodgingLemmas.{IsTidy, tidy_on, tidy_first, seen}
-
-no_spot : {A : Type 0} (x : A) → None ≡ Some x → ⊥
-no_spot x e = cc e
 
 -- of the supply of a number whose root this is
 pub record IsImport (l : Lodging) (m k h : ℕ) (z : Spot) : Type 0 where
@@ -51,8 +49,8 @@ module _ (types : Types) (inner : ℕ → Bool) where
 
       by_caller : (c : Option ℕ) (a : Option Spot) → ((z : Spot) → a ≡ Some z → IsImport l m k h z × IsOld (s ∷ ss) (Some z))
           → moved s c (length (l.env s.of).plan.parts) a ≡ Some z → IsImport (one_lodging types q x s c l) m k h z × IsOld ss (Some z)
-      by_caller None None was e = absurd (no_spot z e)
-      by_caller (Some c) None was e = absurd (no_spot z e)
+      by_caller None None was e = absurd (none-some z e)
+      by_caller (Some c) None was e = absurd (none-some z e)
       by_caller None (Some y) was e =
           let same : y ≡ z = cc e in
           subst (λ (w : Spot). IsImport (one_lodging types q x s None l) m k h w × IsOld ss (Some w)) same (stay None y (was y refl))
@@ -91,7 +89,7 @@ imports_are_there types i inner ss env ns m k h z tidy there e =
     first z e = by_live (live ss inner m) e
       where
         by_live : (b : Bool) → spot_if b m (ImportEnd k h) ≡ Some z → IsImport (first_lodging (live ss inner) env) m k h z × IsOld ss (Some z)
-        by_live false e = absurd (no_spot z e)
+        by_live false e = absurd (none-some z e)
         by_live true e =
             let same : spot m (ImportEnd k h) ≡ z = cc e in
             subst (λ (w : Spot). IsImport (first_lodging (live ss inner) env) m k h w × IsOld ss (Some w)) same (record { end = refl; root = refl }, tidy.outside m there)

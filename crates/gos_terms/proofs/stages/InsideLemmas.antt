@@ -2,7 +2,9 @@
 use Rattle.std.specs.Prelude.{◌≢◌, ◌<◌, ◌⊎◌, ◌||◌, length, nat_eq, Contains}
 use Rattle.std.proofs.Common.{◌≡◌, ℕ, zero, suc, Bool, true, false, List, [], ◌∷◌, inl, inr, refl, sym, ◌∙◌, ap, subst, arith, if◌then◌else◌}
 use Rattle.std.proofs.lemmas.List.Elements.{All-push}
+use Rattle.std.proofs.lemmas.Bool.{ne_eqb}
 use Rattle.gos_types.specs.Types.{Type'}
+use Rattle.gos_model.proofs.NumberLemmas.{number_cases}
 use Rattle.gos_plan.specs.Kinds.{Share}
 use Rattle.gos_plan.specs.Plans.{Plan, IsRight}
 use Rattle.gos_plan.specs.TokenBits.{LiteralFits}
@@ -11,7 +13,7 @@ use Rattle.gos_realises.specs.realises.Modules.{Supply}
 use Rattle.gos_check.specs.declared.linear.Split.{Split}
 use Rattle.gos_check.specs.Nodes.{Meaning, inside, inside_one}
 use Rattle.gos_check.specs.Linearity.{sides}
-use Rattle.gos_check.proofs.TimesLemmas.{number_cases, times_none, eq_false}
+use Rattle.gos_check.proofs.TimesLemmas.{times_none}
 use Rattle.gos_compile.specs.Wiring.{Types}
 use Rattle.gos_sharing.specs.behind.Behind.{passing, IsBehind}
 use Rattle.gos_sharing.proofs.behind.PassingLemmas.{lies_behind_share}
@@ -124,7 +126,7 @@ inside_means types (s ∷ ss) env k =
 
 -- and other numbers
 pub one_stays : (types : Types) (s : Split) (env : Supplies) (k : ℕ) → k ≢ s.left → k ≢ s.right → inside_one_supply types s env k ≡ env k
-one_stays types s env k l r = rw (eq_false k s.left l, eq_false k s.right r) refl
+one_stays types s env k l r = rw (ne_eqb k s.left l, ne_eqb k s.right r) refl
 
 pub others_stay : OthersStay
 others_stay types [] env k none = refl

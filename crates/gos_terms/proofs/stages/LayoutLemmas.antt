@@ -2,10 +2,11 @@
 use Rattle.std.specs.Prelude.{◌≢◌, ◌+◌, ◌-◌, ◌<◌, ◌≤◌, length, nat_eq, nat_lt, slice_get, Contains}
 use Rattle.std.proofs.Common.{◌≡◌, ℕ, zero, suc, Bool, true, false, List, [], ◌∷◌, ◌++◌, Some, refl, sym, ◌∙◌, ap, subst, arith, if◌then◌else◌}
 use Rattle.std.proofs.lemmas.Bool.Decides.{nat_tests}
+use Rattle.std.proofs.lemmas.Bool.{lt-ltb, le-ltb, eq-eqb, ne_eqb}
+use Rattle.gos_types.proofs.ListLemmas.{found_in_front, found_behind}
+use Rattle.gos_model.proofs.NumberLemmas.{number_cases}
 use Rattle.gos_check.specs.Linearity.{times}
-use Rattle.gos_check.proofs.TimesLemmas.{number_cases, eq_true, eq_false, times_same, some_times}
-use Rattle.gos_joining.proofs.unions.LeftLemmas.{front, behind}
-use Rattle.gos_terms.proofs.stages.StepLemmas.{low, high}
+use Rattle.gos_check.proofs.TimesLemmas.{times_same, some_times}
 
 -- the number whose list has element j, and which of its elements it is
 pub record Found : Type 0 where
@@ -46,9 +47,9 @@ module _ {X : Type 0} (lists : ℕ → List X) where
   placed_there (m ∷ ns) n k x there at =
       number_cases n m
       (λ e t. subst (λ (b : Bool). slice_get (lists m ++ all ns) (if b then k else length (lists m) + place ns n k) ≡ Some x) (sym t)
-      (front (lists m) (all ns) k x (subst (λ (r : ℕ). slice_get (lists r) k ≡ Some x) e at)))
+      (found_in_front (lists m) (all ns) k x (subst (λ (r : ℕ). slice_get (lists r) k ≡ Some x) e at)))
       (λ e t. subst (λ (b : Bool). slice_get (lists m ++ all ns) (if b then k else length (lists m) + place ns n k) ≡ Some x) (sym t)
-      (behind (lists m) (all ns) (place ns n k) ∙ placed_there ns n k x (later e there) at))
+      (found_behind (lists m) (all ns) (place ns n k) ∙ placed_there ns n k x (later e there) at))
     where
       later : n ≢ m → Contains (m ∷ ns) n → Contains ns n
       later e (zero, lt, is) = absurd (e (sym is))
@@ -59,11 +60,11 @@ module _ {X : Type 0} (lists : ℕ → List X) where
   placed_found (m ∷ ns) n k there small =
       number_cases n m
       (λ e t. ap (λ (b : Bool). find (m ∷ ns) (if b then k else length (lists m) + place ns n k)) t
-      ∙ (ap (λ (b : Bool). if b then found m k else find ns (k - length (lists m))) (low k (length (lists m)) (subst (λ (r : ℕ). k < length (lists r)) e small))
+      ∙ (ap (λ (b : Bool). if b then found m k else find ns (k - length (lists m))) (lt-ltb k (length (lists m)) (subst (λ (r : ℕ). k < length (lists r)) e small))
       ∙ ap (λ (r : ℕ). found r k) (sym e)))
       (λ e t. ap (λ (b : Bool). find (m ∷ ns) (if b then k else length (lists m) + place ns n k)) t
       ∙ (ap (λ (b : Bool). if b then found m (length (lists m) + place ns n k) else find ns (length (lists m) + place ns n k - length (lists m)))
-      (high (length (lists m) + place ns n k) (length (lists m)) (omega arith))
+      (le-ltb (length (lists m) + place ns n k) (length (lists m)) (omega arith))
       ∙ (ap (find ns) (less (length (lists m)) (place ns n k)) ∙ placed_found ns n k (later e there) small)))
     where
       less : (a b : ℕ) → a + b - a ≡ b
@@ -99,7 +100,7 @@ module _ {X : Type 0} (lists : ℕ → List X) where
             there = subst (λ (d : Found). slice_get (lists d.number) d.index ≡ Some x) (sym at_find) (in_front (lists m) (all ns) j x at lt);
             back =
                 subst (λ (d : Found). place (m ∷ ns) d.number d.index ≡ j) (sym at_find)
-                (ap (λ (b : Bool). if b then j else length (lists m) + place ns m j) (eq_true m m refl));
+                (ap (λ (b : Bool). if b then j else length (lists m) + place ns m j) (eq-eqb m m refl));
           }
 
       apart : (n : ℕ) → Contains ns n → n ≢ m
@@ -118,7 +119,7 @@ module _ {X : Type 0} (lists : ℕ → List X) where
             back =
                 subst (λ (d : Found). place (m ∷ ns) d.number d.index ≡ j) (sym at_find)
                 (ap (λ (b : Bool). if b then (find ns (j - length (lists m))).index else length (lists m) + place ns (find ns (j - length (lists m))).number (find ns (j - length (lists m))).index)
-                (eq_false (find ns (j - length (lists m))).number m (apart (find ns (j - length (lists m))).number it.listed))
+                (ne_eqb (find ns (j - length (lists m))).number m (apart (find ns (j - length (lists m))).number it.listed))
                 ∙ sum (place ns (find ns (j - length (lists m))).number (find ns (j - length (lists m))).index) it.back);
           }
         where

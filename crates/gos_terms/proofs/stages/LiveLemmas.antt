@@ -1,8 +1,9 @@
 -- What a dot stands for is of a live number.
 use Rattle.std.specs.Prelude.{◌≢◌, ◌||◌, length, nat_eq, None}
 use Rattle.std.proofs.Common.{◌≡◌, ℕ, zero, suc, Bool, true, false, List, [], ◌∷◌, Option, Some, refl, sym, ◌∙◌, ap, subst, if◌then◌else◌, true≢false}
+use Rattle.std.proofs.lemmas.Bool.{eq-eqb, ne_eqb}
+use Rattle.gos_model.proofs.NumberLemmas.{number_cases}
 use Rattle.gos_check.specs.declared.linear.Split.{Split}
-use Rattle.gos_check.proofs.TimesLemmas.{number_cases, eq_true, eq_false}
 use Rattle.gos_plan.specs.Plans.{End, PartEnd, ResultEnd}
 use Rattle.gos_realises.specs.realises.Regular.{count}
 use Rattle.gos_joining.specs.webs.Webs.{Dot, Of, Number, Within}
@@ -21,10 +22,10 @@ live_if inner ss false n e lives = tt
 module _ (inner : ℕ → Bool) (s : Split) (ss : List Split) where
   live_old : (x : Spot) → live (s ∷ ss) inner x.number ≡ true → x.number ≢ s.of → live ss inner x.number ≡ true
   live_old x lives far =
-      sym (ap (λ (b : Bool). if b then live ss inner s.left || live ss inner s.right else live ss inner x.number) (eq_false x.number s.of far)) ∙ lives
+      sym (ap (λ (b : Bool). if b then live ss inner s.left || live ss inner s.right else live ss inner x.number) (ne_eqb x.number s.of far)) ∙ lives
 
   live_split : (n : ℕ) → n ≡ s.of → live (s ∷ ss) inner n ≡ (live ss inner s.left || live ss inner s.right)
-  live_split n e = ap (λ (b : Bool). if b then live ss inner s.left || live ss inner s.right else live ss inner n) (eq_true n s.of e)
+  live_split n e = ap (λ (b : Bool). if b then live ss inner s.left || live ss inner s.right else live ss inner n) (eq-eqb n s.of e)
 
   at_side : (c k : ℕ) (x : Spot) → live ss inner (side_number s c) ≡ true → live (s ∷ ss) inner x.number ≡ true
       → IsLive inner ss (Some (moved_spot (nat_eq x.number s.of) (side_number s c) k x))

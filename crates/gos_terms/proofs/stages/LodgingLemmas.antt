@@ -1,5 +1,5 @@
 -- All splits of a node: what the ties of Shares and of supplies connect stays within a plan.
-use Rattle.std.specs.Prelude.{◌+◌, ◌*◌, ◌<◌, ◌≤◌, ◌||◌, Contains}
+use Rattle.std.specs.Prelude.{◌+◌, ◌*◌, ◌<◌, ◌≤◌, Contains}
 use Rattle.std.proofs.Common.{◌≡◌, ℕ, zero, suc, Bool, true, false, List, [], ◌∷◌, ◌++◌, Option, Some, inl, inr, refl, sym, ◌∙◌, ap, subst, arith}
 use Rattle.std.proofs.lemmas.List.Elements.{Contains-append_cases}
 use Rattle.gos_check.specs.declared.linear.Split.{Split}
@@ -30,13 +30,6 @@ seen_first a b e = ap (λ (x : Bool). seen_from x b) e
 pub seen_second : (a b : Bool) → (a ≡ true → b ≡ true → ⊥) → b ≡ true → seen_from a b ≡ Some 1
 seen_second true b apart e = absurd (apart refl e)
 seen_second false b apart e = ap (seen_from false) e
-
-pub either_live : (a b : Bool) → b ≡ true → (a || b) ≡ true
-either_live true b e = refl
-either_live false b e = e
-
-pub first_live : (a b : Bool) → a ≡ true → (a || b) ≡ true
-first_live a b e = ap (λ (x : Bool). x || b) e
 
 -- the splits that are left, where these numbers have been split
 pub record IsTidy (inner : ℕ → Bool) (ss : List Split) (gone : List ℕ) : Type 0 where

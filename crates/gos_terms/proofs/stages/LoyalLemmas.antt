@@ -3,9 +3,10 @@ use Rattle.std.specs.Prelude.{◌≢◌, ◌+◌, ◌<◌, ◌≤◌, ◌||◌, 
 use Rattle.std.proofs.Common.{◌≡◌, ℕ, zero, suc, Bool, true, false, List, [], ◌∷◌, Option, Some, inl, inr, refl, sym, ◌∙◌, ap, subst, arith, if◌then◌else◌}
 use Rattle.std.proofs.lemmas.Option.{slice_get_within}
 use Rattle.std.proofs.lemmas.List.Elements.{Contains-append_cases}
+use Rattle.std.proofs.lemmas.Bool.{eq-eqb, ne_eqb}
+use Rattle.gos_model.proofs.NumberLemmas.{number_cases}
 use Rattle.gos_check.specs.declared.linear.Split.{Split}
 use Rattle.gos_check.specs.Linearity.{times, sides}
-use Rattle.gos_check.proofs.TimesLemmas.{number_cases, eq_true, eq_false}
 use Rattle.gos_plan.specs.Kinds.{Part, Share}
 use Rattle.gos_plan.specs.Plans.{Plan}
 use Rattle.gos_realises.specs.realises.Modules.{Supply}
@@ -42,7 +43,7 @@ seen_live false false c l r alive at_l at_r e = let clash : None ≡ Some c = e 
 
 side_is_number : (s : Split) (c : ℕ) → (if nat_eq c 0 then s.left else s.right) ≡ side_number s c
 side_is_number s zero = refl
-side_is_number s (suc c) = ap (λ (b : Bool). if b then s.left else s.right) (eq_false (suc c) 0 (λ e. let same : suc c ≡ 0 = e in omega (arith, same)))
+side_is_number s (suc c) = ap (λ (b : Bool). if b then s.left else s.right) (ne_eqb (suc c) 0 (λ e. let same : suc c ≡ 0 = e in omega (arith, same)))
 
 one_true : (a b : Bool) → (a || b) ≡ true → (b ≡ false → a ≡ true)
 one_true true b e none = refl
@@ -90,7 +91,7 @@ module _ (c : Plan) (comes : ℕ → Source) where
                 λ k y at.
                 let apart : k ≢ place = not_last k y at in
                 lies.from k y (ap (λ (e : Supply). slice_get e.plan.parts k) env_is ∙ (before_last plan.parts (Share (types s.of)) k apart ∙ at))
-                ∙ part_is k false (eq_false k place apart);
+                ∙ part_is k false (ne_eqb k place apart);
           }
         where
           not_last : (k : ℕ) (y : Part) → slice_get plan.parts k ≡ Some y → k ≢ place
@@ -208,7 +209,7 @@ module _ (c : Plan) (comes : ℕ → Source) where
                   from =
                       lies.from place (Share (types s.of))
                       (ap (λ (e : Supply). slice_get e.plan.parts place) (side_env types s ss tidy.once l.env b two) ∙ at_last (l.env s.of).plan.parts (Share (types s.of)))
-                      ∙ part_is types q x s ss tidy.once l (seen types inner ss s) ms of are b two place true (eq_true place place refl);
+                      ∙ part_is types q x s ss tidy.once l (seen types inner ss s) ms of are b two place true (eq-eqb place place refl);
                 }
 
 pub served_is_loyal : ServedIsLoyal

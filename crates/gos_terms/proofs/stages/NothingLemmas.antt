@@ -1,8 +1,8 @@
 -- What stands for nothing of a child: parts and nodes that are none of its, and numbers that it doesn't use.
 use Rattle.std.specs.Prelude.{◌≢◌, ◌+◌, ◌-◌, ◌≤◌, ◌||◌, length, nat_lt, None}
 use Rattle.std.proofs.Common.{◌≡◌, ℕ, Bool, false, Some, ◌∙◌, ap, refl, subst, arith, if◌then◌else◌}
+use Rattle.std.proofs.lemmas.Bool.{eq-eqb, ne_eqb}
 use Rattle.gos_check.specs.Linearity.{times, made, split_in}
-use Rattle.gos_check.proofs.TimesLemmas.{eq_true, eq_false}
 use Rattle.gos_plan.specs.Plans.{PartEnd, ResultEnd}
 use Rattle.gos_joining.specs.webs.Webs.{Of, Number, Node, Within}
 use Rattle.gos_compile.specs.Wiring.{parts_of, nodes}
@@ -17,7 +17,7 @@ module _ (f : Child) where
   part_nothing k h le far out =
       ap (λ (t : Bool). if t then asks_child f h
       else if in_range (f.first + f.off) (length (parts_of f.types f.term)) k then Some (Within 0 (Of (PartEnd k h)))
-      else spot_dot ((lodge f).home (Within 0 (Of (PartEnd k h))))) (eq_false k (f.first + f.own) far)
+      else spot_dot ((lodge f).home (Within 0 (Of (PartEnd k h))))) (ne_eqb k (f.first + f.own) far)
       ∙ (ap (λ (t : Bool). if t then Some (Within 0 (Of (PartEnd k h))) else spot_dot ((lodge f).home (Within 0 (Of (PartEnd k h))))) out
       ∙ ap spot_dot nowhere)
     where
@@ -32,7 +32,7 @@ module _ (f : Child) where
   own_back h =
       ap (λ (t : Bool). if t then asks_child f h
       else if in_range (f.first + f.off) (length (parts_of f.types f.term)) (f.first + f.own) then Some (Within 0 (Of (PartEnd (f.first + f.own) h)))
-      else spot_dot ((lodge f).home (Within 0 (Of (PartEnd (f.first + f.own) h))))) (eq_true (f.first + f.own) (f.first + f.own) refl)
+      else spot_dot ((lodge f).home (Within 0 (Of (PartEnd (f.first + f.own) h))))) (eq-eqb (f.first + f.own) (f.first + f.own) refl)
 
   pub node_nothing : (k h : ℕ) → in_range f.node (nodes f.term) k ≡ false → child_back f (Within 0 (Node k h)) ≡ None
   node_nothing k h out = ap (λ (t : Bool). if t then Some (Within 0 (Node k h)) else None) out

@@ -1,9 +1,11 @@
 -- The parts and imports of what stands for a live number are at home there.
 use Rattle.std.specs.Prelude.{◌≢◌, ◌+◌, ◌<◌, ◌≤◌, ◌||◌, length, nat_eq, None}
 use Rattle.std.proofs.Common.{◌≡◌, ℕ, zero, suc, Bool, true, false, not, List, [], ◌∷◌, ◌++◌, Option, Some, refl, sym, ◌∙◌, ap, subst, arith, if◌then◌else◌}
+use Rattle.std.proofs.lemmas.Bool.{eq-eqb, ne_eqb, or_right, or_left}
+use Rattle.gos_model.proofs.NumberLemmas.{number_cases}
 use Rattle.gos_check.specs.declared.linear.Split.{Split}
 use Rattle.gos_check.specs.Linearity.{times, split_in, sides}
-use Rattle.gos_check.proofs.TimesLemmas.{number_cases, eq_true, eq_false, times_none, times_other}
+use Rattle.gos_check.proofs.TimesLemmas.{times_none, times_other}
 use Rattle.gos_plan.specs.Kinds.{Share}
 use Rattle.gos_plan.specs.Plans.{End, PartEnd, ImportEnd}
 use Rattle.gos_realises.specs.realises.Regular.{count}
@@ -16,7 +18,7 @@ use Rattle.gos_terms.specs.stages.Lodging.{Spot, spot, spot_if, Lodging, live, f
 use Rattle.gos_terms.proofs.stages.InsideLemmas.{one_stays}
 use Rattle.gos_terms.proofs.stages.HomeLemmas.{Untouched, no_side, untouched_later, plainly}
 use Rattle.gos_terms.proofs.stages.StepLemmas.{differ, side_is, side_env}
-use Rattle.gos_terms.proofs.stages.LodgingLemmas.{IsTidy, tidy_on, tidy_first, of_gone, seen, seen_first, seen_second, either_live, first_live}
+use Rattle.gos_terms.proofs.stages.LodgingLemmas.{IsTidy, tidy_on, tidy_first, of_gone, seen, seen_first, seen_second}
 
 -- where a part's handshake is at home, and no later split touches it
 abbrev Placed : ℕ → ℕ → List Split → (Dot → Option Spot) → Source → Bool → ℕ → ℕ → ℕ → Type 0
@@ -43,12 +45,12 @@ module _ (types : Types) (i q x : ℕ) (at_q : q ≡ i + x) (s : Split) (ss : Li
   -- what is of the number that is split is of the side from which the Share is seen
   moved_of : (c : ℕ) (b : Bool) (k h : ℕ) → moved s (Some c) place (spot_if b s.of (PartEnd k h)) ≡ spot_if b (side_number s c) (PartEnd k h)
   moved_of c true k h =
-      ap (λ (t : Bool). Some (moved_spot t (side_number s c) place (spot s.of (PartEnd k h)))) (eq_true s.of s.of refl)
+      ap (λ (t : Bool). Some (moved_spot t (side_number s c) place (spot s.of (PartEnd k h)))) (eq-eqb s.of s.of refl)
   moved_of c false k h = refl
 
   moved_import : (c k h : ℕ) → moved s (Some c) place (Some (spot s.of (ImportEnd k h))) ≡ Some (spot (side_number s c) (ImportEnd k h))
   moved_import c k h =
-      ap (λ (t : Bool). Some (moved_spot t (side_number s c) place (spot s.of (ImportEnd k h)))) (eq_true s.of s.of refl)
+      ap (λ (t : Bool). Some (moved_spot t (side_number s c) place (spot s.of (ImportEnd k h)))) (eq-eqb s.of s.of refl)
 
   plain : (d : Dot) → Untouched q (s ∷ ss) d → next.home d ≡ moved s a place (l.home d)
   plain d u = plainly q size place s ss a l.home d u
@@ -59,8 +61,8 @@ module _ (types : Types) (i q x : ℕ) (at_q : q ≡ i + x) (s : Split) (ss : Li
     n = side_number s c
 
     which : (b : ℕ) → b < 2 → (if nat_eq (side_number s b) s.left then 0 else 1) ≡ b
-    which zero lt = ap (λ (t : Bool). if t then 0 else 1) (eq_true s.left s.left refl)
-    which (suc zero) lt = ap (λ (t : Bool). if t then 0 else 1) (eq_false s.right s.left (λ e. differ types s ss once (sym e)))
+    which zero lt = ap (λ (t : Bool). if t then 0 else 1) (eq-eqb s.left s.left refl)
+    which (suc zero) lt = ap (λ (t : Bool). if t then 0 else 1) (ne_eqb s.right s.left (λ e. differ types s ss once (sym e)))
     which (suc (suc b)) lt = absurd (omega (arith, lt))
 
     abbrev from : ℕ → Bool → Source
@@ -80,7 +82,7 @@ module _ (types : Types) (i q x : ℕ) (at_q : q ≡ i + x) (s : Split) (ss : Li
 
     at_share : (h : ℕ) → next.home (Within 0 (Of (PartEnd q h))) ≡ spot_if (serves_side size c h) n (PartEnd place h)
     at_share h =
-        ap (λ (t : Bool). if t then share_spot size place s a h else moved s a place (l.home (Within 0 (Of (PartEnd q h))))) (eq_true q q refl)
+        ap (λ (t : Bool). if t then share_spot size place s a h else moved s a place (l.home (Within 0 (Of (PartEnd q h))))) (eq-eqb q q refl)
         ∙ ap (λ (b : Option ℕ). share_spot size place s b h) sees
 
     own_part : (k h : ℕ) → k ≡ place → Placed i (suc q) ss next.home (Own x) (not (serves_side size c h)) n k h
@@ -141,7 +143,7 @@ module _ (types : Types) (i q x : ℕ) (at_q : q ≡ i + x) (s : Split) (ss : Li
   stays_moved : (b : Option ℕ) (n : ℕ) (v : Bool) (e : End) → n ≢ s.of → moved s b place (spot_if v n e) ≡ spot_if v n e
   stays_moved None n v e far = refl
   stays_moved (Some c) n false e far = refl
-  stays_moved (Some c) n true e far = ap (λ (t : Bool). Some (moved_spot t (side_number s c) place (spot n e))) (eq_false n s.of far)
+  stays_moved (Some c) n true e far = ap (λ (t : Bool). Some (moved_spot t (side_number s c) place (spot n e))) (ne_eqb n s.of far)
 
   module _ (n : ℕ) (left : n ≢ s.left) (right : n ≢ s.right) (far : n ≢ s.of) (was : IsPlaced i q (s ∷ ss) l n) where
     at_old_part : (k : ℕ) → next.part n k ≡ l.part n k
@@ -198,18 +200,18 @@ module _ (types : Types) (i : ℕ) (inner : ℕ → Bool) where
       of_live : (live ss inner s.left || live ss inner s.right) ≡ true → IsPlaced i q (s ∷ ss) l s.of
       of_live one =
           placed s.of tidy.order.0 (of_gone inner s ss gone tidy)
-          (ap (λ (b : Bool). if b then live ss inner s.left || live ss inner s.right else live ss inner s.of) (eq_true s.of s.of refl) ∙ one)
+          (ap (λ (b : Bool). if b then live ss inner s.left || live ss inner s.right else live ss inner s.of) (eq-eqb s.of s.of refl) ∙ one)
 
       at_left : live ss inner s.left ≡ true → IsPlaced i (suc q) ss (one_lodging types q x s (seen types inner ss s) l) s.left
       at_left one =
           side_placed types i q x at_q s ss tidy.once l (seen types inner ss s) 0 (omega arith)
-          (seen_first (live ss inner s.left) (live ss inner s.right) one) (of_live (first_live (live ss inner s.left) (live ss inner s.right) one))
+          (seen_first (live ss inner s.left) (live ss inner s.right) one) (of_live (or_left (live ss inner s.left) (live ss inner s.right) one))
 
       at_right : live ss inner s.right ≡ true → IsPlaced i (suc q) ss (one_lodging types q x s (seen types inner ss s) l) s.right
       at_right one =
           side_placed types i q x at_q s ss tidy.once l (seen types inner ss s) 1 (omega arith)
           (seen_second (live ss inner s.left) (live ss inner s.right) tidy.apart.0 one)
-          (of_live (either_live (live ss inner s.left) (live ss inner s.right) one))
+          (of_live (or_right (live ss inner s.left) (live ss inner s.right) one))
 
       elsewhere : n ≢ s.left → n ≢ s.right → IsPlaced i (suc q) ss (one_lodging types q x s (seen types inner ss s) l) n
       elsewhere left right =
@@ -218,7 +220,7 @@ module _ (types : Types) (i : ℕ) (inner : ℕ → Bool) where
           times_other n s.left (s.right ∷ sides ss) (λ e. left (sym e)) ∙ (times_other n s.right (sides ss) (λ e. right (sym e)) ∙ none)
           in
           let same : live (s ∷ ss) inner n ≡ true =
-          ap (λ (b : Bool). if b then live ss inner s.left || live ss inner s.right else live ss inner n) (eq_false n s.of far) ∙ lives
+          ap (λ (b : Bool). if b then live ss inner s.left || live ss inner s.right else live ss inner n) (ne_eqb n s.of far) ∙ lives
           in
           other_placed types i q x at_q s ss tidy.once l (seen types inner ss s) n left right far (placed n aside gone_too same)
 

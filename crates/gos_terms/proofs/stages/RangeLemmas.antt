@@ -1,29 +1,20 @@
 -- The points of a term's ties are within it: each is counted there.
 use Rattle.std.specs.Prelude.{◌+◌, ◌<◌, ◌≤◌, ◌⊎◌, length, nat_eq, Contains}
 use Rattle.std.proofs.Common.{◌≡◌, ℕ, zero, suc, false, List, [], ◌∷◌, inl, inr, refl, sym, subst, arith}
+use Rattle.std.proofs.lemmas.Bool.{ne_eqb, cases_lt}
 use Rattle.gos_check.specs.Nodes.{Numbered}
-use Rattle.gos_check.proofs.TimesLemmas.{eq_true, eq_false}
 use Rattle.gos_ties.specs.declared.points.Place.{Place}
 use Rattle.gos_ties.specs.declared.points.Place.TheVariants as places
 use Rattle.gos_ties.specs.declared.points.Point.{Point}
 use Rattle.gos_ties.specs.declared.points.Tie.{Tie}
 use Rattle.gos_ties.specs.Ties.{point}
-use Rattle.gos_ties.specs.Counted.{place_once, once, meetings}
+use Rattle.gos_ties.specs.Counted.{once, meetings}
+use Rattle.gos_ties.proofs.ThinLemmas.{once_itself}
 use Rattle.gos_compile.specs.Wiring.{Types, row, parts_of, nodes, ties_of}
 use Rattle.gos_compile.proofs.TallyLemmas.{occurs, row_once, tally, tallied}
-use Rattle.gos_compile.proofs.ThinLemmas.{span, span_beyond, span_past, part_tells, node_tells, number_tells, outside_tells}
+use Rattle.gos_compile.proofs.ThinLemmas.{part_tells, node_tells, number_tells, outside_tells}
 use Rattle.gos_terms.specs.stages.Ranges.{IsWithin, TiesStayWithin}
-
--- a point is counted where it is
-place_itself : (p : Place) → place_once p p ≡ 1
-place_itself (places.Part k) = let e = eq_true k k refl in rw e refl
-place_itself (places.Import k) = let e = eq_true k k refl in rw e refl
-place_itself places.Result = refl
-place_itself (places.Number k) = let e = eq_true k k refl in rw e refl
-place_itself (places.Node k) = let e = eq_true k k refl in rw e refl
-
-once_itself : (p : Point) → once p p ≡ 1
-once_itself p = let e = eq_true p.shake p.shake refl in rw e (place_itself p.place)
+use Rattle.gos_terms.proofs.applying.StandLemmas.{in_span}
 
 met : (p : Point) (ts : List Tie) (t : Tie) → Contains ts t → 1 ≤ once p t.one + once p t.other → 1 ≤ meetings p ts
 met p [] t (k, lt, e) some = absurd (omega (arith, lt))
@@ -36,25 +27,8 @@ past_row : (q : Point) (place : Place) (b n : ℕ) → b + n ≤ q.shake → occ
 past_row q place b zero le = refl
 past_row q place b (suc n) le =
     let rest = past_row q place (suc b) n (omega (arith, le)) in
-    let none : nat_eq b q.shake ≡ false = eq_false b q.shake (λ e. let same : b ≡ q.shake = e in omega (arith, same, le)) in
+    let none : nat_eq b q.shake ≡ false = ne_eqb b q.shake (λ e. let same : b ≡ q.shake = e in omega (arith, same, le)) in
     rw none (omega (arith, rest))
-
-low_or_not : (a b : ℕ) → (a < b) ⊎ (b ≤ a)
-low_or_not zero zero = inr (omega arith)
-low_or_not zero (suc b) = inl (omega arith)
-low_or_not (suc a) zero = inr (omega arith)
-low_or_not (suc a) (suc b) = elim (low_or_not a b) [ inl h ↦ inl (omega (arith, h)) | inr h ↦ inr (omega (arith, h)) ]
-
-in_span : (k i n : ℕ) → 1 ≤ span k i n → (i ≤ k) × (k < i + n)
-in_span k i n some = (from (low_or_not k i), upto (low_or_not k (i + n)))
-  where
-    from : (k < i) ⊎ (i ≤ k) → i ≤ k
-    from (inl low) = let none = span_beyond k i n low in absurd (omega (arith, none, some))
-    from (inr h) = h
-
-    upto : (k < i + n) ⊎ (i + n ≤ k) → k < i + n
-    upto (inl h) = h
-    upto (inr high) = let none = span_past k i n high in absurd (omega (arith, none, some))
 
 module _ (types : Types) (i j : ℕ) (m : Numbered) (n : ℕ) where
   counted : (p : Place) (h : ℕ) → 1 ≤ occurs (point p h) (row places.Result 0 n) + tally p types i j m → IsWithin types i j m n p h
@@ -66,7 +40,7 @@ module _ (types : Types) (i j : ℕ) (m : Numbered) (n : ℕ) where
       let few = row_once (point (places.Import k) h) places.Result 0 n in
       let none = outside_tells (places.Import k) (λ a. refl) types i j m in
       omega (arith, some, few, none)
-  counted places.Result h some = upto (low_or_not h n)
+  counted places.Result h some = upto (cases_lt h n)
     where
       upto : (h < n) ⊎ (n ≤ h) → h < n
       upto (inl low) = low

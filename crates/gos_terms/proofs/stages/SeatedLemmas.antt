@@ -2,31 +2,31 @@
 use Rattle.std.specs.Prelude.{◌+◌, ◌<◌, ◌⊎◌, length, nat_eq, nat_lt, slice_get, None, Contains}
 use Rattle.std.proofs.Common.{◌≡◌, ℕ, suc, Bool, true, false, List, [], Some, inl, inr, refl, sym, ◌∙◌, ap, subst, arith, if◌then◌else◌}
 use Rattle.std.proofs.lemmas.Bool.Decides.{nat_tests}
-use Rattle.std.proofs.lemmas.Option.{slice_get_within}
+use Rattle.std.proofs.lemmas.Option.{slice_get_within, none-some}
 use Rattle.std.proofs.lemmas.List.Elements.{Contains-append_left, Contains-append_right, Contains-append_cases}
+use Rattle.std.proofs.lemmas.Bool.{eqb-true, lt-ltb, eq-eqb}
 use Rattle.gos_types.specs.declared.shakes.Role.TheVariants.{Serve, Ask}
+use Rattle.gos_types.proofs.ListLemmas.{element_at}
 use Rattle.gos_model.specs.Typing.{Imported}
 use Rattle.gos_check.specs.Nodes.{Numbered, type_of_node}
-use Rattle.gos_check.proofs.TimesLemmas.{eq_true}
 use Rattle.gos_plan.specs.Kinds.{Part, Contact, asks, serves}
 use Rattle.gos_plan.specs.Plans.{End, PartEnd, ImportEnd, ResultEnd, Joint, Plan, contact_at, contacts_of_part, contacts_of_import, IsRight}
-use Rattle.gos_plan.proofs.JointLemmas.{fits, contained}
+use Rattle.gos_plan.proofs.JointLemmas.{fits, contained, which_end}
+use Rattle.gos_plan.proofs.ContactLemmas.{part_is_there, import_is_there}
 use Rattle.gos_realises.specs.realises.Regular.{count}
 use Rattle.gos_ties.specs.declared.points.Place.TheVariants as places
 use Rattle.gos_joining.specs.webs.Webs.{Dot, Of, Number, Within, Tie, tie, Meet, Way, here, along, own_web, joint}
 use Rattle.gos_joining.specs.webs.Cutting.{StandsIn}
-use Rattle.gos_joining.proofs.webs.CutLemmas.{which_end, stands_by, part_at}
+use Rattle.gos_joining.proofs.webs.CutLemmas.{stands_by}
 use Rattle.gos_joining.specs.unions.Unions.{within}
 use Rattle.gos_joining.proofs.unions.UnionLemmas.{of_image, in_image}
 use Rattle.gos_compile.specs.Wiring.{Types, row, parts_of, ties_of}
 use Rattle.gos_terms.specs.wired.Wired.{Supplies, Source, Own, Supplied, Origin, Placing, IsFrom, placed, source_dot, dot_at, dot_ties, result_ties, all_supply_ties, wired_ties, IsWired}
 use Rattle.gos_sharing.specs.loyal.Seats.{Seat, seat_end, IsNoResult, IsSeated}
 use Rattle.gos_terms.specs.stages.Seated.{supplied_part, supplied_import, supply_seat, SuppliesAreSeated}
-use Rattle.gos_terms.proofs.stages.ContactLemmas.{import_there}
-use Rattle.gos_terms.proofs.stages.StepLemmas.{low}
-use Rattle.gos_terms.proofs.stages.ChildPartLemmas.{there_at, no_more_than}
-use Rattle.gos_terms.proofs.stages.WayLemmas.{by_tie}
-use Rattle.gos_terms.proofs.stages.ChildTieLemmas.{joint_tie, put_in, of_supplies, in_supplies, of_supply}
+use Rattle.gos_terms.proofs.stages.ChildTieLemmas.{joint_tie, put_in, of_supplies, of_supply}
+use Rattle.gos_terms.proofs.wired.TieLemmas.{in_supplies}
+use Rattle.gos_terms.proofs.stages.WayLemmas.{way_by_tie}
 
 -- a way goes nowhere, or by a tie
 first_step : (ts : List Tie) (a b : Dot) → Way ts a b → (a ≡ b) ⊎ ((c : Dot) × Meet ts a c)
@@ -39,9 +39,6 @@ last_step ts a b (along d c e meet way) = elim (last_step ts c b way) [
   | inl same ↦ inr (d, subst (Meet ts d) same meet)
   | inr (x, meets) ↦ inr (x, meets)
 ]
-
-told : (a b : ℕ) → nat_eq a b ≡ true → a ≡ b
-told a b h = grind (arith, nat_tests, h)
 
 module _ (types : Types) (i j : ℕ) (m : Numbered) (ns : List ℕ) (env : Supplies) (pl : Placing) (r : Plan) (n : ℕ) (w : IsWired types i j m ns env pl r) (there : Contains ns n)
     (right : IsRight (env n).plan) where
@@ -58,14 +55,14 @@ module _ (types : Types) (i j : ℕ) (m : Numbered) (ns : List ℕ) (env : Suppl
   number_so : (k : ℕ) (x : Part) → slice_get p.parts k ≡ Some x → seat.number (pl.supplied n k) ≡ Some k
   number_so k x at =
       let (at_r, source) = part_so k x at in
-      ap (λ (b : Bool). if b then supplied_part n (pl.source (pl.supplied n k)) else None) (low (pl.supplied n k) (length r.parts) (slice_get_within r.parts (pl.supplied n k) x at_r))
-      ∙ (ap (supplied_part n) source ∙ ap (λ (b : Bool). if b then Some k else None) (eq_true n n refl))
+      ap (λ (b : Bool). if b then supplied_part n (pl.source (pl.supplied n k)) else None) (lt-ltb (pl.supplied n k) (length r.parts) (slice_get_within r.parts (pl.supplied n k) x at_r))
+      ∙ (ap (supplied_part n) source ∙ ap (λ (b : Bool). if b then Some k else None) (eq-eqb n n refl))
 
   origin_so : (k : ℕ) (x : Imported) → slice_get p.imports k ≡ Some x → seat.origin (pl.import n k) ≡ Some k
   origin_so k x at =
       let (at_r, from) = w.imports n k x there at in
-      ap (λ (b : Bool). if b then supplied_import n (pl.origin (pl.import n k)) else None) (low (pl.import n k) (length r.imports) (slice_get_within r.imports (pl.import n k) x at_r))
-      ∙ (ap (supplied_import n) from ∙ ap (λ (b : Bool). if b then Some k else None) (eq_true n n refl))
+      ap (λ (b : Bool). if b then supplied_import n (pl.origin (pl.import n k)) else None) (lt-ltb (pl.import n k) (length r.imports) (slice_get_within r.imports (pl.import n k) x at_r))
+      ∙ (ap (supplied_import n) from ∙ ap (λ (b : Bool). if b then Some k else None) (eq-eqb n n refl))
 
   within_list : {A : Type 0} (xs : List A) (k : ℕ) → nat_lt k (length xs) ≡ true → k < length xs
   within_list xs k t = grind (arith, nat_tests, t)
@@ -75,13 +72,13 @@ module _ (types : Types) (i j : ℕ) (m : Numbered) (ns : List ℕ) (env : Suppl
     where
       by_source : (s : Source) (x : Part) → IsFrom (parts_of types m) ns env x s → placed pl s ≡ k → supplied_part n s ≡ Some l
           → (pl.supplied n l ≡ k) × ((x : Part) × (slice_get p.parts l ≡ Some x))
-      by_source (Own q) x from back e = absurd (no_more_than l e)
+      by_source (Own q) x from back e = absurd (none-some l e)
       by_source (Supplied o q) x from back e = by_number (nat_eq o n) refl e
         where
           by_number : (b : Bool) → nat_eq o n ≡ b → (if b then Some q else None) ≡ Some l → (pl.supplied n l ≡ k) × ((x : Part) × (slice_get p.parts l ≡ Some x))
-          by_number false t e = absurd (no_more_than l e)
+          by_number false t e = absurd (none-some l e)
           by_number true t e =
-              let same : o ≡ n = told o n t in
+              let same : o ≡ n = eqb-true o n t in
               let at : q ≡ l = cc e in (
                 ap (λ (v : ℕ). pl.supplied v l) (sym same) ∙ (ap (pl.supplied o) (sym at) ∙ back),
                 (x, ap (λ (v : ℕ). slice_get (env v).plan.parts l) (sym same) ∙ (ap (slice_get (env o).plan.parts) (sym at) ∙ from.1)),
@@ -89,9 +86,9 @@ module _ (types : Types) (i j : ℕ) (m : Numbered) (ns : List ℕ) (env : Suppl
 
       by_size : (b : Bool) → nat_lt k (length r.parts) ≡ b → (if b then supplied_part n (pl.source k) else None) ≡ Some l
           → (pl.supplied n l ≡ k) × ((x : Part) × (slice_get p.parts l ≡ Some x))
-      by_size false t e = absurd (no_more_than l e)
+      by_size false t e = absurd (none-some l e)
       by_size true t e =
-          let (x, at) = there_at r.parts k (within_list r.parts k t) in
+          let (x, at) = element_at r.parts k (within_list r.parts k t) in
           let (from, back) = w.no_more k x at in
           by_source (pl.source k) x from back e
 
@@ -100,26 +97,26 @@ module _ (types : Types) (i j : ℕ) (m : Numbered) (ns : List ℕ) (env : Suppl
     where
       by_number : (b : Bool) → nat_eq (pl.origin k).number n ≡ b → pl.import (pl.origin k).number (pl.origin k).import ≡ k → (if b then Some (pl.origin k).import else None) ≡ Some l
           → pl.import n l ≡ k
-      by_number false t back e = absurd (no_more_than l e)
+      by_number false t back e = absurd (none-some l e)
       by_number true t back e =
-          let same : (pl.origin k).number ≡ n = told (pl.origin k).number n t in
+          let same : (pl.origin k).number ≡ n = eqb-true (pl.origin k).number n t in
           let at : (pl.origin k).import ≡ l = cc e in
           ap (λ (v : ℕ). pl.import v l) (sym same) ∙ (ap (pl.import (pl.origin k).number) (sym at) ∙ back)
 
       by_size : (b : Bool) → nat_lt k (length r.imports) ≡ b → (if b then supplied_import n (pl.origin k) else None) ≡ Some l → pl.import n l ≡ k
-      by_size false t e = absurd (no_more_than l e)
+      by_size false t e = absurd (none-some l e)
       by_size true t e =
-          let (x, at) = there_at r.imports k (within_list r.imports k t) in
+          let (x, at) = element_at r.imports k (within_list r.imports k t) in
           by_number (nat_eq (pl.origin k).number n) refl (w.no_import k x at).2 e
 
   -- ends
   end_kept : (e : End) (k : Contact) → IsNoResult e → contact_at p e ≡ Some k → (contact_at r (seat_end seat e) ≡ Some k) × (dot_at i pl (seat_end seat e) ≡ Within (suc n) (Of e))
   end_kept (PartEnd q h) k own at =
-      let (x, at_p) = part_at (slice_get p.parts q) h k at in
+      let (x, at_p) = part_is_there (slice_get p.parts q) h k at in
       let (at_r, source) = part_so q x at_p in
       (ap (λ o. slice_get (contacts_of_part o) h) (at_r ∙ sym at_p) ∙ at, ap (λ (s : Source). source_dot i s h) source)
   end_kept (ImportEnd q h) k own at =
-      let (x, at_p) = import_there (slice_get p.imports q) h k at in
+      let (x, at_p) = import_is_there (slice_get p.imports q) h k at in
       let (at_r, from) = w.imports n q x there at_p in
       (ap (λ o. slice_get (contacts_of_import o) h) (at_r ∙ sym at_p) ∙ at, ap (λ (o : Origin). Within (suc o.number) (Of (ImportEnd o.import h))) from)
   end_kept (ResultEnd h) k own at = absurd own
@@ -136,7 +133,7 @@ module _ (types : Types) (i j : ℕ) (m : Numbered) (ns : List ℕ) (env : Suppl
         at_b,
         subst (λ (d : Dot). Way (wired_ties types i j m ns env) d (dot_at i pl (seat_end seat b))) (sym dot_a)
             (subst (Way (wired_ties types i j m ns env) (Within (suc n) (Of a))) (sym dot_b)
-            (by_tie (wired_ties types i j m ns env) (Within (suc n) (Of a)) (Within (suc n) (Of b)) tied)),
+            (way_by_tie (wired_ties types i j m ns env) (Within (suc n) (Of a)) (Within (suc n) (Of b)) tied)),
       )
     where
       t : Tie
@@ -201,10 +198,10 @@ module _ (types : Types) (i j : ℕ) (m : Numbered) (ns : List ℕ) (env : Suppl
 
     one_end : (e : End) (d : Contact) → contact_at r e ≡ Some d → dot_at i pl e ≡ dot → e ≡ seat_end seat at
     one_end (PartEnd q g) d at_r same =
-        let (x, there_x) = part_at (slice_get r.parts q) g d at_r in
+        let (x, there_x) = part_is_there (slice_get r.parts q) g d at_r in
         of_source (pl.source q) q g (w.no_more q x there_x).1 same
     one_end (ImportEnd q g) d at_r same =
-        let (x, there_x) = import_there (slice_get r.imports q) g d at_r in
+        let (x, there_x) = import_is_there (slice_get r.imports q) g d at_r in
         let number : (pl.origin q).number ≡ n = cc same in
         let is : ImportEnd (pl.origin q).import g ≡ at = cc same in
         let import : pl.import n (pl.origin q).import ≡ q = ap (λ (v : ℕ). pl.import v (pl.origin q).import) (sym number) ∙ (w.no_import q x there_x).2 in

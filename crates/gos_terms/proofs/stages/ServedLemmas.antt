@@ -2,9 +2,9 @@
 use Rattle.std.specs.Prelude.{◌+◌, ◌<◌, length, nat_eq, slice_get, None, Contains}
 use Rattle.std.proofs.Common.{◌≡◌, ℕ, zero, suc, Bool, true, false, List, [], ◌∷◌, Option, Some, inl, inr, refl, sym, ◌∙◌, ap, subst, arith, if◌then◌else◌}
 use Rattle.std.proofs.lemmas.List.Elements.{Contains-append_cases}
+use Rattle.std.proofs.lemmas.Bool.{eq-eqb}
 use Rattle.gos_types.specs.Types.{Type'}
 use Rattle.gos_check.specs.declared.linear.Split.{Split}
-use Rattle.gos_check.proofs.TimesLemmas.{eq_true}
 use Rattle.gos_plan.specs.Kinds.{Share}
 use Rattle.gos_plan.specs.Plans.{PartEnd}
 use Rattle.gos_realises.specs.realises.Regular.{count}
@@ -69,7 +69,7 @@ module _ (types : Types) (inner : ℕ → Bool) where
           ≡ spot_if (serves_side (count (types s.of)) c h) (side_number s c) (PartEnd (length (l.env s.of).plan.parts) h)
       at_share h c sees r e =
           ap (λ (t : Bool). if t then share_spot (count (types s.of)) (length (l.env s.of).plan.parts) s (seen types inner ss s) h
-          else moved s (seen types inner ss s) (length (l.env s.of).plan.parts) (l.home (Within 0 (Of (PartEnd r h))))) (eq_true r q e)
+          else moved s (seen types inner ss s) (length (l.env s.of).plan.parts) (l.home (Within 0 (Of (PartEnd r h))))) (eq-eqb r q e)
           ∙ ap (λ (b : Option ℕ). share_spot (count (types s.of)) (length (l.env s.of).plan.parts) s b h) sees
 
       rests : (h c : ℕ) → seen types inner ss s ≡ Some c → (b : Bool) → serves_side (count (types s.of)) c h ≡ b

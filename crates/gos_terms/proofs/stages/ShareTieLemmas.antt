@@ -1,9 +1,11 @@
 -- The ties of a split's own Share, and what its numbers stand for then.
 use Rattle.std.specs.Prelude.{◌≢◌, ◌+◌, ◌*◌, ◌<◌, ◌≤◌, ◌||◌, length, nat_eq, None}
 use Rattle.std.proofs.Common.{◌≡◌, ℕ, zero, suc, Bool, true, false, List, ◌∷◌, Option, Some, refl, sym, ◌∙◌, ap, subst, arith, if◌then◌else◌}
+use Rattle.std.proofs.lemmas.Bool.{eq-eqb, ne_eqb}
+use Rattle.gos_model.proofs.NumberLemmas.{number_cases}
 use Rattle.gos_check.specs.declared.linear.Split.{Split}
 use Rattle.gos_check.specs.Linearity.{times, sides}
-use Rattle.gos_check.proofs.TimesLemmas.{number_cases, eq_true, eq_false, times_none, times_other}
+use Rattle.gos_check.proofs.TimesLemmas.{times_none, times_other}
 use Rattle.gos_plan.specs.Plans.{End, PartEnd, ResultEnd}
 use Rattle.gos_realises.specs.realises.Regular.{count}
 use Rattle.gos_realises.specs.realises.Modules.{Supply}
@@ -32,7 +34,7 @@ module _ (types : Types) (s : Split) (ss : List Split) (once : (k : ℕ) → tim
 
   of_source : (env : Supplies) (c k h : ℕ) → h < size → Source env c k h (nat_eq s.of s.of) (serves_side size c h)
   of_source env c k h lt =
-      subst (λ (a : Bool). Source env c k h a (serves_side size c h)) (sym (eq_true s.of s.of refl))
+      subst (λ (a : Bool). Source env c k h a (serves_side size c h)) (sym (eq-eqb s.of s.of refl))
       (subst (λ (b : Bool). Source env c k h true b) (sym (serves_source size c h lt)) (refl, here (Of (PartEnd k h))))
 
   source_near : (env : Supplies) (k h : ℕ) (a b : Bool) → h < size
@@ -48,7 +50,7 @@ module _ (types : Types) (s : Split) (ss : List Split) (once : (k : ℕ) → tim
   of_caller env c h two lt =
       ends env (side_number s c) (ResultEnd h) (PartEnd (length (env s.of).plan.parts) (size + c * size + h))
       (nat_eq (side_number s c) (side_number s c)) (serves_side size c (size + c * size + h)) true true
-      (eq_true (side_number s c) (side_number s c) refl) (serves_caller size c h two lt) (
+      (eq-eqb (side_number s c) (side_number s c) refl) (serves_caller size c h two lt) (
         refl,
         subst (λ (z : Supply). Way (own_web z.plan).ties (Of (ResultEnd h)) (Of (PartEnd (length (env s.of).plan.parts) (size + c * size + h))))
             (sym (side_env types s ss once env c two)) (way_to_caller (types s.of) c (env s.of).plan h lt),
@@ -67,33 +69,33 @@ module _ (types : Types) (s : Split) (ss : List Split) (once : (k : ℕ) → tim
   caller_near env h true b (suc zero) two lt =
       neither_end env s.right s.left (ResultEnd h) (PartEnd (length (env s.of).plan.parts) (size + 1 * size + h))
       (nat_eq s.right s.left) (serves_side size 0 (size + 1 * size + h))
-      (eq_false s.right s.left (λ e. differ types s ss once (sym e))) (serves_first_alone size h)
+      (ne_eqb s.right s.left (λ e. differ types s ss once (sym e))) (serves_first_alone size h)
   caller_near env h false true zero two lt =
       neither_end env s.left s.right (ResultEnd h) (PartEnd (length (env s.of).plan.parts) (size + 0 * size + h))
       (nat_eq s.left s.right) (serves_side size 1 (size + 0 * size + h))
-      (eq_false s.left s.right (differ types s ss once)) (serves_second_alone size h lt)
+      (ne_eqb s.left s.right (differ types s ss once)) (serves_second_alone size h lt)
   caller_near env h false true (suc zero) two lt = of_caller env 1 h two lt
   caller_near env h false false c two lt = tt
   caller_near env h a b (suc (suc c)) two lt = absurd (omega (arith, two))
 
   -- the numbers
   side_left_held : (a b : Bool) (h : ℕ) → side_spot s (seen_from a b) s.left h ≡ spot_if a s.left (ResultEnd h)
-  side_left_held true b h = ap (λ (u : Bool). spot_if u s.left (ResultEnd h)) (eq_true s.left s.left refl)
-  side_left_held false true h = ap (λ (u : Bool). spot_if u s.left (ResultEnd h)) (eq_false s.left s.right (differ types s ss once))
+  side_left_held true b h = ap (λ (u : Bool). spot_if u s.left (ResultEnd h)) (eq-eqb s.left s.left refl)
+  side_left_held false true h = ap (λ (u : Bool). spot_if u s.left (ResultEnd h)) (ne_eqb s.left s.right (differ types s ss once))
   side_left_held false false h = refl
 
   side_right_held : (a b : Bool) (h : ℕ) → (a ≡ true → b ≡ true → ⊥) → side_spot s (seen_from a b) s.right h ≡ spot_if b s.right (ResultEnd h)
   side_right_held true true h apart = absurd (apart refl refl)
   side_right_held true false h apart =
-      ap (λ (u : Bool). spot_if u s.right (ResultEnd h)) (eq_false s.right s.left (λ e. differ types s ss once (sym e)))
-  side_right_held false true h apart = ap (λ (u : Bool). spot_if u s.right (ResultEnd h)) (eq_true s.right s.right refl)
+      ap (λ (u : Bool). spot_if u s.right (ResultEnd h)) (ne_eqb s.right s.left (λ e. differ types s ss once (sym e)))
+  side_right_held false true h apart = ap (λ (u : Bool). spot_if u s.right (ResultEnd h)) (eq-eqb s.right s.right refl)
   side_right_held false false h apart = refl
 
   other_held : (c : Option ℕ) (k n h : ℕ) (v : Bool) → n ≢ s.of → moved s c k (spot_if v n (ResultEnd h)) ≡ spot_if v n (ResultEnd h)
   other_held None k n h v apart = refl
   other_held (Some c) k n h false apart = refl
   other_held (Some c) k n h true apart =
-      ap (λ (b : Bool). Some (moved_spot b (side_number s c) k (spot n (ResultEnd h)))) (eq_false n s.of apart)
+      ap (λ (b : Bool). Some (moved_spot b (side_number s c) k (spot n (ResultEnd h)))) (ne_eqb n s.of apart)
 
   module _ (inner : ℕ → Bool) (apart : live ss inner s.left ≡ true → live ss inner s.right ≡ true → ⊥) (q x : ℕ) (l : Lodging) where
     abbrev caller : Option ℕ
@@ -106,10 +108,10 @@ module _ (types : Types) (s : Split) (ss : List Split) (once : (k : ℕ) → tim
     place = length (l.env s.of).plan.parts
 
     live_of : live (s ∷ ss) inner s.of ≡ (live ss inner s.left || live ss inner s.right)
-    live_of = ap (λ (b : Bool). if b then live ss inner s.left || live ss inner s.right else live ss inner s.of) (eq_true s.of s.of refl)
+    live_of = ap (λ (b : Bool). if b then live ss inner s.left || live ss inner s.right else live ss inner s.of) (eq-eqb s.of s.of refl)
 
     live_other : (n : ℕ) → n ≢ s.of → live (s ∷ ss) inner n ≡ live ss inner n
-    live_other n far = ap (λ (b : Bool). if b then live ss inner s.left || live ss inner s.right else live ss inner n) (eq_false n s.of far)
+    live_other n far = ap (λ (b : Bool). if b then live ss inner s.left || live ss inner s.right else live ss inner n) (ne_eqb n s.of far)
 
     at_side : (c h : ℕ) → next.home (Within 0 (Number (side_number s c) h)) ≡ side_spot s caller (side_number s c) h
     at_side c h =
@@ -118,7 +120,7 @@ module _ (types : Types) (s : Split) (ss : List Split) (once : (k : ℕ) → tim
 
     at_share : (h : ℕ) → next.home (Within 0 (Of (PartEnd q h))) ≡ share_spot size place s caller h
     at_share h =
-        ap (λ (b : Bool). if b then share_spot size place s caller h else moved s caller place (l.home (Within 0 (Of (PartEnd q h))))) (eq_true q q refl)
+        ap (λ (b : Bool). if b then share_spot size place s caller h else moved s caller place (l.home (Within 0 (Of (PartEnd q h))))) (eq-eqb q q refl)
 
     -- each number that is not split yet is held
     pub held_on : (gone : List ℕ)

@@ -2,10 +2,13 @@
 use Rattle.std.specs.Prelude.{◌≢◌, ◌+◌, ◌*◌, ◌<◌, ◌||◌, nat_eq, nat_lt, slice_get, Option, Contains}
 use Rattle.std.proofs.Common.{◌≡◌, ℕ, zero, suc, Bool, true, false, List, [], ◌∷◌, Some, refl, sym, ◌∙◌, ap, subst, arith, if◌then◌else◌}
 use Rattle.std.proofs.lemmas.List.Elements.{Contains-append_left, Contains-append_right}
+use Rattle.std.proofs.lemmas.Bool.{lt-ltb, le-ltb, ltb-true}
+use Rattle.std.proofs.lemmas.Option.{none-some}
 use Rattle.gos_types.specs.Types.{Type'}
+use Rattle.gos_model.proofs.NumberLemmas.{number_cases}
 use Rattle.gos_check.specs.declared.linear.Split.{Split}
 use Rattle.gos_check.specs.Linearity.{times, split_in, sides}
-use Rattle.gos_check.proofs.TimesLemmas.{number_cases, times_same, times_other, times_none}
+use Rattle.gos_check.proofs.TimesLemmas.{times_same, times_other, times_none}
 use Rattle.gos_plan.specs.Kinds.{Share}
 use Rattle.gos_nodes.specs.windows.Regions.{Serving}
 use Rattle.gos_compile.specs.Wiring.{Types, shares}
@@ -13,9 +16,8 @@ use Rattle.gos_terms.specs.wired.Wired.{Placing}
 use Rattle.gos_terms.specs.stages.Inside.{numbers_inside}
 use Rattle.gos_terms.specs.stages.Lodging.{live, seen_from, serves_side, AreInOrder, AreApart}
 use Rattle.gos_terms.specs.stages.Folding.{serving_if, servings}
-use Rattle.gos_terms.proofs.stages.StepLemmas.{low, high, told_low, told_high}
+use Rattle.gos_terms.proofs.stages.StepLemmas.{told_high}
 use Rattle.gos_terms.proofs.stages.LodgingLemmas.{seen_first, seen_second}
-use Rattle.gos_terms.proofs.stages.ChildPartLemmas.{no_more_than}
 
 -- a handshake of a Share with n of each is the source's or a caller's
 pub served_side : (n h : ℕ) → h < n + (n + n) → (c : ℕ) × (c < 2) × (serves_side n c h ≡ true)
@@ -25,14 +27,14 @@ served_side n h lt = by_tests (nat_lt h n) (nat_lt h (n + n)) refl refl
     by_tests true b one both = (0, omega arith, rw one refl)
     by_tests false true one both =
         let le = told_high h n one in
-        let below = told_low h (n + n) both in
-        let begins : nat_lt h (n + 0 * n) ≡ false = high h (n + 0 * n) (omega (arith, le)) in
-        let ends : nat_lt h (n + 0 * n + n) ≡ true = low h (n + 0 * n + n) (omega (arith, below)) in
+        let below = ltb-true h (n + n) both in
+        let begins : nat_lt h (n + 0 * n) ≡ false = le-ltb h (n + 0 * n) (omega (arith, le)) in
+        let ends : nat_lt h (n + 0 * n + n) ≡ true = lt-ltb h (n + 0 * n + n) (omega (arith, below)) in
         (0, omega arith, rw (one, begins, ends) refl)
     by_tests false false one both =
         let le = told_high h (n + n) both in
-        let begins : nat_lt h (n + 1 * n) ≡ false = high h (n + 1 * n) (omega (arith, le)) in
-        let ends : nat_lt h (n + 1 * n + n) ≡ true = low h (n + 1 * n + n) (omega (arith, lt)) in
+        let begins : nat_lt h (n + 1 * n) ≡ false = le-ltb h (n + 1 * n) (omega (arith, le)) in
+        let ends : nat_lt h (n + 1 * n + n) ≡ true = lt-ltb h (n + 1 * n + n) (omega (arith, lt)) in
         (1, omega arith, rw (one, begins, ends) refl)
 
 -- Each p uses some numbers, as a branch does.
@@ -136,7 +138,7 @@ module _ {P : Type 0} (inner : P → ℕ → Bool) where
 
     pub all_serve : (ss : List Split) (ns old : List ℕ) → AreUsed ss ns old → AreInOrder ss → AreOld ss old → ((p : P) → AreApart (inner p) ss)
         → (x y q : ℕ) (t : Type') (c : ℕ) → q ≡ x + y → slice_get (shares ss types) y ≡ Some (Share t) → c < 2 → Serves ss x q t c
-    all_serve [] ns old used order far apart x y q t c at share two = absurd (no_more_than (Share t) share)
+    all_serve [] ns old used order far apart x y q t c at share two = absurd (none-some (Share t) share)
     all_serve (s ∷ ss) ns old used order far apart x zero q t c at share two =
         let same : types s.of ≡ t = cc share in
         let here : q ≡ x = omega (arith, at) in

@@ -5,19 +5,21 @@ use Rattle.std.proofs.lemmas.List.{length-map}
 use Rattle.std.proofs.lemmas.Bool.Decides.{nat_tests}
 use Rattle.std.proofs.lemmas.Option.{slice_get_within}
 use Rattle.std.proofs.lemmas.List.Elements.{Contains-append_left, Contains-append_right}
+use Rattle.std.proofs.lemmas.Bool.{eq-eqb, ne_eqb, not-true, or_right, or_left}
 use Rattle.gos_types.specs.Types.{Type'}
 use Rattle.gos_types.specs.declared.shakes.Role.{Role}
 use Rattle.gos_types.specs.declared.shakes.Role.TheVariants.{Serve, Ask}
+use Rattle.gos_model.proofs.NumberLemmas.{number_cases}
 use Rattle.gos_check.specs.declared.linear.Split.{Split}
 use Rattle.gos_check.specs.Linearity.{times, split_in, sides}
-use Rattle.gos_check.proofs.TimesLemmas.{number_cases, eq_true, eq_false, times_none, times_other}
+use Rattle.gos_check.proofs.TimesLemmas.{times_none, times_other}
 use Rattle.gos_plan.specs.Kinds.{Contact, Part, Share, contacts_of, other_side, turned_contact, part_contacts}
 use Rattle.gos_plan.specs.Plans.{End, PartEnd, ImportEnd, ResultEnd, Joint, Plan, contact_at, contacts_of_part, stands_in}
+use Rattle.gos_plan.proofs.JointLemmas.{which_end, same_part}
 use Rattle.gos_realises.specs.realises.Regular.{count}
 use Rattle.gos_realises.specs.realises.Modules.{Supply}
 use Rattle.gos_joining.specs.webs.Webs.{joint}
 use Rattle.gos_joining.specs.webs.Cutting.{StandsIn}
-use Rattle.gos_joining.proofs.webs.CutLemmas.{which_end}
 use Rattle.gos_joining.proofs.webs.WebLemmas.{asks_there, serves_there}
 use Rattle.gos_compile.specs.Wiring.{Types}
 use Rattle.gos_sharing.specs.buffers.Buffering.{end_behind}
@@ -34,7 +36,7 @@ use Rattle.gos_terms.specs.stages.Served.{SparesAreOthers}
 use Rattle.gos_terms.proofs.stages.InsideLemmas.{lies_there, of_cons, one_stays, one_inside}
 use Rattle.gos_terms.proofs.stages.HomeLemmas.{no_side}
 use Rattle.gos_terms.proofs.stages.StepLemmas.{serves_source, serves_caller, differ, side_is, side_env}
-use Rattle.gos_terms.proofs.stages.LodgingLemmas.{IsTidy, tidy_on, tidy_first, of_gone, seen, seen_first, seen_second, either_live, first_live}
+use Rattle.gos_terms.proofs.stages.LodgingLemmas.{IsTidy, tidy_on, tidy_first, of_gone, seen, seen_first, seen_second}
 
 -- a handshake that is neither the source's nor caller c's
 pub has_size : (t : Type') → length (part_contacts (Share t)) ≡ count t + count t + count t
@@ -74,9 +76,6 @@ caller_of t c h d two at unserved = by_size (nat_lt h (count t)) (nat_lt h (coun
         of_caller (1, h - (count t + count t), omega arith, omega (arith, ge, within), omega (arith, ge))
 
 -- a part of the plan stands in a joint behind a Share where it does before it
-part_of : (k h i g : ℕ) → PartEnd k h ≡ PartEnd i g → k ≡ i
-part_of k h i g e = cc e
-
 joint_at : (e : End) (js : List Joint) (j : Joint) → Contains js j → (e ≡ j.asking) ⊎ (e ≡ j.serving) → (k : Joint) × Contains js k × (stands_in e k ≡ true)
 joint_at e js j has (inl is) = (j, has, subst (λ (x : End). stands_in x j ≡ true) (sym is) (asks_there j.asking j.serving))
 joint_at e js j has (inr is) = (j, has, subst (λ (x : End). stands_in x j ≡ true) (sym is) (serves_there j.asking j.serving))
@@ -88,12 +87,12 @@ stood_before t c p k h is apart (j, has, stands) = of_joint ((is.joints j.asking
     back : (e : End) → PartEnd k h ≡ end_behind (length p.parts) e → PartEnd k h ≡ e
     back (PartEnd m g) e = e
     back (ImportEnd m g) e = e
-    back (ResultEnd g) e = absurd (apart (part_of k h (length p.parts) g e))
+    back (ResultEnd g) e = absurd (apart (same_part k h (length p.parts) g e))
 
     of_outer : (n : ℕ) (r : Role) → joint j.asking j.serving ≡ outer_joint (length p.parts) t c n r → (PartEnd k h ≡ j.asking) ⊎ (PartEnd k h ≡ j.serving) → ⊥
     of_outer n Serve same (inl is) = let clash : PartEnd k h ≡ ResultEnd n = is ∙ ap (λ (x : Joint). x.asking) same in cc clash
-    of_outer n Serve same (inr is) = apart (part_of k h (length p.parts) (count t + c * count t + n) (is ∙ ap (λ (x : Joint). x.serving) same))
-    of_outer n Ask same (inl is) = apart (part_of k h (length p.parts) (count t + c * count t + n) (is ∙ ap (λ (x : Joint). x.asking) same))
+    of_outer n Serve same (inr is) = apart (same_part k h (length p.parts) (count t + c * count t + n) (is ∙ ap (λ (x : Joint). x.serving) same))
+    of_outer n Ask same (inl is) = apart (same_part k h (length p.parts) (count t + c * count t + n) (is ∙ ap (λ (x : Joint). x.asking) same))
     of_outer n Ask same (inr is) = let clash : PartEnd k h ≡ ResultEnd n = is ∙ ap (λ (x : Joint). x.serving) same in cc clash
 
     of_joint : ((d : End) × (e : End) × Contains p.joints (joint d e) × (j.asking ≡ end_behind (length p.parts) d) × (j.serving ≡ end_behind (length p.parts) e))
@@ -118,10 +117,6 @@ record Spare (Known : ℕ → Type' → ℕ → Type 0) (l : Lodging) (n k h : �
 abbrev AllSpare : (ℕ → Type' → ℕ → Type 0) → Lodging → ℕ → Type 0
 AllSpare Known l n = (k h : ℕ) (d : Contact) → contact_at (l.env n).plan (PartEnd k h) ≡ Some d → l.spare n k h ≡ true → Spare Known l n k h
 
-not_true : (b : Bool) → not b ≡ true → b ≡ false
-not_true true e = sym e
-not_true false e = refl
-
 module _ (Known : ℕ → Type' → ℕ → Type 0) (types : Types) (q x : ℕ) (s : Split) (ss : List Split) (once : (k : ℕ) → times k (sides (s ∷ ss)) ≤ 1) (l : Lodging) (a : Option ℕ)
     (ns : List ℕ) (of : Contains ns s.of) (are : AreOfTypes types l.env ns) where
   abbrev plan : Plan
@@ -141,8 +136,8 @@ module _ (Known : ℕ → Type' → ℕ → Type 0) (types : Types) (q x : ℕ) 
     n = side_number s c
 
     which : (b : ℕ) → b < 2 → (if nat_eq (side_number s b) s.left then 0 else 1) ≡ b
-    which zero lt = ap (λ (t : Bool). if t then 0 else 1) (eq_true s.left s.left refl)
-    which (suc zero) lt = ap (λ (t : Bool). if t then 0 else 1) (eq_false s.right s.left (λ e. differ types s ss once (sym e)))
+    which zero lt = ap (λ (t : Bool). if t then 0 else 1) (eq-eqb s.left s.left refl)
+    which (suc zero) lt = ap (λ (t : Bool). if t then 0 else 1) (ne_eqb s.right s.left (λ e. differ types s ss once (sym e)))
     which (suc (suc b)) lt = absurd (omega (arith, lt))
 
     at_part : (k : ℕ) (b : Bool) → nat_eq k place ≡ b → next.part n k ≡ (if b then Own x else l.part s.of k)
@@ -172,7 +167,7 @@ module _ (Known : ℕ → Type' → ℕ → Type 0) (types : Types) (q x : ℕ) 
             sym (ap (λ (y : Option Part). slice_get (contacts_of_part y) h)
             (ap (slice_get ((l.env s.of).plan.parts ++ (Share (types s.of) ∷ []))) e ∙ at_last (l.env s.of).plan.parts (Share (types s.of)))) ∙ contact
             in
-            let unserved : serves_side size c h ≡ false = not_true (serves_side size c h) (sym (at_spare k h true t) ∙ spare) in
+            let unserved : serves_side size c h ≡ false = not-true (serves_side size c h) (sym (at_spare k h true t) ∙ spare) in
             let (j, low, same) = caller_of (types s.of) c h d two at unserved in
             record {
               number = x;
@@ -250,18 +245,18 @@ module _ (Known : ℕ → Type' → ℕ → Type 0) (types : Types) (inner : ℕ
       of_live : (live ss inner s.left || live ss inner s.right) ≡ true → AllSpare Known l s.of
       of_live one =
           was s.of of tidy.order.0 (of_gone inner s ss gone tidy)
-          (ap (λ (b : Bool). if b then live ss inner s.left || live ss inner s.right else live ss inner s.of) (eq_true s.of s.of refl) ∙ one)
+          (ap (λ (b : Bool). if b then live ss inner s.left || live ss inner s.right else live ss inner s.of) (eq-eqb s.of s.of refl) ∙ one)
 
       at_left : live ss inner s.left ≡ true → AllSpare Known (one_lodging types q x s (seen types inner ss s) l) s.left
       at_left one =
           side_spare Known types q x s ss tidy.once l (seen types inner ss s) ms of are 0 (omega arith)
-          (known 0 (seen_first (live ss inner s.left) (live ss inner s.right) one)) (of_live (first_live (live ss inner s.left) (live ss inner s.right) one))
+          (known 0 (seen_first (live ss inner s.left) (live ss inner s.right) one)) (of_live (or_left (live ss inner s.left) (live ss inner s.right) one))
 
       at_right : live ss inner s.right ≡ true → AllSpare Known (one_lodging types q x s (seen types inner ss s) l) s.right
       at_right one =
           side_spare Known types q x s ss tidy.once l (seen types inner ss s) ms of are 1 (omega arith)
           (known 1 (seen_second (live ss inner s.left) (live ss inner s.right) tidy.apart.0 one))
-          (of_live (either_live (live ss inner s.left) (live ss inner s.right) one))
+          (of_live (or_right (live ss inner s.left) (live ss inner s.right) one))
 
       listed : n ≢ s.left → n ≢ s.right → Contains ms n
       listed left right =
@@ -277,7 +272,7 @@ module _ (Known : ℕ → Type' → ℕ → Type 0) (types : Types) (inner : ℕ
           times_other n s.left (s.right ∷ sides ss) (λ e. left (sym e)) ∙ (times_other n s.right (sides ss) (λ e. right (sym e)) ∙ none)
           in
           let same : live (s ∷ ss) inner n ≡ true =
-          ap (λ (b : Bool). if b then live ss inner s.left || live ss inner s.right else live ss inner n) (eq_false n s.of far) ∙ lives
+          ap (λ (b : Bool). if b then live ss inner s.left || live ss inner s.right else live ss inner n) (ne_eqb n s.of far) ∙ lives
           in
           other_spare Known types q x s ss tidy.once l (seen types inner ss s) ms of are n left right (was n (listed left right) aside gone_too same)
 

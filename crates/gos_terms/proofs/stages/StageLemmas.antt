@@ -3,11 +3,11 @@ use Rattle.std.specs.Prelude.{◌+◌, ◌⊎◌, slice_get}
 use Rattle.std.proofs.Common.{◌≡◌, ℕ, List, [], Some, inl, inr, refl, sym, ◌∙◌, ap, subst}
 use Rattle.gos_plan.specs.Kinds.{Contact, asks, serves, Part, contacts_of}
 use Rattle.gos_plan.specs.Plans.{End, PartEnd, ImportEnd, Plan, contact_at, turned_if}
-use Rattle.gos_plan.proofs.JointLemmas.{fits, contained}
+use Rattle.gos_plan.proofs.JointLemmas.{fits, contained, which_end}
+use Rattle.gos_plan.proofs.ContactLemmas.{part_is_there, import_is_there}
 use Rattle.gos_realises.proofs.realises.PlaceLemmas.{contains_at, place_of}
 use Rattle.gos_joining.specs.webs.Webs.{IsOfWeb}
 use Rattle.gos_joining.specs.webs.Cutting.{StandsIn}
-use Rattle.gos_joining.proofs.webs.CutLemmas.{which_end}
 use Rattle.gos_compile.specs.Wiring.{parts_of}
 use Rattle.gos_terms.specs.wired.Wired.{Supplies, Placing, wired_web}
 use Rattle.gos_terms.specs.stages.Folding.{Lead, AtOwn, asked_in, led_end, Child, is_used, lodge, child_web, IsLaid}
@@ -15,7 +15,6 @@ use Rattle.gos_terms.specs.stages.Folded.{HasChild}
 use Rattle.gos_terms.specs.stages.Regions.{HasParts, IsStaged}
 use Rattle.gos_terms.specs.stages.Stages.{ChildIsStage}
 use Rattle.gos_terms.proofs.stages.LodgingLemmas.{lodged_are_inside}
-use Rattle.gos_terms.proofs.stages.ContactLemmas.{part_there, import_there}
 use Rattle.gos_terms.proofs.stages.ChildFoldLemmas.{own_outside, led_contact, import_of}
 
 -- what is known of its plan
@@ -67,7 +66,7 @@ child_is_stage f own ts pl plc r c h is leads has laid staged done regular restf
     own_part =
         let first : slice_get f.out 0 ≡ Some (AtOwn h) = ap (λ (ls : List Lead). slice_get ls 0) leads in
         let (k, contact) = led_contact f own ts pl plc r c is has_child laid laidc 0 (AtOwn h) first in
-        part_there (slice_get own f.own) h k (has_child.asks 0 (AtOwn h) k first contact)
+        part_is_there (slice_get own f.own) h k (has_child.asks 0 (AtOwn h) k first contact)
 
     contact_of : (e : End) → StandsIn c e → (k : Contact) × (contact_at c e ≡ Some k)
     contact_of e (j, listed, stands) = by_end (which_end e j stands)
@@ -80,6 +79,6 @@ child_is_stage f own ts pl plc r c h is leads has laid staged done regular restf
         → (k : ℕ) × (ImportEnd (pl.import ((lodge f).root (plc.origin i).number) (plc.origin i).import) h ≡ ImportEnd k h) × (slice_get r.imports k ≡ slice_get c.imports i)
     ports i h stands =
         let (k, at) = contact_of (ImportEnd i h) stands in
-        let (x, listed) = import_there (slice_get c.imports i) h k at in
+        let (x, listed) = import_is_there (slice_get c.imports i) h k at in
         let it = import_of f own ts pl plc r c is has_child laid laidc i x listed in
         (pl.import ((lodge f).root (plc.origin i).number) (plc.origin i).import, refl, it.there ∙ sym listed)

@@ -2,9 +2,11 @@
 use Rattle.std.specs.Prelude.{◌≢◌, ◌+◌, ◌*◌, ◌<◌, ◌≤◌, length, nat_eq, nat_lt, None}
 use Rattle.std.proofs.Common.{◌≡◌, ℕ, zero, suc, Bool, true, false, List, ◌∷◌, Option, Some, refl, sym, ◌∙◌, ap, subst, arith}
 use Rattle.std.proofs.lemmas.Bool.Decides.{nat_tests}
+use Rattle.std.proofs.lemmas.Bool.{lt-ltb, le-ltb, eq-eqb, ne_eqb}
+use Rattle.gos_model.proofs.NumberLemmas.{number_cases}
 use Rattle.gos_check.specs.declared.linear.Split.{Split}
 use Rattle.gos_check.specs.Linearity.{times, sides}
-use Rattle.gos_check.proofs.TimesLemmas.{number_cases, eq_true, eq_false, times_same}
+use Rattle.gos_check.proofs.TimesLemmas.{times_same}
 use Rattle.gos_plan.specs.Plans.{End}
 use Rattle.gos_realises.specs.realises.Regular.{count}
 use Rattle.gos_realises.specs.realises.Modules.{Supply}
@@ -17,41 +19,31 @@ use Rattle.gos_terms.specs.stages.Lodging.{Spot, Lodging, seen_from, side_number
 use Rattle.gos_terms.proofs.stages.InsideLemmas.{one_stays}
 use Rattle.gos_terms.proofs.stages.HomeLemmas.{way_behind, Untouched, IsOld, neither_side, left_side, right_side, untouched_later, plainly}
 
--- what the test of numbers tells
-pub low : (a b : ℕ) → a < b → nat_lt a b ≡ true
-low a b h = grind (arith, nat_tests)
-
-pub high : (a b : ℕ) → b ≤ a → nat_lt a b ≡ false
-high a b h = grind (arith, nat_tests)
-
-pub told_low : (a b : ℕ) → nat_lt a b ≡ true → a < b
-told_low a b h = grind (arith, nat_tests)
-
 pub told_high : (a b : ℕ) → nat_lt a b ≡ false → b ≤ a
 told_high a b h = grind (arith, nat_tests)
 
 -- the handshakes of a Share
 pub serves_source : (m c h : ℕ) → h < m → serves_side m c h ≡ true
-serves_source m c h lt = rw (low h m lt) refl
+serves_source m c h lt = rw (lt-ltb h m lt) refl
 
 pub serves_caller : (m c h : ℕ) → c < 2 → h < m → serves_side m c (m + c * m + h) ≡ true
 serves_caller m c h two lt =
-    let one : nat_lt (m + c * m + h) m ≡ false = high (m + c * m + h) m (omega arith) in
-    let other : nat_lt (m + c * m + h) (m + c * m) ≡ false = high (m + c * m + h) (m + c * m) (omega arith) in
-    let last : nat_lt (m + c * m + h) (m + c * m + m) ≡ true = low (m + c * m + h) (m + c * m + m) (omega (arith, lt)) in
+    let one : nat_lt (m + c * m + h) m ≡ false = le-ltb (m + c * m + h) m (omega arith) in
+    let other : nat_lt (m + c * m + h) (m + c * m) ≡ false = le-ltb (m + c * m + h) (m + c * m) (omega arith) in
+    let last : nat_lt (m + c * m + h) (m + c * m + m) ≡ true = lt-ltb (m + c * m + h) (m + c * m + m) (omega (arith, lt)) in
     rw (one, other, last) refl
 
 pub serves_first_alone : (m h : ℕ) → serves_side m 0 (m + 1 * m + h) ≡ false
 serves_first_alone m h =
-    let one : nat_lt (m + 1 * m + h) m ≡ false = high (m + 1 * m + h) m (omega arith) in
-    let other : nat_lt (m + 1 * m + h) (m + 0 * m) ≡ false = high (m + 1 * m + h) (m + 0 * m) (omega arith) in
-    let last : nat_lt (m + 1 * m + h) (m + 0 * m + m) ≡ false = high (m + 1 * m + h) (m + 0 * m + m) (omega arith) in
+    let one : nat_lt (m + 1 * m + h) m ≡ false = le-ltb (m + 1 * m + h) m (omega arith) in
+    let other : nat_lt (m + 1 * m + h) (m + 0 * m) ≡ false = le-ltb (m + 1 * m + h) (m + 0 * m) (omega arith) in
+    let last : nat_lt (m + 1 * m + h) (m + 0 * m + m) ≡ false = le-ltb (m + 1 * m + h) (m + 0 * m + m) (omega arith) in
     rw (one, other, last) refl
 
 pub serves_second_alone : (m h : ℕ) → h < m → serves_side m 1 (m + 0 * m + h) ≡ false
 serves_second_alone m h lt =
-    let one : nat_lt (m + 0 * m + h) m ≡ false = high (m + 0 * m + h) m (omega arith) in
-    let other : nat_lt (m + 0 * m + h) (m + 1 * m) ≡ true = low (m + 0 * m + h) (m + 1 * m) (omega (arith, lt)) in
+    let one : nat_lt (m + 0 * m + h) m ≡ false = le-ltb (m + 0 * m + h) m (omega arith) in
+    let other : nat_lt (m + 0 * m + h) (m + 1 * m) ≡ true = lt-ltb (m + 0 * m + h) (m + 1 * m) (omega (arith, lt)) in
     rw (one, other) refl
 
 -- no more than two callers
@@ -95,8 +87,8 @@ module _ (types : Types) (s : Split) (ss : List Split) (once : (k : ℕ) → tim
 
   -- what stands for a side
   pub side_env : (env : Supplies) (c : ℕ) → c < 2 → inside_one_supply types s env (side_number s c) ≡ behind_share (types s.of) c (env s.of)
-  side_env env zero two = rw (eq_true s.left s.left refl) refl
-  side_env env (suc zero) two = rw (eq_false s.right s.left (λ e. differ (sym e)), eq_true s.right s.right refl) refl
+  side_env env zero two = rw (eq-eqb s.left s.left refl) refl
+  side_env env (suc zero) two = rw (ne_eqb s.right s.left (λ e. differ (sym e)), eq-eqb s.right s.right refl) refl
   side_env env (suc (suc c)) two = absurd (omega (arith, two))
 
   abbrev Joined : Supply → End → End → Type 0

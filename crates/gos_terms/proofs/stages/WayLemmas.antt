@@ -1,17 +1,19 @@
 -- A joint of what stands for a number inside splits is a way of the node's web.
-use Rattle.std.specs.Prelude.{◌≢◌, ◌+◌, ◌*◌, ◌<◌, ◌≤◌, length, nat_eq, slice_get, None, Contains}
+use Rattle.std.specs.Prelude.{◌≢◌, ◌+◌, ◌*◌, ◌<◌, ◌≤◌, length, nat_eq, slice_get, Contains}
 use Rattle.std.proofs.Common.{◌≡◌, ℕ, zero, suc, Bool, true, false, List, [], ◌∷◌, ◌++◌, Option, Some, inl, inr, refl, sym, ◌∙◌, ap, subst, arith, if◌then◌else◌}
 use Rattle.std.proofs.lemmas.Option.{slice_get_within}
 use Rattle.std.proofs.lemmas.List.Elements.{Contains-append_left, Contains-append_right}
+use Rattle.std.proofs.lemmas.Bool.{eq-eqb, ne_eqb}
 use Rattle.gos_types.specs.declared.shakes.Role.{Role}
 use Rattle.gos_types.specs.declared.shakes.Role.TheVariants.{Serve, Ask}
 use Rattle.gos_types.specs.Types.{Type'}
+use Rattle.gos_model.proofs.NumberLemmas.{number_cases}
 use Rattle.gos_check.specs.declared.linear.Split.{Split}
 use Rattle.gos_check.specs.Linearity.{times, sides}
-use Rattle.gos_check.proofs.TimesLemmas.{number_cases, eq_true, eq_false}
 use Rattle.gos_plan.specs.Kinds.{Contact, asks, serves, contacts_of}
-use Rattle.gos_plan.specs.Plans.{End, PartEnd, ImportEnd, ResultEnd, Joint, Plan, contact_at, turned_if, IsRight}
+use Rattle.gos_plan.specs.Plans.{End, PartEnd, ImportEnd, ResultEnd, Joint, Plan, contact_at, IsRight}
 use Rattle.gos_plan.proofs.JointLemmas.{fits, contained}
+use Rattle.gos_plan.proofs.ContactLemmas.{part_is_there}
 use Rattle.gos_realises.specs.realises.Regular.{count}
 use Rattle.gos_realises.specs.realises.Modules.{Supply}
 use Rattle.gos_ties.specs.declared.points.Place.{Place}
@@ -27,7 +29,6 @@ use Rattle.gos_compile.specs.Wiring.{Types, row, led, share_ties, shares_ties}
 use Rattle.gos_sharing.specs.sharing.Sharing.{caller_end}
 use Rattle.gos_sharing.specs.buffers.Buffering.{end_behind}
 use Rattle.gos_sharing.specs.behind.Behind.{outer_joint}
-use Rattle.gos_joining.proofs.webs.CutLemmas.{part_at}
 use Rattle.gos_terms.specs.wired.Wired.{Supplies, Own, source_dot, dot_of, dot_ties, result_ties, supply_ties, all_supply_ties}
 use Rattle.gos_terms.specs.wired.NodeFitting.{AreOfTypes}
 use Rattle.gos_terms.specs.stages.Inside.{numbers_inside, AreSplit, SidesAgree}
@@ -36,24 +37,18 @@ use Rattle.gos_terms.proofs.stages.InsideLemmas.{lies_there, of_cons, one_stays,
 use Rattle.gos_terms.proofs.stages.HomeLemmas.{no_side}
 use Rattle.gos_terms.proofs.stages.StepLemmas.{side_is, side_env}
 use Rattle.gos_terms.proofs.stages.LodgingLemmas.{IsTidy, tidy_on, tidy_first, lifted, seen}
-
-turned_there : (a : Option Contact) (k : Contact) → turned_if a ≡ Some k → (d : Contact) × (a ≡ Some d)
-turned_there None k e = absurd (cc e)
-turned_there (Some d) k e = (d, refl)
+use Rattle.gos_terms.proofs.leaves.TieLemmas.{result_is_there}
 
 -- a handshake that there is is of a part that there is, or of the result
 pub known_there : (p : Plan) (k h : ℕ) (d : Contact) → contact_at p (PartEnd k h) ≡ Some d → k ≢ length p.parts
 known_there p k h d at e =
-    let (x, there) = part_at (slice_get p.parts k) h d at in
+    let (x, there) = part_is_there (slice_get p.parts k) h d at in
     let lt = slice_get_within p.parts k x there in
     let same : k ≡ length p.parts = e in omega (arith, lt, same)
 
-pub result_there : (p : Plan) (h : ℕ) (d : Contact) → contact_at p (ResultEnd h) ≡ Some d → h < count p.outcome
-result_there p h d at = let (k, there) = turned_there (slice_get (contacts_of p.outcome) h) d at in slice_get_within (contacts_of p.outcome) h k there
-
 -- ways
-pub by_tie : (ts : List Tie) (a b : Dot) → Contains ts (tie a b) → Way ts a b
-by_tie ts a b has = along a b b (inl has) (here b)
+pub way_by_tie : (ts : List Tie) (a b : Dot) → Contains ts (tie a b) → Way ts a b
+way_by_tie ts a b has = along a b b (inl has) (here b)
 
 -- a point of a row that is led to a part
 pub in_led : (place : Place) (q b n g j : ℕ) → j < n → Contains (led (row place b n) (places.Part q) g) (ties.tie (point place (b + j)) (point (places.Part q) (g + j)))
@@ -107,7 +102,7 @@ module _ (types : Types) (i q x : ℕ) (at_q : q ≡ i + x) (s : Split) (ss : Li
   source_way : (h : ℕ) → h < size → Way ts (Within 0 (Number s.of h)) (ShareDot h)
   source_way h lt =
       subst (Way ts (Within 0 (Number s.of h))) (to_own h)
-      (by_tie ts (Within 0 (Number s.of h)) (Within 0 (Of (PartEnd q h)))
+      (way_by_tie ts (Within 0 (Number s.of h)) (Within 0 (Of (PartEnd q h)))
       (subst (λ (r : ℕ). Contains ts (tie (Within 0 (Number s.of r)) (Within 0 (Of (PartEnd q r))))) zero_on
       (own_tie (ties.tie (point (places.Number s.of) (0 + h)) (point (places.Part q) (0 + h)))
       (Contains-append_left (led (row (places.Number s.of) 0 size) (places.Part q) 0)
@@ -122,7 +117,7 @@ module _ (types : Types) (i q x : ℕ) (at_q : q ≡ i + x) (s : Split) (ss : Li
       let at : size + h ≡ size + 0 * size + h = omega arith in
       let from : 0 + h ≡ h = omega arith in
       subst (Way ts (Within 0 (Number s.left h))) (to_own (size + 0 * size + h))
-      (by_tie ts (Within 0 (Number s.left h)) (Within 0 (Of (PartEnd q (size + 0 * size + h))))
+      (way_by_tie ts (Within 0 (Number s.left h)) (Within 0 (Of (PartEnd q (size + 0 * size + h))))
       (subst (λ (r : ℕ). Contains ts (tie (Within 0 (Number s.left h)) (Within 0 (Of (PartEnd q r))))) at
       (subst (λ (r : ℕ). Contains ts (tie (Within 0 (Number s.left r)) (Within 0 (Of (PartEnd q (size + h)))))) from
       (own_tie (ties.tie (point (places.Number s.left) (0 + h)) (point (places.Part q) (size + h)))
@@ -135,7 +130,7 @@ module _ (types : Types) (i q x : ℕ) (at_q : q ≡ i + x) (s : Split) (ss : Li
       let at : size + size + h ≡ size + 1 * size + h = omega arith in
       let from : 0 + h ≡ h = omega arith in
       subst (Way ts (Within 0 (Number s.right h))) (to_own (size + 1 * size + h))
-      (by_tie ts (Within 0 (Number s.right h)) (Within 0 (Of (PartEnd q (size + 1 * size + h))))
+      (way_by_tie ts (Within 0 (Number s.right h)) (Within 0 (Of (PartEnd q (size + 1 * size + h))))
       (subst (λ (r : ℕ). Contains ts (tie (Within 0 (Number s.right h)) (Within 0 (Of (PartEnd q r))))) at
       (subst (λ (r : ℕ). Contains ts (tie (Within 0 (Number s.right r)) (Within 0 (Of (PartEnd q (size + size + h)))))) from
       (own_tie (ties.tie (point (places.Number s.right) (0 + h)) (point (places.Part q) (size + size + h)))
@@ -157,18 +152,18 @@ module _ (types : Types) (i q x : ℕ) (at_q : q ≡ i + x) (s : Split) (ss : Li
         ∙ ap (λ (t : Bool). source_dot i (if t then Own x else l.part s.of k) h) e
 
     at_share : (h : ℕ) → lies i next n (PartEnd (length plan.parts) h) ≡ ShareDot h
-    at_share h = at_part (length plan.parts) h true (eq_true (length plan.parts) (length plan.parts) refl)
+    at_share h = at_part (length plan.parts) h true (eq-eqb (length plan.parts) (length plan.parts) refl)
 
     -- an end of the plan, and the same end behind the Share
     connects : (e : End) (k : Contact) → contact_at plan e ≡ Some k → Way ts (lies i l s.of e) (lies i next n (end_behind (length plan.parts) e))
     connects (PartEnd k h) d there =
         let apart : k ≢ length plan.parts = λ e. known_there plan k h d there e in
-        subst (Way ts (source_dot i (l.part s.of k) h)) (sym (at_part k h false (eq_false k (length plan.parts) apart))) (here (source_dot i (l.part s.of k) h))
+        subst (Way ts (source_dot i (l.part s.of k) h)) (sym (at_part k h false (ne_eqb k (length plan.parts) apart))) (here (source_dot i (l.part s.of k) h))
     connects (ImportEnd k h) d there =
         subst (λ (r : ℕ). Way ts (Within (suc (l.root s.of)) (Of (ImportEnd k h))) (Within (suc r) (Of (ImportEnd k h))))
         (sym (ap (λ (t : Bool). if t then l.root s.of else l.root n) (side_is types s ss once c))) (here (Within (suc (l.root s.of)) (Of (ImportEnd k h))))
     connects (ResultEnd h) d there =
-        let lt : h < count plan.outcome = result_there plan h d there in
+        let lt : h < count plan.outcome = result_is_there plan h d there in
         subst (Way ts (Within 0 (Number s.of h))) (sym (at_share h)) (source_way h (subst (λ (t : Type'). h < count t) outcome lt))
 
     behind_way : (j : Joint) → Contains plan.joints j
@@ -271,7 +266,7 @@ module _ (types : Types) (i : ℕ) (inner : ℕ → Bool) (ts : List Tie) where
     result_way : (n h : ℕ) → Contains ns n → h < count (types n) → Way ts (Within 0 (Number n h)) (Within (suc n) (Of (ResultEnd h)))
     result_way n h there lt =
         let same : 0 + h ≡ h = omega arith in
-        by_tie ts (Within 0 (Number n h)) (Within (suc n) (Of (ResultEnd h)))
+        way_by_tie ts (Within 0 (Number n h)) (Within (suc n) (Of (ResultEnd h)))
         (has (tie (Within 0 (Number n h)) (Within (suc n) (Of (ResultEnd h))))
         (of_number ns n (tie (Within 0 (Number n h)) (Within (suc n) (Of (ResultEnd h)))) there
         (Contains-append_right (within (suc n) (own_web (env n).plan).ties) (result_ties n 0 (count (types n))) (tie (Within 0 (Number n h)) (Within (suc n) (Of (ResultEnd h))))
@@ -282,7 +277,7 @@ module _ (types : Types) (i : ℕ) (inner : ℕ → Bool) (ts : List Tie) where
     to_end n (PartEnd k h) d there known = here (Within (suc n) (Of (PartEnd k h)))
     to_end n (ImportEnd k h) d there known = here (Within (suc n) (Of (ImportEnd k h)))
     to_end n (ResultEnd h) d there known =
-        let lt : h < count (env n).plan.outcome = result_there (env n).plan h d known in
+        let lt : h < count (env n).plan.outcome = result_is_there (env n).plan h d known in
         result_way n h there (subst (λ (t : Type'). h < count t) (are n there).1 lt)
 
     first_ways : AreWays i first ns ts
@@ -292,7 +287,7 @@ module _ (types : Types) (i : ℕ) (inner : ℕ → Bool) (ts : List Tie) where
         let fit = fits (env n).plan [] (env n).plan.joints j right (contained (env n).plan.joints j listed) in
         way_then ts (lies i first n j.asking) (Within (suc n) (Of j.asking)) (lies i first n j.serving) (to_end n j.asking (asks fit.0 fit.1) there fit.2)
         (way_then ts (Within (suc n) (Of j.asking)) (Within (suc n) (Of j.serving)) (lies i first n j.serving)
-        (by_tie ts (Within (suc n) (Of j.asking)) (Within (suc n) (Of j.serving))
+        (way_by_tie ts (Within (suc n) (Of j.asking)) (Within (suc n) (Of j.serving))
         (has (tie (Within (suc n) (Of j.asking)) (Within (suc n) (Of j.serving)))
         (of_number ns n (tie (Within (suc n) (Of j.asking)) (Within (suc n) (Of j.serving))) there
         (Contains-append_left (within (suc n) (own_web (env n).plan).ties) (result_ties n 0 (count (types n))) (tie (Within (suc n) (Of j.asking)) (Within (suc n) (Of j.serving)))

@@ -1,9 +1,8 @@
 -- The plan of a checked module, joined to supplies, is its term's node wired to them, and realises what it means with these.
-use Rattle.std.specs.Prelude.{◌≡◌, ℕ, true, List, [], Option, Some, All, length, slice_get}
-use Rattle.std.specs.Str.{bytes_eq}
-use Rattle.std.proofs.Common.{sym, ◌∙◌, ap, subst, arith}
-use Rattle.std.proofs.lemmas.Slice.Eq.{bytes_eq-Decides}
+use Rattle.std.specs.Prelude.{◌≡◌, ℕ, List, [], Option, Some, All, length, slice_get}
+use Rattle.std.proofs.Common.{sym, ◌∙◌, ap, subst}
 use Rattle.gos_types.specs.Types.{Type', type_of}
+use Rattle.gos_types.proofs.BytesLemmas.{bytes_eq_itself}
 use Rattle.gos_model.specs.Terms as terms
 use Rattle.gos_model.specs.Terms.{Term, Name}
 use Rattle.gos_model.specs.Typing.{Imports, import_type, Typed}
@@ -41,9 +40,6 @@ pub record ModuleLaws : Type 0 where
   pub starts : CheckedStarts
   pub means : ModuleIsSupplied
   pub typed : SuppliedIsTyped
-
-own_name : (x : Name) → bytes_eq x x ≡ true
-own_name x = grind (arith, bytes_eq-Decides)
 
 module _ (l : SeenLinear) (w : ℕ) (p : Plan) (c : IsChecked l) (of : IsPlanOf (program_in l).imports (type_of l.result) w (node_seen l.term) p) where
   abbrev imports : Imports
@@ -90,8 +86,8 @@ module _ (l : SeenLinear) (w : ℕ) (p : Plan) (c : IsChecked l) (of : IsPlanOf 
       each_typed n s at =
           let (x, at_x, realised) = import_for p.imports ss n s are at in
           let type : import_type p.imports x.name ≡ Some x.ty =
-          type_has p.imports differ_there x.name x (contains_at p.imports n x at_x) (own_name x.name) in
-          let term : term_for p.imports ss x.name ≡ Some s.term = at_term p.imports ss x.name n x s differ_there at_x at (own_name x.name) in (
+          type_has p.imports differ_there x.name x (contains_at p.imports n x at_x) (bytes_eq_itself x.name) in
+          let term : term_for p.imports ss x.name ≡ Some s.term = at_term p.imports ss x.name n x s differ_there at_x at (bytes_eq_itself x.name) in (
             x.ty,
             subst (λ (o : Option Term). Typed r.imports [] (or_import x.name o) x.ty) term
                 (laws.typed p r ss (terms.Import x.name) x.ty are join differ type),

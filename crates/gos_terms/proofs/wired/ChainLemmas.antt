@@ -3,7 +3,8 @@
 use Rattle.std.specs.Prelude.{◌≡◌, ◌⊎◌}
 use Rattle.std.proofs.Common.{sym, ◌∙◌, ap, subst, inl, inr}
 use Rattle.gos_plan.specs.Kinds.{Contact, turned_contact}
-use Rattle.gos_terms.proofs.wired.FlowLemmas.{twice_turned, Alike, same, apart, role_cases}
+use Rattle.gos_plan.proofs.ContactLemmas.{turned_contact_twice}
+use Rattle.gos_terms.proofs.wired.FlowLemmas.{Alike, same, apart, role_cases}
 
 -- What has to hold of points and of what leads from one, where it sees a handshake, to another.
 pub record IsFair (D : Type 0) (Leads : D → D → Contact → Type 0) : Type 0 where
@@ -29,7 +30,7 @@ module _ (D : Type 0) (Leads : D → D → Contact → Type 0) (fair : IsFair D 
       by_role (same e) = inl (fair.once q y a (turned_contact d) (turned_contact k) back before e)
       by_role (apart differ) =
           let fits : turned_contact k ≡ turned_contact (turned_contact d) = fair.through q y a (turned_contact d) (turned_contact k) back before differ in
-          inr (more y q (first q before) (subst (λ (c : Contact). Leads y q c) (sym (fits ∙ twice_turned d)) next))
+          inr (more y q (first q before) (subst (λ (c : Contact). Leads y q c) (sym (fits ∙ turned_contact_twice d)) next))
   onward x y d (more q z chain before) next = by_role (role_cases (turned_contact d).role (turned_contact k).role)
     where
       back : Leads q y (turned_contact d)
@@ -41,13 +42,13 @@ module _ (D : Type 0) (Leads : D → D → Contact → Type 0) (fair : IsFair D 
           inr (subst Chain same_point chain)
       by_role (apart differ) =
           let fits : turned_contact k ≡ turned_contact (turned_contact d) = fair.through q y z (turned_contact d) (turned_contact k) back before differ in
-          inr (more y q (more q z chain before) (subst (λ (c : Contact). Leads y q c) (sym (fits ∙ twice_turned d)) next))
+          inr (more y q (more q z chain before) (subst (λ (c : Contact). Leads y q c) (sym (fits ∙ turned_contact_twice d)) next))
 
   from_end : (x y : D) (d : Contact) → x ≡ a → Leads y x d → Reached y
   from_end x y d is next =
       let there : Leads y a d = subst (λ (z : D). Leads y z d) is next in
       let seen : k ≡ turned_contact d = at_a y (turned_contact d) (fair.back y a d there) in
-      let turned_k : turned_contact k ≡ d = ap turned_contact seen ∙ twice_turned d in
+      let turned_k : turned_contact k ≡ d = ap turned_contact seen ∙ turned_contact_twice d in
       inr (first y (subst (λ (c : Contact). Leads y a c) (sym turned_k) there))
 
   pub step : (x y : D) (c : Contact) → Reached x → Leads x y c → Reached y

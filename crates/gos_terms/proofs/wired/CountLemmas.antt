@@ -4,10 +4,11 @@
 use Rattle.std.specs.Prelude.{◌≡◌, ℕ, zero, suc, ◌+◌, ◌-◌, ◌≤◌, ◌<◌, Bool, true, false, List, [], ◌∷◌, ◌++◌, length, take, drop, Option, Some, None, slice_get, nat_eq, if◌then◌else◌, option_map}
 use Rattle.std.proofs.Common.{refl, sym, ap, subst, arith}
 use Rattle.std.proofs.lemmas.Option.{slice_get-map}
+use Rattle.std.proofs.lemmas.Bool.{ne_eqb}
 use Rattle.gos_types.specs.declared.shakes.Role.{Role}
 use Rattle.gos_types.specs.declared.shakes.Role.TheVariants.{Serve, Ask}
 use Rattle.gos_types.specs.Handshakes.{turned}
-use Rattle.gos_check.proofs.TimesLemmas.{number_cases, eq_false}
+use Rattle.gos_model.proofs.NumberLemmas.{number_cases}
 use Rattle.gos_plan.specs.Kinds.{Contact, other_side, turned_contact}
 use Rattle.gos_ties.specs.declared.points.Place.{Place}
 use Rattle.gos_ties.specs.declared.points.Point.{Point}
@@ -105,7 +106,7 @@ row_beyond : (r : Role) (q : Point) (cs : List Contact) (place : Place) (h n : �
 row_beyond r q [] place h n low = refl
 row_beyond r q (c ∷ cs) place h zero low = refl
 row_beyond r q (c ∷ cs) place h (suc n) low =
-    let differ : nat_eq h q.shake ≡ false = eq_false h q.shake (λ e. let f : h ≡ q.shake = e in omega (arith, f, low)) in
+    let differ : nat_eq h q.shake ≡ false = ne_eqb h q.shake (λ e. let f : h ≡ q.shake = e in omega (arith, f, low)) in
     let first : held r q (point place h) c ≡ 0 = off (alike r c.role) (nat_eq h q.shake) (place_once q.place place) differ in
     let rest = row_beyond r q cs place (suc h) n (omega (arith, low)) in
     omega (arith, first, rest)

@@ -12,22 +12,24 @@ use Rattle.gos_model.specs.Moves.{Program}
 use Rattle.gos_check.specs.Nodes.{Numbered, type_of_node, node_seen}
 use Rattle.gos_check.specs.Checked.{program_in}
 use Rattle.gos_check.specs.Linearity.{StandsFor}
-use Rattle.gos_check.proofs.TimesLemmas.{eq_true}
 use Rattle.gos_plan.specs.Kinds.{Part, Contact, contacts_of, turned_contact}
 use Rattle.gos_plan.specs.Plans.{End, PartEnd, ImportEnd, ResultEnd, Plan, contact_at, turned_if}
+use Rattle.gos_plan.proofs.ContactLemmas.{turned_contact_twice}
 use Rattle.gos_ties.specs.declared.points.Place.{Place}
 use Rattle.gos_ties.specs.declared.points.Place.TheVariants as places
 use Rattle.gos_ties.specs.declared.points.Point.{Point}
 use Rattle.gos_ties.specs.declared.points.Tie.{Tie}
 use Rattle.gos_ties.specs.Ties.{at, end_at, Path, here, along}
-use Rattle.gos_ties.specs.Counted.{place_once, once, meetings}
+use Rattle.gos_ties.specs.Counted.{once, meetings}
+use Rattle.gos_ties.proofs.ThinLemmas.{once_itself}
+use Rattle.gos_ties.proofs.JointLemmas.{same_at}
 use Rattle.gos_realises.specs.realises.Regular.{count}
 use Rattle.gos_compile.specs.Wiring.{Types, row, parts_of, all_types, all_ties, import_ties, ties_of, IsPlanOf}
 use Rattle.gos_compile.specs.Typed.{NodesTyped, CheckedIsTyped}
 use Rattle.gos_compile.proofs.ThinLemmas.{thin}
 use Rattle.gos_terms.specs.wired.Fitting.{TypedTiesFit, CheckedFits, CheckedIsWired}
 use Rattle.gos_terms.proofs.wired.TypeLemmas.{type_is}
-use Rattle.gos_terms.proofs.wired.FlowLemmas.{Flow, tie_in, Leaves, leaves_back, flow_of, at_is, twice_turned}
+use Rattle.gos_terms.proofs.wired.FlowLemmas.{Flow, tie_in, Leaves, leaves_back, flow_of}
 use Rattle.gos_terms.proofs.wired.ChainLemmas.{IsFair, Reached, step, reached_fits}
 use Rattle.gos_terms.proofs.wired.FlowedLemmas.{seen, flows_of, import_flows, all_flows}
 use Rattle.gos_terms.proofs.wired.OutLemmas.{seen_length}
@@ -43,19 +45,9 @@ alike_self : (r : Role) → alike r r ≡ true
 alike_self Serve = refl
 alike_self Ask = refl
 
-place_self : (q : Place) → place_once q q ≡ 1
-place_self (places.Part k) = ap (λ (b : Bool). if b then 1 else 0) (eq_true k k refl)
-place_self (places.Import k) = ap (λ (b : Bool). if b then 1 else 0) (eq_true k k refl)
-place_self places.Result = refl
-place_self (places.Number k) = ap (λ (b : Bool). if b then 1 else 0) (eq_true k k refl)
-place_self (places.Node k) = ap (λ (b : Bool). if b then 1 else 0) (eq_true k k refl)
-
-once_self : (q : Point) → once q q ≡ 1
-once_self q = ap (λ (b : Bool). if b then place_once q.place q.place else 0) (eq_true q.shake q.shake refl) ∙ place_self q.place
-
 held_self : (q p : Point) (c d : Contact) → p ≡ q → d ≡ c → held c.role q p d ≡ 1
 held_self q p c d e f =
-    (λ i. held c.role q (e i) (f i)) ∙ (ap (λ (b : Bool). if b then once q q else 0) (alike_self c.role) ∙ once_self q)
+    (λ i. held c.role q (e i) (f i)) ∙ (ap (λ (b : Bool). if b then once q q else 0) (alike_self c.role) ∙ once_itself q)
 
 -- each flow from a point counts
 pub leaves_counted : (fs : List Flow) (q x : Point) (c : Contact) → Leaves fs q x c → 1 ≤ meets c.role q fs
@@ -153,10 +145,10 @@ module _ (parts : List Part) (is : Imports) (outcome : Type') (types : Types) (t
   pub either : (o : Option Contact) (c d : Contact) → (c.role ≡ d.role → ⊥) → (o ≡ Some c) ⊎ (o ≡ Some (turned_contact c))
       → (o ≡ Some d) ⊎ (o ≡ Some (turned_contact d)) → d ≡ turned_contact c
   either o c d differ (inl e) (inl f) = plain o c d differ e f
-  either o c d differ (inl e) (inr f) = sym (twice_turned d) ∙ ap turned_contact (sym (one_contact o c (turned_contact d) e f))
+  either o c d differ (inl e) (inr f) = sym (turned_contact_twice d) ∙ ap turned_contact (sym (one_contact o c (turned_contact d) e f))
   either o c d differ (inr e) (inl f) = sym (one_contact o (turned_contact c) d e f)
   either o c d differ (inr e) (inr f) =
-      let same : c ≡ d = sym (twice_turned c) ∙ (ap turned_contact (one_contact o (turned_contact c) (turned_contact d) e f) ∙ twice_turned d) in
+      let same : c ≡ d = sym (turned_contact_twice c) ∙ (ap turned_contact (one_contact o (turned_contact c) (turned_contact d) e f) ∙ turned_contact_twice d) in
       absurd (differ (ap (λ (k : Contact). k.role) same))
 
   pub through_at : (q : Place) (h : ℕ) (c d : Contact) → (c.role ≡ d.role → ⊥) → Has q h c → Has q h d → d ≡ turned_contact c
@@ -275,7 +267,7 @@ module _ (program : Program) (t : Type') (w : ℕ) (m : Numbered) (p : Plan) (st
           (walk (at a) (at b) (inl refl) (subst (λ (ts : List Tie). Path ts (at a) (at b)) (sym good.1) path)))
         where
           by_end : (at b ≡ at a) ⊎ (d ≡ turned_contact k) → d ≡ turned_contact k
-          by_end (inl same) = absurd (differ (at_is a b (sym same)))
+          by_end (inl same) = absurd (differ (same_at a b (sym same)))
           by_end (inr fit) = fit
 
 pub typed_ties_fit : TypedTiesFit

@@ -1,14 +1,13 @@
 -- Flows: ties with the handshake that is seen at their one side.
-use Rattle.std.specs.Prelude.{◌≡◌, suc, List, [], ◌∷◌, ◌⊎◌, map, Some, Contains}
+use Rattle.std.specs.Prelude.{◌≡◌, suc, List, [], ◌∷◌, ◌⊎◌, map, Contains}
 use Rattle.std.proofs.Common.{refl, sym, ◌∙◌, ap, arith, inl, inr}
 use Rattle.gos_types.specs.declared.shakes.Role.{Role}
 use Rattle.gos_types.specs.declared.shakes.Role.TheVariants.{Serve, Ask}
-use Rattle.gos_types.specs.Handshakes.{turned}
 use Rattle.gos_plan.specs.Kinds.{Contact, turned_contact}
-use Rattle.gos_plan.specs.Plans.{End, PartEnd, ImportEnd, ResultEnd}
+use Rattle.gos_plan.proofs.ContactLemmas.{turned_contact_twice}
 use Rattle.gos_ties.specs.declared.points.Point.{Point}
 use Rattle.gos_ties.specs.declared.points.Tie.{Tie}
-use Rattle.gos_ties.specs.Ties.{at, tie, Meet, end_at}
+use Rattle.gos_ties.specs.Ties.{tie, Meet}
 
 -- a tie, with the handshake that is seen at its one side
 pub record Flow : Type 0 where
@@ -24,13 +23,6 @@ abbrev pub Leaves : List Flow → Point → Point → Contact → Type 0
 Leaves fs q x c =
     (f : Flow) × Contains fs f × (((f.one ≡ q) × (f.other ≡ x) × (f.contact ≡ c)) ⊎ ((f.other ≡ q) × (f.one ≡ x) × (turned_contact f.contact ≡ c)))
 
-turned_back : (r : Role) → turned (turned r) ≡ r
-turned_back Serve = refl
-turned_back Ask = refl
-
-pub twice_turned : (c : Contact) → turned_contact (turned_contact c) ≡ c
-twice_turned c = λ i. record c { role = turned_back c.role i }
-
 -- two roles are one or not
 pub data Alike (r s : Role) : Type 0 where
   same : r ≡ s → Alike r s
@@ -45,7 +37,7 @@ role_cases Ask Ask = same refl
 pub leaves_back : (fs : List Flow) (q x : Point) (c : Contact) → Leaves fs q x c → Leaves fs x q (turned_contact c)
 leaves_back fs q x c (f, has, inl (a, b, e)) = (f, has, inr (b, a, ap turned_contact e))
 leaves_back fs q x c (f, has, inr (a, b, e)) =
-    (f, has, inl (b, a, sym (twice_turned f.contact) ∙ ap turned_contact e))
+    (f, has, inl (b, a, sym (turned_contact_twice f.contact) ∙ ap turned_contact e))
 
 pub flow_of : (fs : List Flow) (a b : Point) → Meet (map tie_in fs) a b → (c : Contact) × Leaves fs a b c
 flow_of [] a b meets = absurd meets
@@ -57,14 +49,3 @@ flow_of (f ∷ fs) a b (inr (inr meets)) = further (flow_of fs a b meets)
   where
     further : (c : Contact) × Leaves fs a b c → (c : Contact) × Leaves (f ∷ fs) a b c
     further (c, (g, (n, small, e), ways)) = (c, (g, (suc n, omega (arith, small), e), ways))
-
-pub at_is : (a b : End) → at a ≡ at b → a ≡ b
-at_is a b e = by_end (ap end_at e)
-  where
-    same_end : (x : End) → end_at (at x) ≡ Some x
-    same_end (PartEnd i h) = refl
-    same_end (ImportEnd i h) = refl
-    same_end (ResultEnd h) = refl
-
-    by_end : end_at (at a) ≡ end_at (at b) → a ≡ b
-    by_end f = let both : Some a ≡ Some b = sym (same_end a) ∙ (f ∙ same_end b) in cc both

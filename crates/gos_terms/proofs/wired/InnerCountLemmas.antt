@@ -4,13 +4,15 @@
 -- its two sides.
 use Rattle.std.specs.Prelude.{◌≡◌, ℕ, zero, suc, ◌+◌, ◌≤◌, ◌<◌, Bool, true, false, List, [], ◌∷◌, ◌++◌, length, Some, slice_get, nat_eq, if◌then◌else◌}
 use Rattle.std.proofs.Common.{refl, ◌∙◌, ap, subst, arith}
+use Rattle.std.proofs.lemmas.Bool.{ne_eqb}
 use Rattle.gos_types.specs.declared.shakes.Role.{Role}
 use Rattle.gos_types.specs.Types.{Type'}
 use Rattle.gos_model.specs.Typing.{Imports, Imported}
+use Rattle.gos_model.proofs.NumberLemmas.{number_cases}
 use Rattle.gos_check.specs.declared.linear.Split.{Split}
 use Rattle.gos_check.specs.Nodes.{Numbered, Closed, Use, Under, One, Two, If, type_of_node}
 use Rattle.gos_check.specs.Linearity.{times, split_in, sides, used, made}
-use Rattle.gos_check.proofs.TimesLemmas.{number_cases, eq_false, times-append}
+use Rattle.gos_check.proofs.TimesLemmas.{times-append}
 use Rattle.gos_plan.specs.Kinds.{Part, Contact, contacts_of, other_side}
 use Rattle.gos_ties.specs.declared.points.Place.TheVariants as places
 use Rattle.gos_ties.specs.declared.points.Point.{Point}
@@ -75,7 +77,7 @@ sum_beyond : (k a n : ℕ) → k < a → sum_from (one k) a n ≡ 0
 sum_beyond k a zero low = refl
 sum_beyond k a (suc n) low =
     let rest = sum_beyond k (suc a) n (omega (arith, low)) in
-    let other : nat_eq a k ≡ false = eq_false a k (λ e. let f : a ≡ k = e in omega (arith, f, low)) in
+    let other : nat_eq a k ≡ false = ne_eqb a k (λ e. let f : a ≡ k = e in omega (arith, f, low)) in
     let none : one k a ≡ 0 = ap (λ (b : Bool). if b then 1 else 0) other in
     omega (arith, rest, none)
 
@@ -90,7 +92,7 @@ sum_past : (k a n : ℕ) → a + n ≤ k → sum_from (one k) a n ≡ 0
 sum_past k a zero low = refl
 sum_past k a (suc n) low =
     let rest = sum_past k (suc a) n (omega (arith, low)) in
-    let other : nat_eq a k ≡ false = eq_false a k (λ e. let f : a ≡ k = e in omega (arith, f, low)) in
+    let other : nat_eq a k ≡ false = ne_eqb a k (λ e. let f : a ≡ k = e in omega (arith, f, low)) in
     let none : one k a ≡ 0 = ap (λ (b : Bool). if b then 1 else 0) other in
     omega (arith, rest, none)
 

@@ -1,14 +1,16 @@
 -- The parts and the imports of several plans, by their numbers among all.
 use Rattle.std.specs.Prelude.{◌≡◌, ℕ, zero, suc, ◌+◌, List, [], ◌∷◌, ◌++◌, length, Some, slice_get}
 use Rattle.std.proofs.Common.{refl, sym, ◌∙◌, ap, arith, inl, inr}
+use Rattle.gos_types.proofs.ListLemmas.{found_in_front, found_behind}
 use Rattle.gos_model.specs.Typing.{Imported}
 use Rattle.gos_plan.specs.Kinds.{Part}
 use Rattle.gos_plan.specs.Plans.{Plan}
 use Rattle.gos_plan.specs.Joining.{LeftImport, all_parts}
 use Rattle.gos_realises.proofs.realises.LeftLemmas.{left_list}
 use Rattle.gos_realises.proofs.joined.OriginLemmas.{before}
-use Rattle.gos_joining.proofs.unions.LeftLemmas.{front, behind}
 use Rattle.gos_joining.proofs.unions.FlatFitLemmas.{InTwo, in_two}
+use Rattle.gos_sharing.proofs.function_types.SideLemmas.{list_size}
+use Rattle.gos_sharing.proofs.function_types.BeforeLemmas.{listed_list}
 
 pub part_there : (ps : List Plan) (n j : ℕ) (q : Plan) (x : Part) → slice_get ps n ≡ Some q → slice_get q.parts j ≡ Some x
     → slice_get (all_parts ps) (before ps n + j) ≡ Some x
@@ -16,10 +18,10 @@ part_there [] n j q x is has = absurd (cc is)
 part_there (p ∷ ps) zero j q x is has =
     let same : p ≡ q = cc is in
     let zeros : 0 + j ≡ j = omega arith in
-    ap (slice_get (p.parts ++ all_parts ps)) zeros ∙ front p.parts (all_parts ps) j x (ap (λ (y : Plan). slice_get y.parts j) same ∙ has)
+    ap (slice_get (p.parts ++ all_parts ps)) zeros ∙ found_in_front p.parts (all_parts ps) j x (ap (λ (y : Plan). slice_get y.parts j) same ∙ has)
 part_there (p ∷ ps) (suc n) j q x is has =
     let sum : length p.parts + before ps n + j ≡ length p.parts + (before ps n + j) = omega arith in
-    ap (slice_get (p.parts ++ all_parts ps)) sum ∙ (behind p.parts (all_parts ps) (before ps n + j) ∙ part_there ps n j q x is has)
+    ap (slice_get (p.parts ++ all_parts ps)) sum ∙ (found_behind p.parts (all_parts ps) (before ps n + j) ∙ part_there ps n j q x is has)
 
 -- how many imports the plans before plan n have
 abbrev pub imports_before : List Plan → ℕ → ℕ
@@ -31,21 +33,6 @@ imports_before (q ∷ qs) (suc n) = length q.imports + imports_before qs n
 abbrev pub all_imports : ℕ → List Plan → List LeftImport
 all_imports m [] = []
 all_imports m (q ∷ qs) = left_list m 0 q.imports ++ all_imports (suc m) qs
-
-list_length : (k i : ℕ) (xs : List Imported) → length (left_list k i xs) ≡ length xs
-list_length k i [] = refl
-list_length k i (x ∷ xs) = ap suc (list_length k (suc i) xs)
-
-in_list : (k i : ℕ) (xs : List Imported) (j : ℕ) (x : Imported) → slice_get xs j ≡ Some x
-    → slice_get (left_list k i xs) j ≡ Some (record { plan = k; number = i + j; import = x })
-in_list k i [] j x at = absurd (cc at)
-in_list k i (y ∷ xs) zero x at =
-    let e : i ≡ i + 0 = omega arith in
-    let same : y ≡ x = cc at in
-    λ l. Some (record { plan = k; number = e l; import = same l })
-in_list k i (y ∷ xs) (suc j) x at =
-    let e : suc i + j ≡ i + suc j = omega arith in
-    in_list k (suc i) xs j x at ∙ (λ l. Some (record { plan = k; number = e l; import = x }))
 
 record ListAt (k i : ℕ) (xs : List Imported) (j : ℕ) (l : LeftImport) : Type 0 where
   plan : l.plan ≡ k
@@ -97,7 +84,7 @@ import_in m (q ∷ qs) i l at = by_list (in_two (left_list m 0 q.imports) (all_i
         }
     by_list (inr (j, sum, later)) rest =
         let there = rest j later in
-        let size = list_length m 0 q.imports in
+        let size = list_size m 0 q.imports in
         let number = there.number in
         let next : suc m + there.plan ≡ m + suc there.plan = omega arith in
         record {
@@ -118,13 +105,13 @@ import_there m (p ∷ qs) zero k q x is at =
     let plan : m ≡ m + 0 = omega arith in
     let number : 0 + k ≡ k = omega arith in
     ap (slice_get (left_list m 0 p.imports ++ all_imports (suc m) qs)) zeros
-    ∙ (front (left_list m 0 p.imports) (all_imports (suc m) qs) k (record { plan = m; number = 0 + k; import = x })
-    (in_list m 0 p.imports k x (ap (λ (y : Plan). slice_get y.imports k) same ∙ at))
+    ∙ (found_in_front (left_list m 0 p.imports) (all_imports (suc m) qs) k (record { plan = m; number = 0 + k; import = x })
+    (listed_list m 0 p.imports k x (ap (λ (y : Plan). slice_get y.imports k) same ∙ at))
     ∙ (λ j. Some (record { plan = plan j; number = number j; import = x })))
 import_there m (p ∷ qs) (suc n) k q x is at =
-    let size = list_length m 0 p.imports in
+    let size = list_size m 0 p.imports in
     let sum : length p.imports + imports_before qs n + k ≡ length (left_list m 0 p.imports) + (imports_before qs n + k) = omega (arith, size) in
     let next : suc m + n ≡ m + suc n = omega arith in
     ap (slice_get (left_list m 0 p.imports ++ all_imports (suc m) qs)) sum
-    ∙ (behind (left_list m 0 p.imports) (all_imports (suc m) qs) (imports_before qs n + k)
+    ∙ (found_behind (left_list m 0 p.imports) (all_imports (suc m) qs) (imports_before qs n + k)
     ∙ (import_there (suc m) qs n k q x is at ∙ (λ j. Some (record { plan = next j; number = k; import = x }))))

@@ -2,6 +2,7 @@
 use Rattle.std.specs.Prelude.{◌≡◌, ℕ, zero, suc, ◌+◌, ◌-◌, ◌<◌, ◌≤◌, false, List, [], ◌∷◌, ◌++◌, length, Option, Some, None, Contains, slice_get, option_map}
 use Rattle.std.proofs.Common.{refl, sym, ◌∙◌, ap, subst, arith}
 use Rattle.std.proofs.lemmas.Option.{slice_get-map, slice_get_within}
+use Rattle.gos_types.proofs.ListLemmas.{element_at}
 use Rattle.gos_model.specs.Typing.{Imports, Imported}
 use Rattle.gos_plan.specs.Kinds.{Part}
 use Rattle.gos_plan.specs.Plans.{End, PartEnd, ImportEnd, ResultEnd, Plan}
@@ -82,13 +83,8 @@ supply_is [] n s at = absurd (cc at)
 supply_is (t ∷ ss) zero s at = cc at
 supply_is (t ∷ ss) (suc n) s at = supply_is ss n s at
 
-at_number : {X : Type 0} (xs : List X) (n : ℕ) → n < length xs → (x : X) × (slice_get xs n ≡ Some x)
-at_number [] n small = absurd (omega (arith, small))
-at_number (x ∷ xs) zero small = (x, refl)
-at_number (x ∷ xs) (suc n) small = at_number xs n (omega (arith, small))
-
 pub import_numbered : (is : Imports) (n : ℕ) → Contains (numbers_from 0 (length is)) n → (x : Imported) × (slice_get is n ≡ Some x)
-import_numbered is n among = let (low, high) = of_numbers 0 (length is) n among in at_number is n (omega (arith, high))
+import_numbered is n among = let (low, high) = of_numbers 0 (length is) n among in element_at is n (omega (arith, high))
 
 pub numbered_import : (is : Imports) (n : ℕ) (x : Imported) → slice_get is n ≡ Some x → Contains (numbers_from 0 (length is)) n
 numbered_import is n x at = let low = slice_get_within is n x at in in_numbers 0 (length is) n (omega arith) (omega (arith, low))

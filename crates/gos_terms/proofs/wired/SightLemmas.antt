@@ -5,23 +5,24 @@ use Rattle.std.specs.Prelude.{◌≡◌, ℕ, zero, suc, ◌+◌, ◌≤◌, Lis
 use Rattle.std.proofs.Common.{refl, sym, ◌∙◌, ap, subst, arith, inl, inr}
 use Rattle.std.proofs.lemmas.List.{map-append}
 use Rattle.gos_types.specs.Types.{Type'}
+use Rattle.gos_types.proofs.ListLemmas.{found_in_front}
 use Rattle.gos_model.specs.Typing.{Imports}
 use Rattle.gos_plan.specs.Kinds.{Part, Contact, contacts_of, other_side, turned_contact, part_contacts}
 use Rattle.gos_plan.specs.Plans.{contacts_of_part, contacts_of_import}
+use Rattle.gos_plan.proofs.ContactLemmas.{turned_contact_twice}
 use Rattle.gos_ties.specs.declared.points.Place.{Place}
 use Rattle.gos_ties.specs.declared.points.Place.TheVariants as places
 use Rattle.gos_ties.specs.declared.points.Point.{Point}
 use Rattle.gos_ties.specs.declared.points.Tie.{Tie}
 use Rattle.gos_ties.specs.Ties.{point, tie}
-use Rattle.gos_joining.proofs.unions.LeftLemmas.{front}
 use Rattle.gos_compile.specs.Wiring.{Types, row, led}
-use Rattle.gos_terms.proofs.wired.FlowLemmas.{Flow, tie_in, twice_turned}
+use Rattle.gos_terms.proofs.wired.FlowLemmas.{Flow, tie_in}
 use Rattle.gos_terms.proofs.wired.FlowedLemmas.{seen, flowing}
 
 pub turned_at : (cs : List Contact) (k : ℕ) (c : Contact) → slice_get (other_side cs) k ≡ Some c → slice_get cs k ≡ Some (turned_contact c)
 turned_at [] k c e = absurd (cc e)
 turned_at (d ∷ cs) zero c e =
-    let same : turned_contact d ≡ c = cc e in ap (λ (x : Contact). Some x) (sym (twice_turned d) ∙ ap turned_contact same)
+    let same : turned_contact d ≡ c = cc e in ap (λ (x : Contact). Some x) (sym (turned_contact_twice d) ∙ ap turned_contact same)
 turned_at (d ∷ cs) (suc k) c e = turned_at cs k c e
 
 module _ (parts : List Part) (is : Imports) (outcome : Type') (types : Types) (table : ℕ → List Contact) where
@@ -157,7 +158,7 @@ module _ (parts : List Part) (is : Imports) (outcome : Type') (types : Types) (t
       let sum : suc (length xs) + i ≡ suc (length xs + i) = omega arith in ap (slice_get (x ∷ (xs ++ ys))) sum ∙ behind xs ys i
 
   pub parts_front : (i : ℕ) (ks ls : List Part) → PartsAt i (ks ++ ls) → PartsAt i ks
-  parts_front i ks ls all k x at = all k x (front ks ls k x at)
+  parts_front i ks ls all k x at = all k x (found_in_front ks ls k x at)
 
   pub parts_behind : (i n : ℕ) (ks ls : List Part) → n ≡ length ks → PartsAt i (ks ++ ls) → PartsAt (i + n) ls
   parts_behind i n ks ls e all k x at =

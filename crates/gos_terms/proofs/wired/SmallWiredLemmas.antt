@@ -4,10 +4,10 @@ use Rattle.std.proofs.Common.{refl, sym, ◌∙◌, ap, subst, arith, inl, inr}
 use Rattle.gos_plan.specs.Kinds.{Part, Contact, asks, serves, turned_contact}
 use Rattle.gos_plan.specs.Plans.{End, PartEnd, ImportEnd, ResultEnd, Joint, contact_at}
 use Rattle.gos_plan.specs.SmallPlans.{skip_plan}
+use Rattle.gos_plan.proofs.ContactLemmas.{serves_is_not_asks}
+use Rattle.gos_plan.proofs.SmallPlanLemmas.{skip_is_right}
 use Rattle.gos_ties.specs.Ties as paths
 use Rattle.gos_joining.specs.webs.Webs.{Of, Number, Within, Tie, Way, here, along, Connects, joint}
-use Rattle.gos_joining.proofs.webs.WebLemmas.{serves_not_asks}
-use Rattle.gos_joining.proofs.webs.SmallWebLemmas.{skip_is_right}
 use Rattle.gos_terms.specs.wired.Wired.{Source, Own, Supplied, IsFrom, placed, wired_ties, wired_web}
 use Rattle.gos_terms.specs.wired.SmallWired.{commands, skips, one_use, from_first, UseIsWired, UnjoinedIsNotWired, SkipFits, SeqDoesNotFit}
 
@@ -51,7 +51,7 @@ parts x (Own k) has = absurd (cc has)
 parts x (Supplied n k) (among, has) = (has, ap (λ (i : ℕ). Supplied i k) (one_number n among))
 
 asked : (a : End) (q v : ℕ) → contact_at skip_plan a ≡ Some (asks q v) → ResultEnd 0 ≡ a
-asked (PartEnd zero zero) q v e = absurd (serves_not_asks 0 0 q v e)
+asked (PartEnd zero zero) q v e = absurd (serves_is_not_asks 0 0 q v e)
 asked (PartEnd zero (suc h)) q v e = absurd (cc e)
 asked (PartEnd (suc i) h) q v e = absurd (cc e)
 asked (ImportEnd i h) q v e = absurd (cc e)
@@ -63,7 +63,7 @@ served (PartEnd zero zero) q v e = refl
 served (PartEnd zero (suc h)) q v e = absurd (cc e)
 served (PartEnd (suc i) h) q v e = absurd (cc e)
 served (ImportEnd i h) q v e = absurd (cc e)
-served (ResultEnd zero) q v e = absurd (serves_not_asks q v 0 0 (sym e))
+served (ResultEnd zero) q v e = absurd (serves_is_not_asks q v 0 0 (sym e))
 served (ResultEnd (suc h)) q v e = absurd (cc e)
 
 connects : Connects (wired_web commands 0 0 one_use (0 ∷ []) skips from_first) skip_plan (ResultEnd 0) (PartEnd 0 0)
@@ -104,7 +104,7 @@ skip_fits a b c d at_a at_b differ path = fits a b c d at_a at_b differ
 
 pub seq_does_not_fit : SeqDoesNotFit
 seq_does_not_fit fit =
-    serves_not_asks 0 0 0 0
+    serves_is_not_asks 0 0 0 0
     (ap (λ (k : Contact). Some k)
     (sym (fit (ResultEnd 0) (PartEnd 0 0) (asks 0 0) (asks 0 0) refl refl (λ e. cc e)
     (paths.along (paths.at (ResultEnd 0)) (paths.at (PartEnd 0 0)) (paths.at (PartEnd 0 0)) (inl refl) (paths.here (paths.at (PartEnd 0 0)))))))

@@ -16,6 +16,7 @@ use Rattle.gos_plan.specs.Kinds as kinds
 use Rattle.gos_plan.specs.Kinds.{Part, Contact, asks, contacts_of, turned_contact}
 use Rattle.gos_plan.specs.Plans.{End, ResultEnd, Joint, Plan, contact_at, turned_if, IsRight}
 use Rattle.gos_plan.proofs.JointLemmas.{fits, one_joint, contained}
+use Rattle.gos_plan.proofs.ContactLemmas.{turned_contact_twice}
 use Rattle.gos_ties.specs.declared.points.Place.TheVariants as places
 use Rattle.gos_ties.specs.declared.points.Place as point_places
 use Rattle.gos_ties.specs.declared.points.Point.{Point}
@@ -35,7 +36,7 @@ use Rattle.gos_terms.specs.wired.Wired.{dot_of, dot_ties, Supplies, result_ties,
 use Rattle.gos_terms.specs.wired.NodeFitting.{IsLinear, AreOfTypes}
 use Rattle.gos_terms.proofs.wired.WayLemmas.{point_is}
 use Rattle.gos_terms.proofs.wired.TieLemmas.{inside, of_results, OfSupplies, of_supplies}
-use Rattle.gos_terms.proofs.wired.FlowLemmas.{Flow, tie_in, Leaves, leaves_back, twice_turned}
+use Rattle.gos_terms.proofs.wired.FlowLemmas.{Flow, tie_in, Leaves, leaves_back}
 use Rattle.gos_terms.proofs.wired.FlowedLemmas.{seen, flows_of}
 use Rattle.gos_terms.proofs.wired.OutLemmas.{seen_length}
 use Rattle.gos_terms.proofs.wired.SightLemmas as sight
@@ -194,7 +195,7 @@ module _ (types : Types) (i j : ℕ) (m : Numbered) (ns : List ℕ) (env : Suppl
     pub back : (d x : Dot) (c : Contact) → Leads d x c → Leads x d (turned_contact c)
     back d x c (inl (q, y, at_d, at_x, leaves)) = inl (y, q, at_x, at_d, leaves_back fs q y c leaves)
     back d x c (inr (inl (n, e, f, among, at_d, at_x, at_e, at_f, joins))) =
-        inr (inl (n, f, e, among, at_x, at_d, at_f, at_e ∙ ap (λ (k : Contact). Some k) (sym (twice_turned c)), turn joins))
+        inr (inl (n, f, e, among, at_x, at_d, at_f, at_e ∙ ap (λ (k : Contact). Some k) (sym (turned_contact_twice c)), turn joins))
       where
         turn : Contains (env n).plan.joints (joint e f) ⊎ Contains (env n).plan.joints (joint f e)
             → Contains (env n).plan.joints (joint f e) ⊎ Contains (env n).plan.joints (joint e f)
@@ -328,7 +329,7 @@ module _ (types : Types) (i j : ℕ) (m : Numbered) (ns : List ℕ) (env : Suppl
     through d x y c k (inr (inl (n, a, b, among, at_d, at_x, at_a, at_b, joins))) (inr (inr (inr (n', h, among', at_d', at_y, at_h)))) differ =
         let (numbers, ends) = inner_is n n' a (ResultEnd h) (sym at_d ∙ at_d') in
         let turned_k : c ≡ turned_contact k = result_turned n' h c k among' (contact_moved n n' a (ResultEnd h) c numbers ends at_a) at_h in
-        sym (ap turned_contact turned_k ∙ twice_turned k)
+        sym (ap turned_contact turned_k ∙ turned_contact_twice k)
     through d x y c k (inr (inr (inl (n, h, among, at_d, at_x, at_h)))) (inl (p, v, at_d', at_y, leaves')) differ =
         either parts [] outcome types table (slice_get (contacts_of (types n)) h) c k differ (inr (sight.turned_at (contacts_of (types n)) h c at_h))
         (has_number p v n h k (number_is p n h (sym at_d' ∙ at_d)) leaves')

@@ -1,6 +1,6 @@
 use Rattle.std.proofs.Common.{◌≡◌, ◌∙◌, ◌<◌, ◌≤◌, List, arith, Option, Some, ap, length, map, refl, subst, sym}
 use Rattle.std.specs.Prelude.{◌↔◌, slice_get, option_map}
-use Rattle.std.proofs.lemmas.Option.{slice_get_read, slice_get-map}
+use Rattle.std.proofs.lemmas.Option.{slice_get_read, slice_get-map, slice_get_within}
 use Rattle.std.proofs.lemmas.List.{length-map}
 use Rattle.gos_types.specs.declared.types.Ty.{Ty}
 use Rattle.gos_types.specs.Types.{Type', type_of}
@@ -18,7 +18,6 @@ use Rattle.gos_link.specs.declared.opens.Open.{Open}
 use Rattle.gos_link.specs.Linked.{outcome_of, whole_of}
 use Rattle.gos_link.specs.inner.Opens.{open_seen}
 use Rattle.gos_link.proofs.ServiceLemmas.{opens_left}
-use Rattle.gos_link.proofs.PlaceLemmas.{within}
 use Rattle.gos_link.proofs.CountLemmas.{thin}
 use Rattle.gos_link.proofs.CountedLemmas.{countable}
 use Rattle.gos_link.proofs.JoinedLemmas.{is_joining}
@@ -45,7 +44,7 @@ returns c =
     let s : SeenPlan = c.in_ok-plan.plan in
     let made = c.in_ok-plan.ensures in
     let (root_plan, root_at) = c.requires.joinable.some_root in
-    let inside = within ps c.args.root root_plan root_at in
+    let inside = slice_get_within ps c.args.root root_plan root_at in
     let size = length-map c.args.plans.now plan_of in
     let low : c.args.root < length c.args.plans.now = omega (arith, inside, size) in
     let p : SeenPlan = c.index-plans-root.result in

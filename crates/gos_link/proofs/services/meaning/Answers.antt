@@ -3,12 +3,13 @@ use Rattle.std.specs.Prelude.{slice_get}
 use Rattle.std.proofs.lemmas.Option.{slice_get_read}
 use Rattle.gos_types.specs.Types.{type_of}
 use Rattle.gos_types.specs.declared.types.Ty.{Ty}
+use Rattle.gos_types.proofs.ListLemmas.{element_at}
 use Rattle.gos_plan.specs.declared.plan.PlanImport.{PlanImport}
 use Rattle.gos_plan.specs.Seen.{SeenPlan}
 use Rattle.gos_link.specs.declared.services.Service.{Service}
 use Rattle.gos_link.specs.declared.fault.LinkFault.{LinkFault}
 use Rattle.gos_link.specs.Services.{instance_named, import_named, NamesBoth, NamesAll, IsWrongBind}
-use Rattle.gos_link.proofs.BindLemmas.{instance_low, import_low, there_is}
+use Rattle.gos_link.proofs.BindLemmas.{instance_low, import_low}
 use Rattle.gos_link.proofs.services.meaning.Goals as goal
 
 pub returns-in_default-import_named-clause-fault : goal.returns-in_default-import_named-clause-fault
@@ -18,7 +19,7 @@ returns-in_default-import_named-clause-fault c =
     let low_user : c.in-Some.user < length c.args.plans.now = (let low = instance_low c.args.instances.now c.args.bind.now.user c.in-Some.user finds_user in omega (arith, low, c.requires)) in
     let low_giver : c.in-Some-instance_named.giver < length c.args.plans.now = (let low = instance_low c.args.instances.now c.args.bind.now.giver c.in-Some-instance_named.giver finds_giver in omega (arith, low, c.requires)) in
     let of_user : slice_get c.args.plans.now c.in-Some.user ≡ Some c.index-plans-user.result = slice_get_read c.args.plans.now (length c.args.plans.now) c.in-Some.user c.index-plans-user.result refl low_user c.index-plans-user.is in
-    let (q, of_giver) = there_is c.args.plans.now c.in-Some-instance_named.giver low_giver in
+    let (q, of_giver) = element_at c.args.plans.now c.in-Some-instance_named.giver low_giver in
     let both : NamesBoth c.args.instances.now c.args.plans.now c.args.bind.now c.in-Some.user c.in-Some-instance_named.giver c.index-plans-user.result q =
     record { finds_user = finds_user; finds_giver = finds_giver; of_user = of_user; of_giver = of_giver } in
     let lacks : import_named c.index-plans-user.result.imports c.args.bind.now.import ≡ None =

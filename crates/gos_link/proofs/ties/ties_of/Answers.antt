@@ -1,14 +1,13 @@
 use Rattle.std.proofs.Common.{◌≡◌, ◌≤◌, ◌∙◌, ◌+◌, ◌++◌, ℕ, List, Some, arith, ap, length, map, refl, subst, sym}
 use Rattle.std.specs.Prelude.{slice_get}
 use Rattle.std.proofs.lemmas.List.{length-map}
-use Rattle.std.proofs.lemmas.Option.{slice_get_read}
+use Rattle.std.proofs.lemmas.Option.{slice_get_read, slice_get_within}
 use Rattle.gos_plan.specs.declared.kinds.Kind.{Kind}
 use Rattle.gos_plan.specs.declared.plan.Joint as declared_joint
 use Rattle.gos_plan.specs.declared.plan.PlanImport.{PlanImport}
 use Rattle.gos_ties.specs.declared.points.Place.{Place}
 use Rattle.gos_plan.specs.Seen.{SeenPlan, joint_of, plan_of}
 use Rattle.gos_link.specs.inner.Wired.{PlacesAre, rank, ties_in}
-use Rattle.gos_link.proofs.PlaceLemmas.{within}
 use Rattle.gos_link.specs.inner.Counts.{HaveRoom}
 use Rattle.gos_link.proofs.CountedLemmas.{imports_on, parts_on, ties_room}
 use Rattle.gos_link.proofs.TieLemmas.{ties_from_more, right_more}
@@ -51,6 +50,6 @@ loop-number-preserved c =
 
 pub returns-clause-right : goal.returns-clause-right
 returns-clause-right c = λ n p at.
-    let low = within (map plan_of c.args.plans.now) n p at in
+    let low = slice_get_within (map plan_of c.args.plans.now) n p at in
     let size = length-map c.args.plans.now plan_of in
     c.loop-number.invariant.1 n p (omega (arith, low, size)) at
