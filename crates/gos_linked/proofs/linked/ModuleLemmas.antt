@@ -1,8 +1,9 @@
 -- The linked plan of modules realises the substituted program as a module, and its netlist keeps pace.
-use Rattle.std.specs.Prelude.{◌≡◌, ◌+◌, ℕ, suc, List, [], ◌∷◌, ◌++◌, length, Option, Some, None, slice_get}
+use Rattle.std.specs.Prelude.{◌≡◌, ◌+◌, ℕ, zero, suc, List, [], ◌∷◌, ◌++◌, length, Option, Some, None, slice_get}
 use Rattle.std.proofs.Common.{refl, sym, ◌∙◌, ap, subst}
 use Rattle.std.proofs.lemmas.List.Sums.{sum_by-cons}
 use Rattle.gos_types.specs.Types.{Type', Com, Exp, Var, Pair, Fun, IsDone}
+use Rattle.gos_types.specs.Widths.{HasWidths}
 use Rattle.gos_model.specs.Terms.{Term}
 use Rattle.gos_model.specs.Typing.{Imported}
 use Rattle.gos_model.specs.Weight.{weight}
@@ -14,8 +15,9 @@ use Rattle.gos_plan.specs.Seen.{SeenPlan}
 use Rattle.gos_plan.specs.Joining.{all_weight}
 use Rattle.gos_realises.specs.realises.Regular.{IsRegular}
 use Rattle.gos_realises.specs.realises.Matched.{RealisesDone, program_of}
-use Rattle.gos_realises.specs.realises.Modules.{RealisesModule}
-use Rattle.gos_supplies.specs.ports.Ports.{HaveWidths, OpenIsDone}
+use Rattle.gos_realises.specs.realises.Modules.{HaveWidths, RealisesModule}
+use Rattle.gos_supplies.specs.ports.Ports.{OpenIsDone}
+use Rattle.gos_supplies.proofs.instances.TypeLemmas.{wide_both}
 use Rattle.gos_linked.specs.keeping.Paced.{ModulesKeepPace}
 use Rattle.gos_link.specs.declared.build.Build.{Build}
 use Rattle.gos_link.specs.Linked.{plans_of, outcome_of, IsLinked}
@@ -46,11 +48,7 @@ each_slim [] (m ∷ ms) all = absurd all
 each_slim (p ∷ ps) [] all = absurd all
 each_slim (p ∷ ps) (m ∷ ms) (one, all) = (one.realises.slim, each_slim ps ms all)
 
--- the numbers of imports that stay
-wide_both : (is js : List Imported) → HaveWidths is → HaveWidths js → HaveWidths (is ++ js)
-wide_both [] js first second = second
-wide_both (i ∷ is) js (one, first) second = (one, wide_both is js first second)
-
+-- the numbers of imports that stay, and those of the root's result
 wide_open : (bs : List Bind) (u : ℕ) (is : List Imported) → HaveWidths is → HaveWidths (open_of bs u is)
 wide_open bs u [] wide = tt
 wide_open bs u (i ∷ is) (one, wide) = by_giver (giver_of bs u i.name) (wide_open bs u is wide)
@@ -64,8 +62,14 @@ all_wide bs u [] [] all = tt
 all_wide bs u [] (m ∷ ms) all = absurd all
 all_wide bs u (p ∷ ps) [] all = absurd all
 all_wide bs u (p ∷ ps) (m ∷ ms) (one, all) =
-    wide_both (open_of bs u m.imports) (open_from bs (suc u) ms) (wide_open bs u m.imports (subst HaveWidths one.imports one.widths))
+    wide_both (open_of bs u m.imports) (open_from bs (suc u) ms) (wide_open bs u m.imports (subst HaveWidths one.imports one.realises.import_widths))
     (all_wide bs (suc u) ps ms all)
+
+result_wide : (ps : List Plan) (ms : Instances) (n : ℕ) → AreModules ps ms → HasWidths (outcome_of (slice_get ps n))
+result_wide [] ms n all = tt
+result_wide (p ∷ ps) [] n all = absurd all
+result_wide (p ∷ ps) (m ∷ ms) zero (one, all) = one.realises.result_widths
+result_wide (p ∷ ps) (m ∷ ms) (suc n) (one, all) = result_wide ps ms n all
 
 done_of : (t : Type') → link.IsDone t → IsDone t
 done_of Com done = tt
@@ -103,6 +107,8 @@ module _ (realises : LinkedIsRealised) (ground : LinkedIsGround) (open_is_done :
         record {
           right = r.right;
           names = r.names;
+          result_widths = subst HasWidths (sym l.joining.outcome) (result_wide (plans_of ps) ms l.root all);
+          import_widths = wide;
           typed = r.typed;
           regular = regular_done.0;
           slim = slim b ps p (record { each = each; right = each_right (plans_of ps) ms all }) (each_slim (plans_of ps) ms all) l;
@@ -115,7 +121,6 @@ module _ (realises : LinkedIsRealised) (ground : LinkedIsGround) (open_is_done :
       record {
         imports = imports realises ground open_is_done b ps p ms l each all;
         realises = a_module realises ground open_is_done b ps p ms l each all slim;
-        widths = wide realises ground open_is_done b ps p ms l each all;
       }
 
   pub linked_is_done : LinkedIsDone
@@ -128,7 +133,7 @@ module _ (realises : LinkedIsRealised) (ground : LinkedIsGround) (open_is_done :
       let body : Term = (linked_program b ps p l ms).body in
       subst (λ (q : Program). KeepsPaceAlways p.weight q net) (same_program realises ground open_is_done b ps p ms l each all)
       (keep p body net (a_module realises ground open_is_done b ps p ms l each all slim) (ground b ps p l)
-      (wide realises ground open_is_done b ps p ms l each all) (done realises ground open_is_done b ps p ms l each all) of_net)
+      (done realises ground open_is_done b ps p ms l each all) of_net)
 
 weight_sum : (ps : List Plan) (ms : Instances) → AreWeighed ps ms → all_weight ps ≡ link_weight ms
 weight_sum [] [] all = refl

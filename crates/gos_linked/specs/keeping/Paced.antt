@@ -10,15 +10,14 @@ use Rattle.gos_realises.specs.realises.Matched.{program_of}
 use Rattle.gos_realises.specs.realises.Realises.{AllGround}
 use Rattle.gos_realises.specs.realises.Modules.{RealisesModule}
 use Rattle.gos_linked.specs.keeping.Keeping.{IsNetOf, IsPlanFor}
-use Rattle.gos_supplies.specs.ports.Ports.{HaveWidths}
 
 -- the plan of a module, as pace asks for it
 abbrev pub ModuleIsPlanFor : Type 0
-ModuleIsPlanFor = (p : Plan) (m : Term) → RealisesModule p m → AllGround p.imports → HaveWidths p.imports → IsDone p.outcome → IsPlanFor p m
+ModuleIsPlanFor = (p : Plan) (m : Term) → RealisesModule p m → AllGround p.imports → IsDone p.outcome → IsPlanFor p m
 
 -- so its netlist keeps pace with the module's program
 abbrev pub ModulesKeepPace : Type 0
 ModulesKeepPace =
     (p : Plan) (m : Term) (net : Netlist)
-    → RealisesModule p m → AllGround p.imports → HaveWidths p.imports → IsDone p.outcome → IsNetOf p net
+    → RealisesModule p m → AllGround p.imports → IsDone p.outcome → IsNetOf p net
     → KeepsPaceAlways p.weight (program_of p m) net

@@ -14,16 +14,14 @@ use Rattle.gos_plan.specs.Seen.{SeenPlan}
 use Rattle.gos_realises.specs.realises.Matched.{RealisesDone, program_of}
 use Rattle.gos_realises.specs.realises.Modules.{RealisesModule}
 use Rattle.gos_linked.specs.keeping.Keeping.{IsNetOf}
-use Rattle.gos_supplies.specs.ports.Ports.{HaveWidths}
 use Rattle.gos_link.specs.declared.build.Build.{Build}
 use Rattle.gos_link.specs.Linked.{plans_of, IsLinked}
 use Rattle.gos_linked.specs.linked.Linked.{linked_program}
 
--- The plan is that of a module with this program. The numbers of imported variables fit widths.
+-- The plan is that of a module with this program.
 pub record IsModule (p : Plan) (m : Program) : Type 0 where
   pub imports : p.imports ≡ m.imports
   pub realises : RealisesModule p m.body
-  pub widths : HaveWidths p.imports
 
 abbrev pub AreModules : List Plan → Instances → Type 0
 AreModules [] [] = Unit {0}

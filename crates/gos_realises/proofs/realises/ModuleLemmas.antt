@@ -37,6 +37,8 @@ skip_module_is_realised =
     record {
       right = suits.right;
       names = suits.names;
+      result_widths = tt;
+      import_widths = tt;
       typed = suits.typed;
       regular = suits.regular;
       slim = skip_is_slim;

@@ -1,8 +1,9 @@
 -- What it means that a plan realises a module: with imports of any types, whatever realises these may be put in.
 --
--- Read first: Realises, Slim.
+-- Read first: Realises, Slim; Widths of gos_types.
 use Rattle.std.specs.Prelude.{ℕ, zero, suc, List, [], ◌∷◌, ◌++◌, Option, Some, None, if◌then◌else◌}
 use Rattle.std.specs.Str.{bytes_eq}
+use Rattle.gos_types.specs.Widths.{HasWidths}
 use Rattle.gos_model.specs.Terms.{Name, Term}
 use Rattle.gos_model.specs.Typing.{Imported, Typed}
 use Rattle.gos_model.specs.Linking.{supplied}
@@ -57,10 +58,19 @@ RealisesOpen p m =
     → AreSupplied p.imports ss → IsJoined (supplying p ss) r → NamesDiffer r.imports
     → Realises p.outcome r (supplied (term_for p.imports ss) m)
 
--- The plan realises the program of a module. The outcome is the type of the term, since a term has one type.
+-- the numbers of the types of imports have widths
+abbrev pub HaveWidths : List Imported → Type 0
+HaveWidths [] = Unit {0}
+HaveWidths (i ∷ is) = HasWidths i.ty × HaveWidths is
+
+-- The plan realises the program of a module. The outcome is the type of the term, since a term has one type. Its numbers have
+-- widths, and so have those of the imports, and of arguments, whose types are within these: a variable of 33 bits nothing realises,
+-- so that a plan of a function of one would realise every such function.
 pub record RealisesModule (p : Plan) (m : Term) : Type 0 where
   pub right : IsRight p
   pub names : NamesDiffer p.imports
+  pub result_widths : HasWidths p.outcome
+  pub import_widths : HaveWidths p.imports
   pub typed : Typed p.imports [] m p.outcome
   pub regular : IsRegular p
   pub slim : IsSlim p

@@ -1,9 +1,9 @@
 -- Small plans that do not realise a program.
 --
 -- Read first: SmallRealisers. They show that the relation can be missed: by doing nothing, by another order, by another
--- type, by joints to ends that are not there, and by a number that is larger than its width.
+-- type, by joints to ends that are not there, by a number that is larger than its width, and by a type that has none.
 use Rattle.std.specs.Prelude.{◌≡◌, ◌≢◌, [], ◌∷◌}
-use Rattle.gos_types.specs.Types.{Type', Com, Exp, Fun}
+use Rattle.gos_types.specs.Types.{Type', Com, Exp, Var, Fun}
 use Rattle.gos_model.specs.Terms as terms
 use Rattle.gos_model.specs.Terms.{Term}
 use Rattle.gos_model.specs.SmallPrograms.{two_commands, one_then_other}
@@ -11,6 +11,7 @@ use Rattle.gos_plan.specs.Kinds.{Skip, Lit, Seq, Par}
 use Rattle.gos_plan.specs.Kinds as kinds
 use Rattle.gos_plan.specs.Plans.{End, PartEnd, ImportEnd, ResultEnd, Plan}
 use Rattle.gos_realises.specs.realises.Realises.{Suits, Realises}
+use Rattle.gos_realises.specs.realises.Modules.{RealisesModule}
 use Rattle.gos_realises.specs.realises.SmallRealisers.{joint}
 
 -- a plan that has no parts and no joints, so that a request is lost
@@ -84,3 +85,11 @@ empty_function = record { weight = 11; imports = []; outcome = Fun Com Com; part
 
 abbrev pub EmptyIsNoFunction : Type 0
 EmptyIsNoFunction = Realises (Fun Com Com) empty_function (terms.Lam Com (terms.Bound 0)) → ⊥
+
+-- The plan without parts of a function of a variable of 33 bits. There is no such variable to put in, and still it realises no
+-- module, `export fun x : var 33 . skip` neither.
+abbrev pub wide_function : Plan
+wide_function = record { weight = 17; imports = []; outcome = Fun (Var 33) Com; parts = []; joints = [] }
+
+abbrev pub WideIsNoModule : Type 0
+WideIsNoModule = (m : Term) → RealisesModule wide_function m → ⊥

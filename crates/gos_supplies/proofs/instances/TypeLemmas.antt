@@ -4,11 +4,13 @@ use Rattle.std.specs.Str.{bytes_eq}
 use Rattle.std.proofs.Common.{refl, sym, ◌∙◌, ap, subst, arith}
 use Rattle.std.proofs.lemmas.List.Elements.{Contains-append_right}
 use Rattle.gos_types.specs.Types.{Type'}
+use Rattle.gos_types.specs.Widths.{HasWidths}
 use Rattle.gos_types.proofs.BytesLemmas.{bytes_eq_same}
 use Rattle.gos_model.specs.Terms.{Name, Term, Skip, Lit, Bound, Import, Lam, App, Both, Fst, Snd, Seq, Par, If, While, Assign, Deref, New, Not, Bin, Loc, Scope, Wait, Held, Put}
 use Rattle.gos_model.specs.Typing.{Imported, import_type, Named, things, Apart, Typed}
 use Rattle.gos_model.specs.Linking.{or_import, supplied}
 use Rattle.gos_realises.specs.realises.Realises.{NamesDiffer}
+use Rattle.gos_realises.specs.realises.Modules.{HaveWidths}
 use Rattle.gos_realises.proofs.realises.PlaceLemmas.{differ_between}
 use Rattle.gos_joining.proofs.renumbered.ImportLemmas.{has_type}
 use Rattle.gos_supplies.specs.typing.Supplied.{AreTyped, ShareNothing}
@@ -159,6 +161,18 @@ served_is_typed is js qs x m n t names differ typed_m typed_n =
     subst (λ (k : Term). Typed ((is ++ js) ++ qs) [] k t) (sym (with_names (bound_to x.name n) m))
     (with_supplies (is ++ (x ∷ js)) ((is ++ js) ++ qs) given (all_typed is js qs x n names differ typed_n) (share_none is js qs x n names differ typed_n) m [] t typed_m)
 
+-- the types that stay have widths
+pub wide_both : (is js : List Imported) → HaveWidths is → HaveWidths js → HaveWidths (is ++ js)
+wide_both [] js first second = second
+wide_both (i ∷ is) js (one, first) second = (one, wide_both is js first second)
+
+wide_but_one : (is js : List Imported) (x : Imported) → HaveWidths (is ++ (x ∷ js)) → HaveWidths (is ++ js)
+wide_but_one [] js x (one, rest) = rest
+wide_but_one (i ∷ is) js x (one, rest) = (one, wide_but_one is js x rest)
+
+served_wide : (is js : List Imported) (x : Imported) (qs : List Imported) → HaveWidths (is ++ (x ∷ js)) → HaveWidths qs → HaveWidths ((is ++ js) ++ qs)
+served_wide is js x qs wide others = wide_both (is ++ js) qs (wide_but_one is js x wide) others
+
 pub served_is_module : ServedIsModule
 served_is_module is js x p q s m n imports type_q names of_s of_p of_q regular slim =
     let left = served_leaves is js x p q s imports of_s in
@@ -170,6 +184,8 @@ served_is_module is js x p q s m n imports type_q names of_s of_p of_q regular s
     record {
       right = of_s.joining.right;
       names = names;
+      result_widths = subst HasWidths (sym of_s.joining.outcome) of_p.result_widths;
+      import_widths = subst HaveWidths (sym left) (served_wide is js x q.imports (subst HaveWidths imports of_p.import_widths) of_q.import_widths);
       typed =
           subst (λ (t : Type'). Typed s.imports [] term t) (sym of_s.joining.outcome) (subst (λ (l : List Imported). Typed l [] term p.outcome) (sym left) typed);
       regular = regular;

@@ -3,7 +3,8 @@ use Rattle.std.specs.Prelude.{◌≡◌, ℕ, zero, suc, ◌+◌, ◌<◌, Bool,
 use Rattle.std.specs.Str.{bytes_eq}
 use Rattle.std.proofs.Common.{refl, sym, ◌∙◌, ap, subst, arith, inl, inr}
 use Rattle.std.proofs.lemmas.List.{append-nil}
-use Rattle.gos_types.specs.Types.{Type', Com}
+use Rattle.gos_types.specs.Types.{Type', Com, Var}
+use Rattle.gos_types.specs.Widths.{IsWidth}
 use Rattle.gos_types.proofs.BytesLemmas.{bytes_eq_itself}
 use Rattle.gos_model.specs.Terms.{Name, Import}
 use Rattle.gos_model.specs.Typing.{Imported}
@@ -15,7 +16,7 @@ use Rattle.gos_plan.specs.Joining.{Place, place, Link, Wiring, LeftImport, left_
 use Rattle.gos_realises.specs.realises.Regular.{count}
 use Rattle.gos_realises.specs.realises.Links.{IsJoined}
 use Rattle.gos_realises.specs.realises.Realises.{Realises}
-use Rattle.gos_realises.specs.realises.Modules.{Supply, imports_linked, supplying, RealisesOpen}
+use Rattle.gos_realises.specs.realises.Modules.{Supply, imports_linked, supplying, RealisesOpen, RealisesModule}
 use Rattle.gos_realises.specs.realises.SmallRealisers.{NameIsRealised}
 use Rattle.gos_realises.proofs.realises.LeftLemmas.{left_list, left_all, left_at, left_joined}
 use Rattle.gos_realises.proofs.joined.ReachLemmas.{Step, Paths, paths_then, paths_back}
@@ -23,11 +24,13 @@ use Rattle.gos_realises.proofs.realises.CountLemmas.{below_count}
 use Rattle.gos_joining.specs.webs.Webs.{joint}
 use Rattle.gos_joining.proofs.unions.DeepLemmas.{place_of_part}
 use Rattle.gos_joining.specs.renumbered.SmallRewirings.{unchanged}
-use Rattle.gos_joining.proofs.renumbered.HigherLemmas.{renumbered_is_realised}
+use Rattle.gos_joining.specs.webs.Renumbering.{IsRenumbered}
+use Rattle.gos_joining.proofs.renumbered.HigherLemmas.{is_itself, renumbered_is_realised}
 use Rattle.gos_joining.proofs.renumbered.SupplyLemmas.{supply_link, OfImports, of_imports, in_imports, first_joined, supply_free}
 use Rattle.gos_supplies.proofs.typing.LeftLemmas.{imports_are_of_supplies}
+use Rattle.gos_supplies.specs.names.Names as names
 use Rattle.gos_supplies.specs.names.Names.{imported, name_plan}
-use Rattle.gos_supplies.specs.ports.SmallPorts.{NameIsOpen, CallIsModule}
+use Rattle.gos_supplies.specs.ports.SmallPorts.{NameIsOpen, CallIsModule, variable_plan, VariableIsModule}
 use Rattle.gos_supplies.proofs.ports.ShadowLemmas.{Near, OfJoint, joint_near, IsShadow, shadow_is_it}
 use Rattle.gos_supplies.proofs.ports.OwnLemmas.{passing, of_passed, in_passed, part_in_range, import_there}
 
@@ -154,8 +157,46 @@ call_is_module realised =
     record {
       right = realised.suits.right;
       names = realised.suits.names;
+      result_widths = tt;
+      import_widths = (tt, tt);
       typed = realised.suits.typed;
       regular = realised.suits.regular;
       slim = record { joints = omega arith; ends = omega arith; imports = omega arith };
       open_imports = called_is_open 6 c Com;
     }
+
+-- the weight plays no part
+weighed_itself : (w : ℕ) → Realises (Var w) (name_plan c (Var w)) (Import c) → Realises (Var w) (variable_plan w) (Import c)
+weighed_itself w realised = renumbered_is_realised unchanged (variable_plan w) (name_plan c (Var w)) (Var w) (Import c) same realised
+  where
+    itself : IsRenumbered unchanged (name_plan c (Var w)) (name_plan c (Var w))
+    itself = is_itself (name_plan c (Var w)) realised.suits.right
+
+    same : IsRenumbered unchanged (variable_plan w) (name_plan c (Var w))
+    same =
+        record {
+          one_to_one = itself.one_to_one;
+          parts = itself.parts;
+          imports = itself.imports;
+          outcome = itself.outcome;
+          joints = itself.joints;
+          right = itself.right;
+          also_right = itself.also_right;
+        }
+
+variable_of_width : names.NameIsRealised → (w : ℕ) → IsWidth w → RealisesModule (variable_plan w) (Import c)
+variable_of_width named w width =
+    let suits = (weighed_itself w (named c (Var w) tt width)).suits in
+    record {
+      right = suits.right;
+      names = suits.names;
+      result_widths = width;
+      import_widths = (width, tt);
+      typed = suits.typed;
+      regular = suits.regular;
+      slim = record { joints = omega arith; ends = omega arith; imports = omega arith };
+      open_imports = called_is_open 12 c (Var w);
+    }
+
+pub variable_is_module : names.NameIsRealised → VariableIsModule
+variable_is_module named w = (λ realises. realises.result_widths, variable_of_width named w)

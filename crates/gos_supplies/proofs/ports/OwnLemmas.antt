@@ -15,7 +15,7 @@ use Rattle.gos_plan.specs.Plans.{End, PartEnd, ImportEnd, ResultEnd, Joint, Plan
 use Rattle.gos_plan.specs.Joining.{Place, place, Link, Wiring, LeftImport, all_parts, left_in, left_among, all_left, left_place, part_place, origin}
 use Rattle.gos_realises.specs.realises.Regular.{count}
 use Rattle.gos_realises.specs.realises.Realises.{AllGround}
-use Rattle.gos_realises.specs.realises.Modules.{Supply, plans_of, AreSupplied, term_for, imports_linked, supplying}
+use Rattle.gos_realises.specs.realises.Modules.{Supply, plans_of, AreSupplied, term_for, imports_linked, supplying, HaveWidths}
 use Rattle.gos_realises.proofs.realises.LeftLemmas.{left_joined}
 use Rattle.gos_realises.proofs.joined.ReachLemmas.{Step, Paths, paths_then, paths_back}
 use Rattle.gos_joining.specs.webs.Webs.{joint}
@@ -23,7 +23,6 @@ use Rattle.gos_joining.proofs.unions.DeepLemmas.{place_of_part}
 use Rattle.gos_joining.proofs.renumbered.SupplyLemmas.{supply_link, OfImports, of_imports, in_imports, plan_at, supply_at, first_joined, supply_free}
 use Rattle.gos_supplies.specs.typing.Supplied.{imports_of}
 use Rattle.gos_supplies.specs.names.Names.{passed_on, name_plan, HasWidth, NameIsRealised}
-use Rattle.gos_supplies.specs.ports.Ports.{HaveWidths, WidthsAreHad}
 use Rattle.gos_supplies.proofs.ports.ShadowLemmas.{Near, OfJoint, joint_near, IsShadow}
 
 type_has : (t : Type') → HasWidths t → HasWidth t
@@ -32,13 +31,6 @@ type_has (Exp w) wide = tt
 type_has (Var w) wide = wide
 type_has (Pair a b) wide = tt
 type_has (Fun a b) wide = tt
-
-pub widths_are_had : WidthsAreHad
-widths_are_had [] all = tt
-widths_are_had (i ∷ is) all = (type_has i.ty (all i (0, omega arith, refl)), widths_are_had is (λ j has. all j (later j has)))
-  where
-    later : (j : Imported) → Contains is j → Contains (i ∷ is) j
-    later j (k, small, at) = (suc k, omega (arith, small), at)
 
 -- the supplies by which imports stay imports
 abbrev own_supply : Imported → Supply
@@ -50,7 +42,7 @@ own_supplies (i ∷ is) = own_supply i ∷ own_supplies is
 
 pub own_are : NameIsRealised → (is : List Imported) → AllGround is → HaveWidths is → AreSupplied is (own_supplies is)
 own_are named [] ground wide = tt
-own_are named (i ∷ is) ground wide = (named i.name i.ty ground.0 wide.0, own_are named is ground.1 wide.1)
+own_are named (i ∷ is) ground wide = (named i.name i.ty ground.0 (type_has i.ty wide.0), own_are named is ground.1 wide.1)
 
 -- the term stays
 pub own_term : (is : List Imported) (x : Name) → or_import x (term_for is (own_supplies is) x) ≡ Import x

@@ -1,26 +1,13 @@
 -- A plan whose imports are ground realises its term where it does so with any supplies.
 --
 -- Read first: Modules of gos_realises; Names of names. Each import is supplied with the plan of its own name.
-use Rattle.std.specs.Prelude.{List, [], ◌∷◌, Contains}
 use Rattle.gos_types.specs.Types.{IsDone}
-use Rattle.gos_types.specs.Widths.{HasWidths}
 use Rattle.gos_model.specs.Terms.{Term}
-use Rattle.gos_model.specs.Typing.{Imported}
 use Rattle.gos_plan.specs.Plans.{Plan, IsRight}
 use Rattle.gos_realises.specs.realises.Regular.{IsRegular}
 use Rattle.gos_realises.specs.realises.Matched.{RealisesDone}
 use Rattle.gos_realises.specs.realises.Realises.{AllGround, NamesDiffer, Realises}
-use Rattle.gos_realises.specs.realises.Modules.{RealisesOpen}
-use Rattle.gos_supplies.specs.names.Names.{HasWidth}
-
--- the numbers of the variables that are imported fit widths
-abbrev pub HaveWidths : List Imported → Type 0
-HaveWidths [] = Unit {0}
-HaveWidths (i ∷ is) = HasWidth i.ty × HaveWidths is
-
--- they do where the numbers of all types of imports do
-abbrev pub WidthsAreHad : Type 0
-WidthsAreHad = (is : List Imported) → ((i : Imported) → Contains is i → HasWidths i.ty) → HaveWidths is
+use Rattle.gos_realises.specs.realises.Modules.{RealisesOpen, HaveWidths}
 
 -- A plan that realises a term with any supplies realises it with its imports as ports.
 abbrev pub OpenIsRealised : Type 0

@@ -1,14 +1,15 @@
 -- The plan of a name realises it with any supply, and doesn't without its joint.
 --
 -- Read first: Ports. They show that the definitions can be met and can be missed.
-use Rattle.std.specs.Prelude.{[], ◌∷◌}
+use Rattle.std.specs.Prelude.{◌↔◌, ℕ, []}
 use Rattle.gos_types.specs.Types.{Type', Com, Var}
+use Rattle.gos_types.specs.Widths.{IsWidth}
 use Rattle.gos_model.specs.Terms.{Name, Import}
 use Rattle.gos_model.specs.SmallPrograms.{c}
+use Rattle.gos_plan.specs.Plans.{Plan}
 use Rattle.gos_plan.specs.SmallCalls.{call_plan}
 use Rattle.gos_realises.specs.realises.Modules.{RealisesOpen, RealisesModule}
-use Rattle.gos_supplies.specs.names.Names.{imported, name_plan}
-use Rattle.gos_supplies.specs.ports.Ports.{HaveWidths}
+use Rattle.gos_supplies.specs.names.Names.{name_plan}
 
 -- Joined to what is put in, the plan of a name is that, at any type.
 abbrev pub NameIsOpen : Type 0
@@ -22,9 +23,9 @@ CallIsModule = RealisesModule call_plan (Import c)
 abbrev pub UnjoinedIsNotOpen : Type 0
 UnjoinedIsNotOpen = (x : Name) → RealisesOpen (record (name_plan x Com) { joints = [] }) (Import x) → ⊥
 
--- a variable of a byte fits, and one without bits does not
-abbrev pub ByteHasWidth : Type 0
-ByteHasWidth = (x : Name) → HaveWidths (imported x (Var 8) ∷ [])
+-- The plan of `import c : var w; c` realises the module exactly where w is a width: with 32 bits, and neither with 33 nor with none.
+abbrev pub variable_plan : ℕ → Plan
+variable_plan w = record (name_plan c (Var w)) { weight = 12 }
 
-abbrev pub NoBitsHaveNone : Type 0
-NoBitsHaveNone = (x : Name) → HaveWidths (imported x (Var 0) ∷ []) → ⊥
+abbrev pub VariableIsModule : Type 0
+VariableIsModule = (w : ℕ) → RealisesModule (variable_plan w) (Import c) ↔ IsWidth w

@@ -1,7 +1,6 @@
 -- The imports of a checked module have different names, widths, and supplies with their terms.
 use Rattle.std.specs.Prelude.{◌≡◌, ◌≢◌, ℕ, zero, suc, List, [], ◌∷◌, map, Some, Contains, slice_get}
-use Rattle.std.proofs.Common.{refl, sym, ◌∙◌, ap, subst, arith}
-use Rattle.gos_types.specs.Widths.{HasWidths}
+use Rattle.std.proofs.Common.{refl, sym, ◌∙◌, ap, arith}
 use Rattle.gos_syntax.specs.Modules.{SeenImport}
 use Rattle.gos_model.specs.Terms as terms
 use Rattle.gos_model.specs.Terms.{Name}
@@ -11,7 +10,7 @@ use Rattle.gos_check.specs.Accepted as accepted
 use Rattle.gos_check.specs.Accepted.{IsNew, AreWritten}
 use Rattle.gos_check.specs.Linearity.{import_at}
 use Rattle.gos_realises.specs.realises.Realises.{NamesDiffer}
-use Rattle.gos_realises.specs.realises.Modules.{Supply}
+use Rattle.gos_realises.specs.realises.Modules.{Supply, HaveWidths}
 use Rattle.gos_terms.specs.meanings.Meanings.{term_or}
 use Rattle.gos_terms.specs.wired.Modules.{supply_at}
 
@@ -25,11 +24,10 @@ pub names_differ : (is : List SeenImport) → accepted.NamesDiffer is → NamesD
 names_differ [] differ = tt
 names_differ (i ∷ is) differ = (new_name i.name is differ.0, names_differ is differ.1)
 
-pub widths_are_had : (is : List SeenImport) → AreWritten is → (j : Imported) → Contains (map import_of is) j → HasWidths j.ty
-widths_are_had [] written j (k, small, at) = absurd (omega (arith, small))
-widths_are_had (i ∷ is) written j (zero, small, at) =
-    let there : import_of i ≡ j = at in subst (λ (y : Imported). HasWidths y.ty) there written.0.0
-widths_are_had (i ∷ is) written j (suc k, small, at) = widths_are_had is written.1 j (k, omega (arith, small), at)
+-- the types are written, so their numbers have widths
+pub have_widths : (is : List SeenImport) → AreWritten is → HaveWidths (map import_of is)
+have_widths [] written = tt
+have_widths (i ∷ is) written = (written.0.0, have_widths is written.1)
 
 -- the number of an import's name is its place
 pub import_there : (is : Imports) (n : ℕ) (x : Name) → import_at is n ≡ terms.Import x → (i : Imported) × (slice_get is n ≡ Some i)

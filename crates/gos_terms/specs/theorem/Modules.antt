@@ -9,7 +9,6 @@ use Rattle.gos_plan.specs.Plans.{Plan}
 use Rattle.gos_realises.specs.realises.Modules.{RealisesOpen, RealisesModule}
 use Rattle.gos_realises.specs.realises.Slim.{IsSlim}
 use Rattle.gos_compile.specs.Wiring.{IsPlanOf}
-use Rattle.gos_supplies.specs.ports.Ports.{HaveWidths}
 
 -- It realises the program with any supplies.
 abbrev pub ModuleIsOpen : Type 0
@@ -22,8 +21,3 @@ abbrev pub ModuleIsRealised : Type 0
 ModuleIsRealised =
     (l : SeenLinear) (w : ℕ) (p : Plan)
     → IsChecked l → IsPlanOf (program_in l).imports (type_of l.result) w (node_seen l.term) p → IsSlim p → RealisesModule p (program_in l).body
-
--- The numbers of its imported variables fit widths.
-abbrev pub ModuleHasWidths : Type 0
-ModuleHasWidths =
-    (l : SeenLinear) (w : ℕ) (p : Plan) → IsChecked l → IsPlanOf (program_in l).imports (type_of l.result) w (node_seen l.term) p → HaveWidths p.imports

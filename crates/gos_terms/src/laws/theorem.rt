@@ -1,6 +1,6 @@
 // The plan of a checked module realises it. Each theorem is the contract of a function that does nothing.
 ghost use Rattle.gos_terms.specs.theorem.Terms.{TermIsRegular, TermIsRealised};
-ghost use Rattle.gos_terms.specs.theorem.Modules.{ModuleIsOpen, ModuleIsRealised, ModuleHasWidths};
+ghost use Rattle.gos_terms.specs.theorem.Modules.{ModuleIsOpen, ModuleIsRealised};
 
 /// A node of a typed term, wired to supplies, is regular and rests where these are and do, and realises its term where these
 /// realise theirs.
@@ -29,11 +29,9 @@ pub fn wired_terms()
 }
 
 /// The plan of a checked module realises its program with any supplies; and so it realises the module, if it is slim.
-/// The numbers of its imported variables fit widths.
 pub fn modules()
     ensures any { ModuleIsOpen }
     ensures realised { ModuleIsRealised }
-    ensures widths { ModuleHasWidths }
 {
     wired_terms();
     super::numbers::checked_is_kept();
@@ -43,5 +41,4 @@ pub fn modules()
     super::meanings::meanings();
     gos_supplies::laws::typing::supplies();
     super::regular::modules();
-    gos_supplies::laws::ports::ports();
 }

@@ -15,12 +15,11 @@ use Rattle.gos_plan.specs.Plans.{Plan, IsRight}
 use Rattle.gos_plan.specs.Seen.{SeenPlan, plan_of}
 use Rattle.gos_realises.specs.realises.Matched.{RealisesDone, program_of}
 use Rattle.gos_realises.specs.realises.Realises.{AllGround, NamesDiffer}
-use Rattle.gos_realises.specs.realises.Modules.{RealisesOpen, RealisesModule}
+use Rattle.gos_realises.specs.realises.Modules.{HaveWidths, RealisesOpen, RealisesModule}
 use Rattle.gos_realises.specs.realises.Slim.{IsSlim}
 use Rattle.gos_expand.specs.Starts.{Keep}
 use Rattle.gos_expand.specs.Laid.{laid}
 use Rattle.gos_expand.specs.Acceptance.{CanBeLaid}
-use Rattle.gos_supplies.specs.ports.Ports.{HaveWidths}
 use Rattle.gos_link.specs.declared.build.Build.{Build}
 use Rattle.gos_link.specs.Linked.{plans_of, IsLinked}
 use Rattle.gos_linked.specs.linked.Linked.{linked_program}
@@ -52,7 +51,7 @@ OpenCircuitsKeepPace =
 abbrev pub ModuleCircuitsKeepPace : Type 0
 ModuleCircuitsKeepPace =
     (root : Word) (p : Plan) (m : Term) (net : Netlist)
-    → RealisesModule p m → AllGround p.imports → HaveWidths p.imports → IsDone p.outcome → IsCircuitOf root p net
+    → RealisesModule p m → AllGround p.imports → IsDone p.outcome → IsCircuitOf root p net
     → KeepsPaceAlways p.weight (program_of p m) net
 
 -- and so that of the linked plan of such plans, a plan for each instance of the build, with the substituted program

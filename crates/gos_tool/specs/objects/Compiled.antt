@@ -18,12 +18,11 @@ use Rattle.gos_plan.specs.ObjectFaults.{IsRead}
 use Rattle.gos_realises.specs.realises.Modules.{RealisesModule}
 use Rattle.gos_realises.specs.realises.Slim.{IsSlim}
 use Rattle.gos_compile.specs.Wiring.{IsPlanOf}
-use Rattle.gos_supplies.specs.ports.Ports.{HaveWidths}
 use Rattle.gos_command.specs.declared.report.Report.{Report}
 use Rattle.gos_tool.specs.objects.Checked.{SaysModule}
 
 -- The plan of a module: its parts and joints are those of a typed term that stands for the module. The plan is slim and realises
--- the module's program, its text is read as it, and the numbers of its imported variables fit widths.
+-- the module's program, and its text is read as it.
 pub record IsPlanOfModule (m : SeenModule) (plan : Plan) : Type 0 where
   pub term : Numbered
   pub stands : StandsFor (program_of m) term
@@ -31,7 +30,6 @@ pub record IsPlanOfModule (m : SeenModule) (plan : Plan) : Type 0 where
   pub slim : IsSlim plan
   pub read : IsRead (text_of plan) plan
   pub realises : RealisesModule plan (program_of m).body
-  pub widths : HaveWidths plan.imports
 
 -- the text is that of the plan of a module
 pub record IsObjectOf (text : List ℕ) (m : SeenModule) : Type 0 where

@@ -16,7 +16,6 @@ use Rattle.gos_plan.specs.ObjectFaults.{IsRead}
 use Rattle.gos_realises.specs.realises.Modules.{RealisesModule}
 use Rattle.gos_realises.specs.realises.Slim.{IsSlim}
 use Rattle.gos_compile.specs.Wiring.{IsPlanOf}
-use Rattle.gos_supplies.specs.ports.Ports.{HaveWidths}
 use Rattle.gos_tool.specs.objects.Checked.{SaysModule}
 
 -- the text is that of a module that is accepted, and for which this checked module stands
@@ -29,10 +28,9 @@ pub record IsTypedAs (text : List ℕ) (linear : SeenLinear) : Type 0 where
   pub term : StandsFor (program_of made) (node_seen linear.term)
 
 -- The plan of this checked module. It is slim and realises the module's program, and where the module has at most 64 imports, its
--- text is read as it. The numbers of its imported variables fit widths.
+-- text is read as it.
 pub record IsPlanFor (linear : SeenLinear) (plan : Plan) : Type 0 where
   pub made : IsPlanOf (program_in linear).imports (type_of linear.result) linear.weight (node_seen linear.term) plan
   pub slim : IsSlim plan
   pub read_back : length linear.imports ≤ 64 → IsRead (text_of plan) plan
   pub realises : RealisesModule plan (program_in linear).body
-  pub widths : HaveWidths plan.imports

@@ -30,7 +30,7 @@ pub module_keeps_pace : ModuleCircuitsKeepPace → ModuleKeepsPace
 module_keeps_pace law m plan root net is ground done circuit =
     let body : Term = (program_of m).body in
     let all = subst AllGround (sym is.made.imports) ground in
-    let paced = law root plan body net is.realises all is.widths (subst IsDone (sym is.made.outcome) done) circuit in
+    let paced = law root plan body net is.realises all (subst IsDone (sym is.made.outcome) done) circuit in
     subst (λ (w : ℕ). KeepsPaceAlways w (program_of m) net) is.made.weight
     (subst (λ (i : Imports). KeepsPaceAlways plan.weight (record { imports = i; body = body }) net) is.made.imports paced)
 
@@ -48,7 +48,7 @@ are_modules files is [] (p ∷ ps) say have = absurd have
 are_modules files is (m ∷ ms) [] say have = absurd have
 are_modules files [] (m ∷ ms) (p ∷ ps) say have = absurd say
 are_modules files (i ∷ is) (m ∷ ms) (p ∷ ps) say have = (
-  record { imports = have.0.made.imports; realises = have.0.realises; widths = have.0.widths },
+  record { imports = have.0.made.imports; realises = have.0.realises },
   are_modules files is ms ps say.1 have.1,
 )
 

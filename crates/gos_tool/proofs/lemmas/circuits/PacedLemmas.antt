@@ -13,9 +13,9 @@ open_circuits law root p m net right slim ports any circuit =
     circuit.pace slim m (law p m right ports.ground ports.widths ports.names any ports.done).1
 
 pub module_circuits : OpenIsDone → ModuleCircuitsKeepPace
-module_circuits law root p m net realised ground widths done =
-    open_circuits law root p m net realised.right realised.slim (record { names = realised.names; ground = ground; widths = widths; done = done })
-    realised.open_imports
+module_circuits law root p m net realised ground done =
+    open_circuits law root p m net realised.right realised.slim
+    (record { names = realised.names; ground = ground; widths = realised.import_widths; done = done }) realised.open_imports
 
 pub linked_circuits : LinkedIsModule → LinkedIsDone → LinkedCircuitsKeepPace
 linked_circuits is_module is_done b ps whole programs root net l each all circuit =

@@ -20,7 +20,7 @@ use Rattle.gos_plan.specs.ObjectFaults.{IsRead}
 use Rattle.gos_realises.specs.realises.Modules.{RealisesModule}
 use Rattle.gos_realises.specs.realises.Slim.{IsSlim}
 use Rattle.gos_compile.specs.Wiring.{IsPlanOf}
-use Rattle.gos_terms.specs.theorem.Modules.{ModuleIsRealised, ModuleHasWidths}
+use Rattle.gos_terms.specs.theorem.Modules.{ModuleIsRealised}
 use Rattle.gos_command.specs.declared.report.Report.{Report}
 use Rattle.gos_tool.specs.objects.Compiled.{IsPlanOfModule, IsCompiled}
 use Rattle.gos_tool.specs.objects.Typed.{IsTypedAs, IsPlanFor}
@@ -38,19 +38,18 @@ few text linear typed =
     omega (arith, limit, same, one, other)
 
 -- what compiling makes is the plan of its module
-pub plan_is_for : {E : Type 0} → ModuleIsRealised → ModuleHasWidths → (linear : SeenLinear) → IsChecked linear → (r : Result SeenPlan E)
+pub plan_is_for : {E : Type 0} → ModuleIsRealised → (linear : SeenLinear) → IsChecked linear → (r : Result SeenPlan E)
     → IfOk r (λ p. IsPlanOf (program_in linear).imports (type_of linear.result) linear.weight (node_seen linear.term) (plan_of p))
     → IfOk r (λ p. IsSlim (plan_of p)) → IfOk r (λ p. length linear.imports ≤ 64 → IsRead (text_of (plan_of p)) (plan_of p))
     → IfOk r (λ p. IsPlanFor linear (plan_of p))
-plan_is_for realised had linear checked (Ok p) made slim read =
+plan_is_for realised linear checked (Ok p) made slim read =
     record {
       made = made;
       slim = slim;
       read_back = read;
       realises = realised linear linear.weight (plan_of p) checked made slim;
-      widths = had linear linear.weight (plan_of p) checked made;
     }
-plan_is_for realised had linear checked (Err e) made slim read = tt
+plan_is_for realised linear checked (Err e) made slim read = tt
 
 -- the plan of a checked module is that of the source's module
 pub plan_is : (source : List ℕ) (linear : SeenLinear) (typed : IsTypedAs source linear) (plan : Plan) → IsPlanFor linear plan → IsPlanOfModule typed.made plan
@@ -66,7 +65,6 @@ plan_is source linear typed plan is =
       slim = is.slim;
       read = is.read_back (few source linear typed);
       realises = subst (λ (p : Program). RealisesModule plan p.body) typed.program is.realises;
-      widths = is.widths;
     }
 
 -- a plan of a module is one of each module with the same program and result
@@ -81,7 +79,6 @@ plan_too m other plan program result is =
       slim = is.slim;
       read = is.read;
       realises = subst (λ (p : Program). RealisesModule plan p.body) program is.realises;
-      widths = is.widths;
     }
 
 -- the object was written

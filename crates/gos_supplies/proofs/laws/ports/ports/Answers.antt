@@ -1,5 +1,4 @@
 use Rattle.gos_supplies.proofs.ports.PortLemmas.{open_is_realised, open_is_done}
-use Rattle.gos_supplies.proofs.ports.OwnLemmas.{widths_are_had}
 use Rattle.gos_supplies.proofs.laws.ports.ports.Goals as goal
 
 pub returns-clause-realised : goal.returns-clause-realised
@@ -7,6 +6,3 @@ returns-clause-realised c = open_is_realised c.names.ensures
 
 pub returns-clause-done : goal.returns-clause-done
 returns-clause-done c = open_is_done (open_is_realised c.names.ensures)
-
-pub returns-clause-widths : goal.returns-clause-widths
-returns-clause-widths c = widths_are_had

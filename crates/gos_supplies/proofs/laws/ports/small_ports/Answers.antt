@@ -1,5 +1,5 @@
-use Rattle.gos_supplies.proofs.ports.GivenLemmas.{name_is_open, call_is_module}
-use Rattle.gos_supplies.proofs.ports.SmallLemmas.{unjoined_is_not_open, byte_has_width, no_bits_have_none}
+use Rattle.gos_supplies.proofs.ports.GivenLemmas.{name_is_open, call_is_module, variable_is_module}
+use Rattle.gos_supplies.proofs.ports.SmallLemmas.{unjoined_is_not_open}
 use Rattle.gos_supplies.proofs.laws.ports.small_ports.Goals as goal
 
 pub returns-clause-name : goal.returns-clause-name
@@ -8,11 +8,8 @@ returns-clause-name c = name_is_open
 pub returns-clause-unjoined : goal.returns-clause-unjoined
 returns-clause-unjoined c = unjoined_is_not_open c.ports.ensures.realised c.small_names.ensures
 
-pub returns-clause-byte : goal.returns-clause-byte
-returns-clause-byte c = byte_has_width
-
-pub returns-clause-no_bits : goal.returns-clause-no_bits
-returns-clause-no_bits c = no_bits_have_none
-
 pub returns-clause-call : goal.returns-clause-call
 returns-clause-call c = call_is_module c.small_realisers.ensures.name
+
+pub returns-clause-variable : goal.returns-clause-variable
+returns-clause-variable c = variable_is_module c.names.ensures

@@ -1,4 +1,4 @@
-use Rattle.gos_terms.proofs.theorem.ModuleLemmas.{module_is_open, module_is_realised, module_has_widths}
+use Rattle.gos_terms.proofs.theorem.ModuleLemmas.{module_is_open, module_is_realised}
 use Rattle.gos_terms.proofs.laws.theorem.modules.Goals as goal
 
 pub returns-clause-any : goal.returns-clause-any
@@ -18,6 +18,3 @@ pub returns-clause-realised : goal.returns-clause-realised
 returns-clause-realised c =
     module_is_realised (returns-clause-any c) c.wired_terms.ensures.regular c.modules.ensures c.checked_is_kept.ensures
     c.parallels_are_unsplit.ensures.checked c.checked_modules.ensures.checked
-
-pub returns-clause-widths : goal.returns-clause-widths
-returns-clause-widths c = module_has_widths c.ports.ensures.widths
