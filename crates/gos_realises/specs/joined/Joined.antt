@@ -1,13 +1,17 @@
 -- That there are joinings: of all links that fit, and so of all that realising speaks of.
 --
--- Read first: Links, Fitting of realises. No clause of realising holds because what it speaks of can't be joined.
+-- Read first: Links, Fitting of realises. No clause of realising holds because what it speaks of can't be joined. So a variable that
+-- is realised is written.
 use Rattle.std.specs.Prelude.{◌≡◌, ℕ, List}
 use Rattle.gos_types.specs.Types.{Type', Var, Pair, Fun}
+use Rattle.gos_types.specs.Widths.{IsWidth}
+use Rattle.gos_model.specs.Terms.{Term}
 use Rattle.gos_plan.specs.Plans.{Plan, IsRight}
 use Rattle.gos_plan.specs.Joining.{Wiring}
 use Rattle.gos_realises.specs.realises.Regular.{count}
 use Rattle.gos_realises.specs.realises.Links.{LinksFit, IsJoined}
 use Rattle.gos_realises.specs.realises.Wirings.{reading, writing, side, applying}
+use Rattle.gos_realises.specs.realises.Realises.{Realises}
 use Rattle.gos_realises.specs.realises.Modules.{Supply, AreSupplied, supplying}
 
 -- a joining of a wiring
@@ -35,3 +39,7 @@ VariablesAreJoined =
 -- of what is supplied
 abbrev pub SuppliedIsJoined : Type 0
 SuppliedIsJoined = (p : Plan) (ss : List Supply) → IsRight p → AreSupplied p.imports ss → HasJoining (supplying p ss)
+
+-- So a variable that is realised has a width, since a number of its width is written to it.
+abbrev pub VariablesHaveWidths : Type 0
+VariablesHaveWidths = (w : ℕ) (p : Plan) (m : Term) → Realises (Var w) p m → IsWidth w

@@ -86,8 +86,8 @@ empty_function = record { weight = 11; imports = []; outcome = Fun Com Com; part
 abbrev pub EmptyIsNoFunction : Type 0
 EmptyIsNoFunction = Realises (Fun Com Com) empty_function (terms.Lam Com (terms.Bound 0)) → ⊥
 
--- The plan without parts of a function of a variable of 33 bits. There is no such variable to put in, and still it realises no
--- module, `export fun x : var 33 . skip` neither.
+-- The plan without parts of a function of a variable of 33 bits. Nothing realises such a variable (Joined of joined), so nothing can
+-- be put in for it. Still it realises no module, and `fun x : var 33 . skip` neither.
 abbrev pub wide_function : Plan
 wide_function = record { weight = 17; imports = []; outcome = Fun (Var 33) Com; parts = []; joints = [] }
 

@@ -44,7 +44,8 @@ pub fn lists_are_traces()
 {}
 
 /// Plans that do too little or something else realise nothing; nor do those of another type, with ends that are
-/// not there, with a number that is larger than its width, or of a function of a variable of 33 bits.
+/// not there, or with a number that is larger than its width. No module is realised by a plan of a function of a
+/// variable of 33 bits.
 pub fn others_are_refused()
     ensures empty { EmptyIsNotSkip }
     ensures function { EmptyIsNoFunction }

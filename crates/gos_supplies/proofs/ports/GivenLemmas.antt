@@ -1,5 +1,5 @@
 -- The plan of a name, joined to what is put in, is that.
-use Rattle.std.specs.Prelude.{◌≡◌, ℕ, zero, suc, ◌+◌, ◌<◌, Bool, List, [], ◌∷◌, ◌++◌, Option, Some, None, Contains, slice_get, if◌then◌else◌}
+use Rattle.std.specs.Prelude.{◌≡◌, ℕ, zero, suc, ◌+◌, ◌<◌, Bool, List, [], ◌∷◌, ◌++◌, length, Option, Some, None, Contains, slice_get, if◌then◌else◌}
 use Rattle.std.specs.Str.{bytes_eq}
 use Rattle.std.proofs.Common.{refl, sym, ◌∙◌, ap, subst, arith, inl, inr}
 use Rattle.std.proofs.lemmas.List.{append-nil}
@@ -28,7 +28,7 @@ use Rattle.gos_joining.specs.webs.Renumbering.{IsRenumbered}
 use Rattle.gos_joining.proofs.renumbered.HigherLemmas.{is_itself, renumbered_is_realised}
 use Rattle.gos_joining.proofs.renumbered.SupplyLemmas.{supply_link, OfImports, of_imports, in_imports, first_joined, supply_free}
 use Rattle.gos_supplies.proofs.typing.LeftLemmas.{imports_are_of_supplies}
-use Rattle.gos_supplies.specs.names.Names as names
+use Rattle.gos_supplies.specs.names.Names as of_names
 use Rattle.gos_supplies.specs.names.Names.{imported, name_plan}
 use Rattle.gos_supplies.specs.ports.SmallPorts.{NameIsOpen, CallIsModule, variable_plan, VariableIsModule}
 use Rattle.gos_supplies.proofs.ports.ShadowLemmas.{Near, OfJoint, joint_near, IsShadow, shadow_is_it}
@@ -184,9 +184,10 @@ weighed_itself w realised = renumbered_is_realised unchanged (variable_plan w) (
           also_right = itself.also_right;
         }
 
-variable_of_width : names.NameIsRealised → (w : ℕ) → IsWidth w → RealisesModule (variable_plan w) (Import c)
+variable_of_width : of_names.NameIsRealised → (w : ℕ) → IsWidth w → RealisesModule (variable_plan w) (Import c)
 variable_of_width named w width =
     let suits = (weighed_itself w (named c (Var w) tt width)).suits in
+    let two : length (variable_plan w).joints ≡ 2 = refl in
     record {
       right = suits.right;
       names = suits.names;
@@ -194,9 +195,9 @@ variable_of_width named w width =
       import_widths = (width, tt);
       typed = suits.typed;
       regular = suits.regular;
-      slim = record { joints = omega arith; ends = omega arith; imports = omega arith };
+      slim = record { joints = omega (arith, two); ends = omega arith; imports = omega arith };
       open_imports = called_is_open 12 c (Var w);
     }
 
-pub variable_is_module : names.NameIsRealised → VariableIsModule
+pub variable_is_module : of_names.NameIsRealised → VariableIsModule
 variable_is_module named w = (λ realises. realises.result_widths, variable_of_width named w)

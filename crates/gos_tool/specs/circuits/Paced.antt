@@ -34,7 +34,8 @@ EveryChoiceKeepsPace =
     → CanBeLaid p root → (HasCycle (laid keep (plan_of p) root).cells → ⊥) → IsSlim (plan_of p) → RealisesDone (plan_of p) m
     → KeepsPaceAlways p.weight (program_of (plan_of p) m) (laid keep (plan_of p) root)
 
--- what ports a plan has: its imports have different names and ground types, and its result is a command or an expression
+-- what ports a plan has: its imports have different names and ground types of numbers with widths, and its result is a command or an
+-- expression
 pub record HasOpenPorts (p : Plan) : Type 0 where
   pub names : NamesDiffer p.imports
   pub ground : AllGround p.imports

@@ -1,5 +1,5 @@
 use Rattle.gos_realises.proofs.joined.JoiningLemmas.{fitting_is_joined}
-use Rattle.gos_realises.proofs.joined.WholeLemmas.{applied_is_joined, sides_are_joined, variables_are_joined, supplied_is_joined}
+use Rattle.gos_realises.proofs.joined.WholeLemmas.{applied_is_joined, sides_are_joined, variables_are_joined, supplied_is_joined, variables_have_widths}
 use Rattle.gos_realises.proofs.laws.joined.joinings.Goals as goal
 
 pub returns-clause-fitting : goal.returns-clause-fitting
@@ -16,3 +16,6 @@ returns-clause-variables c = variables_are_joined
 
 pub returns-clause-supplied : goal.returns-clause-supplied
 returns-clause-supplied c = supplied_is_joined
+
+pub returns-clause-widths : goal.returns-clause-widths
+returns-clause-widths c = variables_have_widths
