@@ -89,7 +89,7 @@ EmptyIsNoFunction = Realises (Fun Com Com) empty_function (terms.Lam Com (terms.
 -- The plan without parts of a function of a variable of 33 bits. Nothing realises such a variable (Joined of joined), so nothing can
 -- be put in for it. Still it realises no module, and `fun x : var 33 . skip` neither.
 abbrev pub wide_function : Plan
-wide_function = record { weight = 17; imports = []; outcome = Fun (Var 33) Com; parts = []; joints = [] }
+wide_function = record { weight = 12; imports = []; outcome = Fun (Var 33) Com; parts = []; joints = [] }
 
 abbrev pub WideIsNoModule : Type 0
 WideIsNoModule = (m : Term) → RealisesModule wide_function m → ⊥

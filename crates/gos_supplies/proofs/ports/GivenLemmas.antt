@@ -196,7 +196,7 @@ variable_of_width named w width =
       typed = suits.typed;
       regular = suits.regular;
       slim = record { joints = omega (arith, two); ends = omega arith; imports = omega arith };
-      open_imports = called_is_open 12 c (Var w);
+      open_imports = called_is_open 8 c (Var w);
     }
 
 pub variable_is_module : of_names.NameIsRealised → VariableIsModule

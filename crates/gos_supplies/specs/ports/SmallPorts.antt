@@ -25,7 +25,7 @@ UnjoinedIsNotOpen = (x : Name) → RealisesOpen (record (name_plan x Com) { join
 
 -- The plan of `import c : var w; c` realises the module exactly where w is a width: with 32 bits, and neither with 33 nor with none.
 abbrev pub variable_plan : ℕ → Plan
-variable_plan w = record (name_plan c (Var w)) { weight = 12 }
+variable_plan w = record (name_plan c (Var w)) { weight = 8 }
 
 abbrev pub VariableIsModule : Type 0
 VariableIsModule = (w : ℕ) → RealisesModule (variable_plan w) (Import c) ↔ IsWidth w
