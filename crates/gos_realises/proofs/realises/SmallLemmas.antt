@@ -3,7 +3,7 @@ use Rattle.std.specs.Prelude.{◌≡◌, ◌^◌, ◌<◌, ◌≤◌}
 use Rattle.std.proofs.Common.{sym, ◌∙◌, arith}
 use Rattle.gos_types.specs.Types.{Com, Exp}
 use Rattle.gos_plan.specs.Kinds.{Skip}
-use Rattle.gos_realises.specs.realises.OtherPlans.{OtherTypesAreNot, NoNumberIsDone, WildIsNot, LargeDoesNotSuit, WideIsNoModule}
+use Rattle.gos_realises.specs.realises.OtherPlans.{OtherTypesAreNot, NoNumberIsDone, WildIsNot, LargeDoesNotSuit, WideFunctionIsNone, WideImportIsNone}
 
 pub other_types_are_not : OtherTypesAreNot
 other_types_are_not t p m other r = other r.suits.outcome
@@ -21,5 +21,8 @@ wild_is_not t m r =
 pub large_does_not_suit : LargeDoesNotSuit
 large_does_not_suit t m suits = let small : 255 < 2 ^ 4 = suits.literals 0 Skip (omega arith) in omega (arith, small)
 
-pub wide_is_no_module : WideIsNoModule
-wide_is_no_module m realises = let low : 33 ≤ 32 = realises.result_widths.0.1 in omega (arith, low)
+pub wide_function_is_none : WideFunctionIsNone
+wide_function_is_none m realises = let low : 33 ≤ 32 = realises.result_widths.0.1 in omega (arith, low)
+
+pub wide_import_is_none : WideImportIsNone
+wide_import_is_none m realises = let low : 33 ≤ 32 = realises.import_widths.0.1 in omega (arith, low)

@@ -2,7 +2,7 @@
 --
 -- Read first: SmallRealisers. They show that the relation can be missed: by doing nothing, by another order, by another
 -- type, by joints to ends that are not there, by a number that is larger than its width, and by a type that has none.
-use Rattle.std.specs.Prelude.{◌≡◌, ◌≢◌, [], ◌∷◌}
+use Rattle.std.specs.Prelude.{◌≡◌, ◌≢◌, [], ◌∷◌, codes}
 use Rattle.gos_types.specs.Types.{Type', Com, Exp, Var, Fun}
 use Rattle.gos_model.specs.Terms as terms
 use Rattle.gos_model.specs.Terms.{Term}
@@ -10,6 +10,7 @@ use Rattle.gos_model.specs.SmallPrograms.{two_commands, one_then_other}
 use Rattle.gos_plan.specs.Kinds.{Skip, Lit, Seq, Par}
 use Rattle.gos_plan.specs.Kinds as kinds
 use Rattle.gos_plan.specs.Plans.{End, PartEnd, ImportEnd, ResultEnd, Plan}
+use Rattle.gos_plan.specs.SmallPlans.{skip_plan}
 use Rattle.gos_realises.specs.realises.Realises.{Suits, Realises}
 use Rattle.gos_realises.specs.realises.Modules.{RealisesModule}
 use Rattle.gos_realises.specs.realises.SmallRealisers.{joint}
@@ -86,10 +87,17 @@ empty_function = record { weight = 11; imports = []; outcome = Fun Com Com; part
 abbrev pub EmptyIsNoFunction : Type 0
 EmptyIsNoFunction = Realises (Fun Com Com) empty_function (terms.Lam Com (terms.Bound 0)) → ⊥
 
--- The plan without parts of a function of a variable of 33 bits. Nothing realises such a variable (Joined of joined), so nothing can
--- be put in for it. Still it realises no module, and `fun x : var 33 . skip` neither.
+-- The plan without parts of a function of a variable of 33 bits. Nothing realises such a variable (Joined of joined), so there is no
+-- argument. Still it realises no module, and `fun x : var 33 . skip` neither.
 abbrev pub wide_function : Plan
 wide_function = record { weight = 12; imports = []; outcome = Fun (Var 33) Com; parts = []; joints = [] }
 
-abbrev pub WideIsNoModule : Type 0
-WideIsNoModule = (m : Term) → RealisesModule wide_function m → ⊥
+abbrev pub WideFunctionIsNone : Type 0
+WideFunctionIsNone = (m : Term) → RealisesModule wide_function m → ⊥
+
+-- nor does the plan of `skip` that imports one
+abbrev pub wide_import : Plan
+wide_import = record skip_plan { imports = record { name = codes "x"; ty = Var 33 } ∷ [] }
+
+abbrev pub WideImportIsNone : Type 0
+WideImportIsNone = (m : Term) → RealisesModule wide_import m → ⊥
