@@ -92,7 +92,7 @@ values_small p n v these i k all is h chosen = by_contact (slice_get (part_conta
         subst (λ (b : ℕ). value_in k v (incoming_at p n i) h < 2 ^ b) bits (subst (λ (x : ℕ). x < 2 ^ bits_taken (Some c)) same small)
 
 -- the nets that go out at a handshake show what is due there
-bits_out_put : (c : Contact) → bits_out c.role c ≡ bits_put (Some c)
+pub bits_out_put : (c : Contact) → bits_out c.role c ≡ bits_put (Some c)
 bits_out_put c = by_role c.role
   where
     by_role : (role : Role) → bits_out role c ≡ bits_of c (way_put role)

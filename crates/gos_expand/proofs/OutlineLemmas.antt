@@ -60,7 +60,7 @@ not_not true = refl
 not_not false = refl
 
 -- bits and nets at the ends of ports
-result_bits : (p : Plan) → IsSound p → (h : ℕ) (c : Contact) → slice_get (contacts_of p.outcome) h ≡ Some c
+pub result_bits : (p : Plan) → IsSound p → (h : ℕ) (c : Contact) → slice_get (contacts_of p.outcome) h ≡ Some c
     → (bits_out_at p (ResultEnd h) ≡ c.answer_bits) × (bits_in_at p (ResultEnd h) ≡ c.ask_bits)
 result_bits p sound h c is =
     let role : c.role ≡ Serve = ground_serves p.outcome h c (done_ground p.outcome sound.done) is in (
@@ -68,7 +68,7 @@ result_bits p sound h c is =
       ap (λ (f : Option Contact). bits_put (turned_if f)) is ∙ rw role refl,
     )
 
-import_bits : (p : Plan) → IsSound p → (i h : ℕ) (t : Imported) (c : Contact) → slice_get p.imports i ≡ Some t → slice_get (contacts_of t.ty) h ≡ Some c
+pub import_bits : (p : Plan) → IsSound p → (i h : ℕ) (t : Imported) (c : Contact) → slice_get p.imports i ≡ Some t → slice_get (contacts_of t.ty) h ≡ Some c
     → (bits_out_at p (ImportEnd i h) ≡ c.ask_bits) × (bits_in_at p (ImportEnd i h) ≡ c.answer_bits)
 import_bits p sound i h t c there is =
     let role : c.role ≡ Serve = ground_serves t.ty h c (sound.grounds i t there) is in

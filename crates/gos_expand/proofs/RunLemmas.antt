@@ -48,7 +48,7 @@ given_at keep p root v regs ins fits settles range e c port there =
     (given_nets all v regs ins w cells.in_from settles range cells.in_stands)
 
 -- a cycle of the netlist has the facts
-cycle_facts : (keep : Keep) (p : Plan) (root : List ℕ) (v regs ins : Numbers) → IsSound p → AreDifferent (root ∷ map (λ (x : Imported). x.name) p.imports)
+pub cycle_facts : (keep : Keep) (p : Plan) (root : List ℕ) (v regs ins : Numbers) → IsSound p → AreDifferent (root ∷ map (λ (x : Imported). x.name) p.imports)
     → Settling (laid_cells keep p) regs ins v → IsInRange (laid keep p root) ins
     → CycleFacts keep p (laid keep p root) (places_in keep p) v regs (next_registers (laid_cells keep p) v)
 cycle_facts keep p root v regs ins fits differ settles range =
@@ -90,7 +90,7 @@ part_facts paths p root can =
       literals = literals_fit p.parts can.in_range.of_parts;
     }
 
-plan_facts : (keep : Keep) (p : Plan) → IsRight p → PlanFacts keep p (places_in keep p)
+pub plan_facts : (keep : Keep) (p : Plan) → IsRight p → PlanFacts keep p (places_in keep p)
 plan_facts keep p right =
     record {
       once = each_once p;
@@ -99,7 +99,7 @@ plan_facts keep p right =
       straight = λ x j way there none. arrives_straight keep p x j way right there none;
     }
 
-all_zero : (m n : ℕ) → at (replicate m 0) n ≡ 0
+pub all_zero : (m n : ℕ) → at (replicate m 0) n ≡ 0
 all_zero zero n = refl
 all_zero (suc m) zero = refl
 all_zero (suc m) (suc n) = all_zero m n
