@@ -4,7 +4,7 @@ use Rattle.gos_netlist.specs.Nets.{Input, Reg, Cell}
 use Rattle.gos_netlist.specs.Settling.{Numbers, at}
 use Rattle.gos_netlist.specs.SmallNets.{bit}
 use Rattle.gos_pace.specs.RunProtocol.{IsInRange}
-use Rattle.gos_pace.specs.SmallInputs.{byte, ask_circuit, answer, stray, AnswerIsClean, StrayIsInRange, WideIsNotInRange}
+use Rattle.gos_pace.specs.SmallInputs.{byte, ask_circuit, answer, stray, AnswerIsClean, StrayIsInRange, WideIsNotInRange, GivingIsSilent}
 
 -- numbers of which the last two alone are not 0 are in range where these are
 last_in_range : (ins : Numbers) → at ins 0 ≡ 0 → at ins 4 < 2 → at ins 5 < 2 ^ 8 → IsInRange ask_circuit ins
@@ -31,3 +31,9 @@ stray_is_in_range =
 
 pub wide_is_not_in_range : WideIsNotInRange
 wide_is_not_in_range range = let small = range 5 (byte Input) refl refl in omega (arith, small)
+
+pub giving_is_silent : GivingIsSilent
+giving_is_silent = (
+  (((λ out none. absurd (omega (arith, none)), tt), ((λ out none. refl, tt), tt)), tt),
+  λ silent. let none = silent.0.0.0 refl refl in omega (arith, none),
+)

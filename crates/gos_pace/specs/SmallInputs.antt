@@ -1,4 +1,4 @@
--- Inputs of a small circuit: in range and clean, in range alone, and neither.
+-- Inputs of a small circuit: in range and clean, in range alone, and neither; and what it shows, silent or not.
 --
 -- Read first: Silence. The circuit is one of `import x : exp 8; x`, which takes a number from x and gives it.
 use Rattle.std.specs.Prelude.{[], ◌∷◌, codes}
@@ -7,7 +7,7 @@ use Rattle.gos_netlist.specs.Nets.{Netlist, Cell, Function, Input, Reg, Give, Ta
 use Rattle.gos_netlist.specs.Settling.{Numbers}
 use Rattle.gos_netlist.specs.SmallNets.{bit}
 use Rattle.gos_pace.specs.RunProtocol.{IsInRange}
-use Rattle.gos_pace.specs.Silence.{IsClean}
+use Rattle.gos_pace.specs.Silence.{IsClean, OutputsAreSilent}
 
 -- a cell of eight bits
 abbrev pub byte : Function → Cell
@@ -44,3 +44,14 @@ StrayIsInRange = IsInRange ask_circuit stray × (IsClean ask_circuit stray → �
 -- a number of more bits than its net is not in range
 abbrev pub WideIsNotInRange : Type 0
 WideIsNotInRange = IsInRange ask_circuit too_wide → ⊥
+
+-- it gives 7 with its pulse; and without it
+abbrev pub gives : Numbers
+gives = 0 ∷ 1 ∷ 7 ∷ 0 ∷ 0 ∷ 0 ∷ []
+
+abbrev pub leaks : Numbers
+leaks = 0 ∷ 0 ∷ 7 ∷ 0 ∷ 0 ∷ 0 ∷ []
+
+-- outputs are silent in the one cycle, and not in the other
+abbrev pub GivingIsSilent : Type 0
+GivingIsSilent = OutputsAreSilent ask_circuit (gives ∷ []) × (OutputsAreSilent ask_circuit (leaks ∷ []) → ⊥)
