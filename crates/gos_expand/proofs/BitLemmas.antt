@@ -2,7 +2,7 @@
 --
 -- Read first: CellRules of gos_netcheck; DepthLemmas. A gate of one bit has pins of one bit, or compares; and depths rise
 -- along gates.
-use Rattle.std.proofs.Common.{◌≡◌, ◌+◌, ◌-◌, ◌^◌, ◌<◌, ◌≤◌, ℕ, zero, suc, Bool, true, false, List, [], ◌∷◌, slice_get, Some, Contains, refl, sym, ap, subst, ◌∙◌, arith, if◌then◌else◌, nat_eq, replicate}
+use Rattle.std.proofs.Common.{◌≡◌, ◌+◌, ◌-◌, ◌^◌, ◌<◌, ◌≤◌, ℕ, zero, suc, Bool, true, false, List, [], ◌∷◌, slice_get, Some, Contains, refl, sym, subst, ◌∙◌, arith, if◌then◌else◌, nat_eq}
 use Rattle.std.specs.Prelude.{bit_and, bit_or, bit_xor, nat_lt, ◌%◌}
 use Rattle.std.proofs.Math.Nat.{mod-lt}
 use Rattle.gos_netlist.specs.Nets.{Function, Input, Const, Not, And, Or, Xor, Mux, Add, Sub, Eq, Less, Gate, Reg, Cell, pins}

@@ -12,11 +12,10 @@ use Rattle.gos_pace.specs.Silence.{IsSilentFrom, AreSilent}
 use Rattle.gos_plan.specs.Kinds.{Contact, contacts_of, turned_contact}
 use Rattle.gos_plan.specs.Plans.{End, PartEnd, ImportEnd, ResultEnd, Plan, contact_at, contacts_of_import, turned_if}
 use Rattle.gos_plan.specs.Tokens.{IsPortEnd}
-use Rattle.gos_expand.specs.Blocks.{Nets, nets_from, inputs, nets_on, total}
+use Rattle.gos_expand.specs.Blocks.{Nets, nets_on, total}
 use Rattle.gos_expand.specs.Starts.{Keep, port_start, bits_taken, shake_size}
 use Rattle.gos_expand.specs.Laid.{leaves, request_nets, answer_nets, laid_cells, taken, laid}
 use Rattle.gos_expand.specs.Facts.{bits_put, bits_in_at, bits_out_at}
-use Rattle.gos_expand.proofs.StandLemmas.{StandAt}
 use Rattle.gos_expand.proofs.FlowLemmas.{IsSound}
 use Rattle.gos_expand.proofs.RegisterLemmas.{shows, turned_back, PortCells, shown_inputs}
 use Rattle.gos_expand.proofs.OnceLemmas.{import_there}

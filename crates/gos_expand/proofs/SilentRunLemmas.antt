@@ -1,8 +1,7 @@
 -- In a run from reset whose inputs are clean, the outputs of a plan's netlist are silent.
 --
 -- Read first: SilenceLemmas, of one cycle; BitLemmas, that what comes in at parts is a pulse or none.
-use Rattle.std.proofs.Common.{◌≡◌, ℕ, zero, suc, ◌≤◌, ◌<◌, List, [], ◌∷◌, map, slice_get, Some, length, replicate, sym, subst, arith}
-use Rattle.gos_netlist.specs.Nets.{Cell}
+use Rattle.std.proofs.Common.{◌≡◌, ℕ, ◌≤◌, ◌<◌, List, [], ◌∷◌, map, Some, length, replicate, sym, subst, arith}
 use Rattle.gos_netlist.specs.Cycles.{HasCycle}
 use Rattle.gos_netlist.specs.Settling.{Numbers, at, next_registers, RunFrom}
 use Rattle.gos_netcheck.specs.CellRules.{WidthsFit}
@@ -11,11 +10,11 @@ use Rattle.gos_pace.specs.Silence.{InputsAreClean, OutputsAreSilent}
 use Rattle.gos_plan.specs.Kinds.{Contact}
 use Rattle.gos_plan.specs.Plans.{End, PartEnd, Plan, contact_at}
 use Rattle.gos_plan.specs.Tokens.{IsPortEnd}
-use Rattle.gos_plan.specs.Seen.{SeenPlan, plan_of}
+use Rattle.gos_plan.specs.Seen.{plan_of}
 use Rattle.gos_expand.specs.Kept.{AllKeepPaths}
 use Rattle.gos_expand.specs.Starts.{Keep}
 use Rattle.gos_expand.specs.Laid.{leaves, arrives, laid_cells, laid}
-use Rattle.gos_expand.specs.Acceptance.{AreDifferent, CanBeLaid}
+use Rattle.gos_expand.specs.Acceptance.{AreDifferent}
 use Rattle.gos_expand.specs.Facts.{bits_put, CycleFacts, PlanFacts, PartFacts}
 use Rattle.gos_expand.specs.Runs.{LaidStaysSilent}
 use Rattle.gos_expand.proofs.NetLemmas.{IsAny}
