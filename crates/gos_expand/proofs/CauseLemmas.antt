@@ -35,7 +35,7 @@ use Rattle.gos_expand.specs.Starts.{Keep, bits_taken}
 use Rattle.gos_expand.specs.Laid.{nets_out}
 use Rattle.gos_expand.specs.Facts.{Places, source, target, width, bits_put, bits_in_at, incoming_at, PlanFacts, PassesOn}
 use Rattle.gos_expand.proofs.TallyLemmas.{due-append, value_due-append, no_value, outgoing_at}
-use Rattle.gos_expand.proofs.StandingLemmas.{pending_if, pending_at, pending_numbers, shown_at, shown_numbers, held_pulse, held_number, Lies, Now, Ends, ends_of, filled, values, values_if, Taking, taking, is_in_at, small_count, one_token, lies_at, incoming_at_handshake}
+use Rattle.gos_expand.proofs.StandingLemmas.{pending_if, pending_at, pending_numbers, shown_at, shown_numbers, held_pulse, held_number, number_by_pulse, carried, carried_one, Lies, Now, Ends, ends_of, filled, values, values_if, Taking, taking, is_in_at, small_count, one_token, lies_at, incoming_at_handshake}
 use Rattle.gos_expand.proofs.DueLemmas.{nothing_taken, nothing_put, nothing_pending_there, value_shape, pulse_shape, Due, bare, nothing_at_port, put_at_port}
 use Rattle.gos_expand.proofs.ScheduleLemmas.{Choice, is_early, below_rank, early_below, early_made, firings_pulsed, early_times, exactly_inside, times_pulsed, chosen_once}
 use Rattle.gos_expand.proofs.PossibleLemmas.{there_is, listing, firings_listed, slot_taken}
@@ -92,7 +92,7 @@ values_small p n v these i k all is h chosen = by_contact (slice_get (part_conta
         subst (λ (b : ℕ). value_in k v (incoming_at p n i) h < 2 ^ b) bits (subst (λ (x : ℕ). x < 2 ^ bits_taken (Some c)) same small)
 
 -- the nets that go out at a handshake show what is due there
-bits_out_put : (c : Contact) → bits_out c.role c ≡ bits_put (Some c)
+pub bits_out_put : (c : Contact) → bits_out c.role c ≡ bits_put (Some c)
 bits_out_put c = by_role c.role
   where
     by_role : (role : Role) → bits_out role c ≡ bits_of c (way_put role)
@@ -104,6 +104,19 @@ net_shows : (v : Numbers) (b : ℕ) (cells : List Cell) (c : Contact) (o : Outgo
 net_shows v b cells c (Bare q) m x goes shows =
     let none : bits_put (Some c) ≡ 0 = sym (bits_out_put c) ∙ goes.0 in (shows, λ some. absurd (omega (arith, none, some)))
 net_shows v b cells c (Bearing q a) m x goes shows = (shows.0, λ some. shows.1)
+
+-- they show no number where nothing is due
+pub due_carried : (v : Numbers) (nets : Nets) (h : ℕ) (ts : List Token) → at v nets.pulse ≡ due h ts → at v nets.number ≡ value_due h ts → carried v nets ≡ value_due h ts
+due_carried v nets h ts pulse value = by_pulse (at v nets.pulse) pulse
+  where
+    by_pulse : (m : ℕ) → m ≡ due h ts → number_by_pulse m (at v nets.number) ≡ value_due h ts
+    by_pulse zero none = sym (no_value h ts (sym none))
+    by_pulse (suc m) some = value
+
+pub due_narrow : (v : Numbers) (nets : Nets) (h w : ℕ) (ts : List Token) → at v nets.pulse ≡ due h ts → at v nets.number ≡ value_due h ts → at v nets.pulse ≡ 0 → at v nets.number < 2 ^ w
+due_narrow v nets h w ts pulse value none =
+    let nothing : at v nets.number ≡ 0 = value ∙ no_value h ts (sym pulse ∙ none) in
+    subst (λ (x : ℕ). x < 2 ^ w) (sym nothing) (pow_pos w)
 
 pub leaving_shows : (keep : Keep) (p : Plan) (n : Places) (v : Numbers) (i h : ℕ) (k : Part) (c : Contact) (ts : List Token) → PlanFacts keep p n
     → KeepLaws k (layout k) (outs_of k) (late_of k) (pending_of k) (stands_of k) → slice_get p.parts i ≡ Some k → contact_at p (PartEnd i h) ≡ Some c
@@ -124,8 +137,8 @@ leaving_shows keep p n v i h k c ts plan laws is there shows =
 -- in an orderly list so far: what leaves an end of these bits was pending there, or was put there in the list
 pub record Shown (p : Plan) (n : Places) (v regs : Numbers) (puts : ℕ → List Token) (xs : List Element) (e : End) (w : ℕ) : Type 0 where
   pub pulse : at v (n.leaves e).pulse ≡ pending_at p n regs e + put_at puts e xs
-  pub number : 0 < w → at v (n.leaves e).number ≡ pending_numbers p n regs e + sum_put puts e xs
-  pub silent : 0 < w → at v (n.leaves e).pulse ≡ 0 → at v (n.leaves e).number ≡ 0
+  pub number : 0 < w → carried v (n.leaves e) ≡ pending_numbers p n regs e + sum_put puts e xs
+  pub narrow : 0 < w → at v (n.leaves e).pulse ≡ 0 → at v (n.leaves e).number < 2 ^ w
 
 -- where the nets show what was pending and what is put
 shown_by_part : (p : Plan) (n : Places) (v regs : Numbers) (puts : ℕ → List Token) (xs : List Element) (i h w : ℕ) (k : Part) → slice_get p.parts i ≡ Some k
@@ -141,8 +154,10 @@ shown_by_part p n v regs puts xs i h w k is nets =
     let sums = value_due-append h (pending_of k (n.start i) regs) (puts i) in
     record {
       pulse = omega (arith, pulse, held, split);
-      number = λ some. let value = nets.1 some in omega (arith, value, held_sum, sums);
-      silent = λ some none. nets.1 some ∙ no_value h (pending_of k (n.start i) regs ++ puts i) (sym pulse ∙ none);
+      number = λ some.
+          let value = due_carried v (n.leaves (PartEnd i h)) h (pending_of k (n.start i) regs ++ puts i) pulse (nets.1 some) in
+          omega (arith, value, held_sum, sums);
+      narrow = λ some none. due_narrow v (n.leaves (PartEnd i h)) h w (pending_of k (n.start i) regs ++ puts i) pulse (nets.1 some) none;
     }
 
 pub shown_by_port : (keep : Keep) (p : Plan) (net : Netlist) (n : Places) (v regs after : Numbers) (o : Open) (s : Tokens) (puts : ℕ → List Token) (fs : List PartFiring) (e : End) (c : Contact)
@@ -159,15 +174,14 @@ shown_by_port keep p net n v regs after o s puts fs e c now port there =
           let d = (nothing_at_port p n regs e port).1 in
           let f = (put_at_port puts (listing p n v fs) e port).1 in
           let g = counted.1 in
-          let m : number_if v (bits_in_at p e) (n.leaves e) ≡ at v (n.leaves e).number =
+          let m : number_if v (bits_in_at p e) (n.leaves e) ≡ carried v (n.leaves e) =
           ap (λ (y : Option Contact). number_if v (bits_put y) (n.leaves e)) there
-          ∙ number_is v (bits_put (Some c)) (n.leaves e) some given.0 (given.1 some).1 in
+          ∙ number_is v (bits_put (Some c)) (n.leaves e) some given.0 in
           omega (arith, d, f, g, m);
-      silent = λ some none. (given.1 some).1 none;
+      narrow = λ some none. given.1 some;
     }
   where
-    given : (at v (n.leaves e).pulse ≤ 1)
-        × (0 < bits_put (Some c) → (at v (n.leaves e).number < 2 ^ bits_put (Some c)) × (at v (n.leaves e).pulse ≡ 0 → at v (n.leaves e).number ≡ 0))
+    given : (at v (n.leaves e).pulse ≤ 1) × (0 < bits_put (Some c) → at v (n.leaves e).number < 2 ^ bits_put (Some c))
     given = now.facts.given e c port there
 
     counted : (ins_at e (listing p n v fs) ≡ flag v (n.leaves e)) × (ins_sum e (listing p n v fs) ≡ number_if v (bits_in_at p e) (n.leaves e))
@@ -261,7 +275,7 @@ pub record Landed (p : Plan) (n : Places) (v : Numbers) (t : Tokens) (e : End) (
   pub small : at v (n.arrives e).pulse ≤ 1
   pub one : at v (n.arrives e).pulse ≡ 1 → count (t.in_place (way_taken c.role) g.joint.asking) ≡ 1
   pub number : 0 < bits_taken (Some c) → at v (n.arrives e).pulse ≡ 1 → number (t.in_place (way_taken c.role) g.joint.asking) ≡ at v (n.arrives e).number
-  pub silent : 0 < bits_taken (Some c) → at v (n.arrives e).pulse ≡ 0 → at v (n.arrives e).number ≡ 0
+  pub narrow : 0 < bits_taken (Some c) → at v (n.arrives e).pulse ≡ 0 → at v (n.arrives e).number < 2 ^ bits_taken (Some c)
 
 pub record Arrived (p : Plan) (n : Places) (v : Numbers) (t : Tokens) (i h : ℕ) (c : Contact) : Type 0 where
   pub comes : ComesIn p n v i h c
@@ -290,8 +304,9 @@ arrived_by p n v t i h k c g fit is there landed =
     by_pulse : (w m : ℕ) → bits_taken (Some c) ≡ suc w → at v (n.arrives (PartEnd i h)).pulse ≡ m → values p n v i h < 2 ^ suc w
     by_pulse w zero e pulse =
         let some : nat_eq (suc w) 0 ≡ false = grind arith in
-        let is_zero : values p n v i h ≡ 0 = shape ∙ rw (e, some) (landed.silent (subst (λ (b : ℕ). 0 < b) (sym e) (omega arith)) pulse) in
-        subst (λ (x : ℕ). x < 2 ^ suc w) (sym is_zero) (pow_pos (suc w))
+        let is : values p n v i h ≡ at v (n.arrives (PartEnd i h)).number = shape ∙ rw (e, some) refl in
+        subst (λ (x : ℕ). x < 2 ^ suc w) (sym is)
+        (subst (λ (b : ℕ). at v (n.arrives (PartEnd i h)).number < 2 ^ b) e (landed.narrow (subst (λ (b : ℕ). 0 < b) (sym e) (omega arith)) pulse))
     by_pulse w (suc zero) e pulse =
         let d : Due p t (PartEnd i h) c (values p n v i h) = due pulse in
         let lies = lies_at p t (PartEnd i h) c d.at_end ∙ one_token (t.in_place way d.at_end.joint.asking) d.one in
@@ -400,18 +415,18 @@ arrival keep p net n rank v regs after o s r b i h k c now is there later within
                   let no_pending = nothing_pending_there p n regs (source j way) not_pending in
                   let no_put = nothing_put law.0 xs (source j way) not_put in
                   let arrived = delays.number (bits some) in
+                  let whole : carried regs (n.arrives (target j way)) ≡ at regs (n.arrives (target j way)).number =
+                  carried_one regs (n.arrives (target j way)) (sym pulse ∙ (sym here ∙ is_one)) in
                   let all = sums.sums in
                   let numbers : number (s.in_place way j.asking)
-                  ≡ at regs (n.arrives (target j way)).number + (pending_numbers p n regs (source j way) + shown_numbers n regs (target j way)) =
+                  ≡ carried regs (n.arrives (target j way)) + (pending_numbers p n regs (source j way) + shown_numbers n regs (target j way)) =
                   lies.numbers (bits some)
                   ∙ ap (λ (x : Bool). held_number x regs (n.arrives (target j way)) + (pending_numbers p n regs (source j way) + shown_numbers n regs (target j way))) keeps in
-                  omega (arith, number_here, arrived, all, numbers, no_sum, no_shown_number, no_pending, no_put);
-              silent = λ some none.
-                  let quiet : held_pulse (keep g.index way) regs (n.arrives (target j way)) ≡ 0 =
-                  ap (λ (x : Bool). held_pulse x regs (n.arrives (target j way))) keeps ∙ (sym pulse ∙ (sym here ∙ none)) in
-                  number_here
-                  ∙ (delays.number (bits some)
-                  ∙ (sym (ap (λ (x : Bool). held_number x regs (n.arrives (target j way))) keeps) ∙ lies.silent (bits some) quiet));
+                  omega (arith, number_here, arrived, whole, all, numbers, no_sum, no_shown_number, no_pending, no_put);
+              narrow = λ some none.
+                  subst (λ (x : ℕ). x < 2 ^ bits_taken (Some c)) (sym (number_here ∙ delays.number (bits some)))
+                  (subst (λ (b : ℕ). at regs (n.arrives (target j way)).number < 2 ^ b) g.bits
+                  (lies.narrow keeps (bits some) (sym pulse ∙ (sym here ∙ none))));
             }
 
         straight : keep g.index way ≡ false → Landed p n v t e c g
@@ -428,11 +443,16 @@ arrival keep p net n rank v regs after o s r b i h k c now is there later within
               number = λ some is_one.
                   let all = sums.sums in
                   let leaves_number = shows.number (bits some) in
+                  let whole : carried v (n.leaves (source j way)) ≡ at v (n.leaves (source j way)).number =
+                  carried_one v (n.leaves (source j way)) (sym pulse ∙ (sym here ∙ is_one)) in
                   let numbers : number (s.in_place way j.asking) ≡ 0 + (pending_numbers p n regs (source j way) + shown_numbers n regs (target j way)) =
                   lies.numbers (bits some)
                   ∙ ap (λ (x : Bool). held_number x regs (n.arrives (target j way)) + (pending_numbers p n regs (source j way) + shown_numbers n regs (target j way))) passes in
-                  omega (arith, number_here, arrived, all, numbers, no_sum, no_shown_number, leaves_number);
-              silent = λ some none. number_here ∙ (arrived ∙ shows.silent (bits some) (sym pulse ∙ (sym here ∙ none)));
+                  omega (arith, number_here, arrived, whole, all, numbers, no_sum, no_shown_number, leaves_number);
+              narrow = λ some none.
+                  subst (λ (x : ℕ). x < 2 ^ bits_taken (Some c)) (sym (number_here ∙ arrived))
+                  (subst (λ (b : ℕ). at v (n.leaves (source j way)).number < 2 ^ b) g.bits
+                  (shows.narrow (bits some) (sym pulse ∙ (sym here ∙ none))));
             }
           where
             nets : n.arrives (target j way) ≡ n.leaves (source j way)

@@ -18,7 +18,7 @@ use Rattle.gos_expand.specs.Laid.{known}
 use Rattle.gos_expand.specs.Facts.{Places, number_by, source, target, width, incoming_at}
 use Rattle.gos_plan.specs.Accounts.{count, number, ins_at, ins_sum, outs_at, outs_sum, put_at, sum_put, taken_at, sum_taken}
 use Rattle.gos_expand.proofs.TallyLemmas.{no_value}
-use Rattle.gos_expand.proofs.StandingLemmas.{pending_if, pending_at, pending_numbers, shown_at, shown_numbers, held_pulse, Lies, Led, Now, filled, values, values_if, Taking, taking, small_count, one_token, lies_at, incoming_at_handshake}
+use Rattle.gos_expand.proofs.StandingLemmas.{pending_if, pending_at, pending_numbers, shown_at, shown_numbers, held_pulse, carried, carried_one, nothing_held, Lies, Led, Now, filled, values, values_if, Taking, taking, small_count, one_token, lies_at, incoming_at_handshake}
 
 none_more : (b : Bool) (v n m : ℕ) → (n ≡ 0 → m ≡ 0) → (if b then suc n else n) ≡ 0 → (if b then v + m else m) ≡ 0
 none_more true v n m go h = absurd (omega (arith, h))
@@ -92,7 +92,7 @@ bare p s e c t fit there one none =
     subst (λ (b : ℕ). number (s.in_place (way_taken c.role) t.joint.asking) < 2 ^ b) none small in
     omega (arith, less)
 
-pub shown_port : (n : Places) (regs : Numbers) (e : End) → IsPortEnd e → (shown_at n regs e ≡ at regs (n.shows e).pulse) × (shown_numbers n regs e ≡ at regs (n.shows e).number)
+pub shown_port : (n : Places) (regs : Numbers) (e : End) → IsPortEnd e → (shown_at n regs e ≡ at regs (n.shows e).pulse) × (shown_numbers n regs e ≡ carried regs (n.shows e))
 shown_port n regs (PartEnd i h) port = absurd port
 shown_port n regs (ImportEnd i h) port = (refl, refl)
 shown_port n regs (ResultEnd h) port = (refl, refl)
@@ -131,11 +131,11 @@ due_at_port keep p net n v regs after o s e c now port there pulse = by_place (p
         let some : 0 < bits_taken (Some c) = subst (λ (b : ℕ). 0 < b) (sym is) (omega arith) in
         let lies = now.standing.joints t.index t.joint (way_taken c.role) t.there in
         let numbers = lies.numbers bits in
-        let silent = lies.silent bits not_here in
+        let none_held = nothing_held (keep t.index (way_taken c.role)) regs (n.arrives (target t.joint (way_taken c.role))) not_here in
         let shown = (now.facts.ports e c port there).number some in
         let here : shown_numbers n regs (target t.joint (way_taken c.role)) ≡ at regs (n.shows e).number =
-        sym (ap (shown_numbers n regs) t.is_target) ∙ (shown_port n regs e port).1 in
-        omega (arith, numbers, silent, no_pending, here, shown)
+        sym (ap (shown_numbers n regs) t.is_target) ∙ ((shown_port n regs e port).1 ∙ carried_one regs (n.shows e) held) in
+        omega (arith, numbers, none_held, no_pending, here, shown)
 
     by_joint : (t : Taking p e c) → Due p s e c (number_by v (bits_taken (Some c)) (n.shows e))
     by_joint t =

@@ -1,11 +1,12 @@
 -- How many outputs and inputs come at an end of a port in the list of a cycle: as its pulse says.
-use Rattle.std.proofs.Common.{◌≡◌, ℕ, zero, suc, ◌≤◌, ◌<◌, true, false, List, ◌++◌, refl, sym, arith, nat_eq, if◌then◌else◌}
+use Rattle.std.proofs.Common.{◌≡◌, ℕ, zero, suc, ◌≤◌, ◌<◌, true, false, List, ◌++◌, refl, arith, nat_eq, if◌then◌else◌}
 use Rattle.gos_netlist.specs.Settling.{Numbers, at}
 use Rattle.gos_plan.specs.Plans.{End, Plan}
 use Rattle.gos_plan.specs.Made.{PartFiring, fires_of}
 use Rattle.gos_expand.specs.Blocks.{Nets}
 use Rattle.gos_expand.specs.Starts.{ports_of, port_ends}
 use Rattle.gos_expand.specs.Facts.{Places, bits_in_at, bits_out_at, given_elements, occurs}
+use Rattle.gos_expand.proofs.StandingLemmas.{number_by_pulse, carried}
 use Rattle.gos_expand.proofs.PossibleLemmas.{listing}
 use Rattle.gos_expand.proofs.PulseLemmas.{flag, number_if, Come, shown_before, others_before, none_of_fires}
 
@@ -35,11 +36,12 @@ flag_is v nets small = by_pulse (at v nets.pulse) small
     by_pulse (suc zero) small = refl
     by_pulse (suc (suc m)) small = absurd (omega (arith, small))
 
-pub number_is : (v : Numbers) (w : ℕ) (nets : Nets) → 0 < w → at v nets.pulse ≤ 1 → (at v nets.pulse ≡ 0 → at v nets.number ≡ 0) → number_if v w nets ≡ at v nets.number
-number_is v zero nets some small silent = absurd (omega (arith, some))
-number_is v (suc w) nets some small silent = by_pulse (at v nets.pulse) small silent
+-- and so is its number, where it has bits
+pub number_is : (v : Numbers) (w : ℕ) (nets : Nets) → 0 < w → at v nets.pulse ≤ 1 → number_if v w nets ≡ carried v nets
+number_is v zero nets some small = absurd (omega (arith, some))
+number_is v (suc w) nets some small = by_pulse (at v nets.pulse) small
   where
-    by_pulse : (m : ℕ) → m ≤ 1 → (m ≡ 0 → at v nets.number ≡ 0) → (if nat_eq m 1 then at v nets.number else 0) ≡ at v nets.number
-    by_pulse zero small silent = sym (silent refl)
-    by_pulse (suc zero) small silent = refl
-    by_pulse (suc (suc m)) small silent = absurd (omega (arith, small))
+    by_pulse : (m : ℕ) → m ≤ 1 → (if nat_eq m 1 then at v nets.number else 0) ≡ number_by_pulse m (at v nets.number)
+    by_pulse zero small = refl
+    by_pulse (suc zero) small = refl
+    by_pulse (suc (suc m)) small = absurd (omega (arith, small))

@@ -1,6 +1,6 @@
 -- Cycles one after another, from the first one: each is made as a list of the plan, or is the first broken one.
 use Rattle.std.specs.Prelude.{Option, None}
-use Rattle.std.proofs.Common.{◌≡◌, inl, inr, ◌⊎◌, ℕ, suc, ◌≤◌, Bool, true, false, List, [], ◌∷◌, ◌++◌, Some, slice_get, length, refl, sym, ◌∙◌, ap, subst, arith, append_assoc}
+use Rattle.std.proofs.Common.{◌≡◌, inl, inr, ◌⊎◌, ℕ, suc, ◌^◌, ◌≤◌, ◌<◌, Bool, true, false, List, [], ◌∷◌, ◌++◌, Some, slice_get, length, refl, sym, ◌∙◌, ap, subst, arith, append_assoc, pow_pos}
 use Rattle.gos_netlist.specs.Nets.{Netlist}
 use Rattle.gos_types.specs.Events.{Direction}
 use Rattle.gos_netlist.specs.Settling.{Numbers, at}
@@ -19,9 +19,9 @@ use Rattle.gos_plan.proofs.TokenBitsLemmas.{all_stay_fit, idle_fits}
 use Rattle.gos_pace.proofs.OrderLemmas.{one_order_is_enough}
 use Rattle.gos_expand.specs.Blocks.{Nets}
 use Rattle.gos_expand.specs.Starts.{Keep}
-use Rattle.gos_expand.specs.Facts.{Places, source, target, CycleFacts, PlanFacts, PartFacts, Rises, Follow}
+use Rattle.gos_expand.specs.Facts.{Places, source, target, width, CycleFacts, PlanFacts, PartFacts, Rises, Follow}
 use Rattle.gos_expand.proofs.ChainLemmas.{never_whole, runs-append, welcome_after}
-use Rattle.gos_expand.proofs.StandingLemmas.{pending_if, pending_at, pending_numbers, shown_at, shown_numbers, held_pulse, held_number, Standing, Led, led_on, Now, filled}
+use Rattle.gos_expand.proofs.StandingLemmas.{pending_if, pending_at, pending_numbers, shown_at, shown_numbers, held_pulse, held_number, number_by_pulse, carried, Standing, Led, led_on, Now, filled}
 use Rattle.gos_expand.proofs.ScheduleLemmas.{made_firings}
 use Rattle.gos_expand.proofs.PossibleLemmas.{listing}
 use Rattle.gos_expand.proofs.RankLemmas.{Whole, Stopped, cycle_ends}
@@ -186,12 +186,19 @@ at_reset keep p n regs parts zero_all =
           let d = (nothing_pending (source j way)).1 in
           let e = (nothing_shown (target j way)).0 in
           let f = (nothing_shown (target j way)).1 in
-          record { counts = omega (arith, a, c, e); numbers = λ some. omega (arith, b, d, f); silent = λ some none. b; silent_out = λ some none. f };
+          record {
+            counts = omega (arith, a, c, e);
+            numbers = λ some. omega (arith, b, d, f);
+            narrow = λ _ some none. subst (λ (m : ℕ). m < 2 ^ width p j way) (sym (zero_all (n.arrives (target j way)).number)) (pow_pos (width p j way));
+          };
       loose = λ e c port there none. zero_all (n.shows e).pulse;
     }
   where
+    none_carried : (nets : Nets) → carried regs nets ≡ 0
+    none_carried nets = ap (λ (m : ℕ). number_by_pulse m (at regs nets.number)) (zero_all nets.pulse)
+
     nothing_held : (b : Bool) (nets : Nets) → (held_pulse b regs nets ≡ 0) × (held_number b regs nets ≡ 0)
-    nothing_held true nets = (zero_all nets.pulse, zero_all nets.number)
+    nothing_held true nets = (zero_all nets.pulse, none_carried nets)
     nothing_held false nets = (refl, refl)
 
     of_part : (i : ℕ) (f : Option Part) → slice_get p.parts i ≡ f → pending_if f (n.start i) regs ≡ []
@@ -205,5 +212,5 @@ at_reset keep p n regs parts zero_all =
 
     nothing_shown : (e : End) → (shown_at n regs e ≡ 0) × (shown_numbers n regs e ≡ 0)
     nothing_shown (PartEnd i h) = (refl, refl)
-    nothing_shown (ImportEnd i h) = (zero_all (n.shows (ImportEnd i h)).pulse, zero_all (n.shows (ImportEnd i h)).number)
-    nothing_shown (ResultEnd h) = (zero_all (n.shows (ResultEnd h)).pulse, zero_all (n.shows (ResultEnd h)).number)
+    nothing_shown (ImportEnd i h) = (zero_all (n.shows (ImportEnd i h)).pulse, none_carried (n.shows (ImportEnd i h)))
+    nothing_shown (ResultEnd h) = (zero_all (n.shows (ResultEnd h)).pulse, none_carried (n.shows (ResultEnd h)))

@@ -51,6 +51,9 @@ pub mod StrideLemmas
 pub mod EndRingLemmas
 pub mod EndRankLemmas
 pub mod WiringLemmas
+pub mod BitLemmas
+pub mod SilenceLemmas
+pub mod SilentPortLemmas
 pub mod DirectionLemmas
 pub mod LinkedLemmas
 pub mod ChoiceLemmas
@@ -59,6 +62,7 @@ pub mod JointLemmas
 pub mod ChoosingLemmas
 pub mod TableLemmas
 pub mod RunLemmas
+pub mod SilentRunLemmas
 pub mod PolicyLemmas
 pub mod RankedCellLemmas
 pub mod SmallChoiceLemmas

@@ -1,37 +1,32 @@
--- The outputs and the inputs of a plan's netlist, as elements at the ends of its ports; and inputs are silent without
--- a pulse.
+-- The outputs and the inputs of a plan's netlist, as elements at the ends of its ports.
 use Rattle.std.specs.Prelude.{Option}
-use Rattle.std.proofs.Common.{◌≡◌, ℕ, zero, suc, ◌+◌, ◌*◌, ◌<◌, ◌≤◌, Bool, true, false, not, List, [], ◌∷◌, ◌++◌, map, filter, Some, slice_get, refl, sym, ◌∙◌, ap, subst, arith, nat_eq, if◌then◌else◌}
+use Rattle.std.proofs.Common.{◌≡◌, ℕ, zero, suc, ◌+◌, ◌*◌, ◌≤◌, Bool, true, false, not, List, [], ◌∷◌, ◌++◌, map, filter, Some, slice_get, refl, sym, ◌∙◌, ap, subst, arith, nat_eq, if◌then◌else◌}
 use Rattle.std.proofs.lemmas.List.{map-append}
 use Rattle.std.proofs.lemmas.List.Elements.{filter-append}
 use Rattle.gos_types.specs.declared.shakes.Role.TheVariants.{Serve}
-use Rattle.gos_types.specs.Types.{Type', Com, Exp, Var, Pair, Fun, IsGround, IsDone}
 use Rattle.gos_netlist.specs.Nets.{Give, Take}
-use Rattle.gos_types.specs.Events.{events}
 use Rattle.gos_netlist.specs.Settling.{Numbers, at}
 use Rattle.gos_model.specs.Labels.{Given, Taken, Label, is_answer, is_output}
 use Rattle.gos_pace.specs.Flattening.{port_pulses, pulses, outputs, inputs}
 use Rattle.gos_model.specs.Protocol.{shake_of}
-use Rattle.gos_pace.specs.RunProtocol.{IsQuiet, IsQuietFrom}
 use Rattle.gos_plan.specs.Kinds.{Contact, contacts_of}
 use Rattle.gos_model.specs.Typing.{Imported}
-use Rattle.gos_plan.specs.Plans.{End, PartEnd, ImportEnd, ResultEnd, Plan, contact_at, contacts_of_import, turned_if, same_end}
-use Rattle.gos_types.specs.Widths.{HasWidths}
-use Rattle.gos_plan.specs.Tokens.{Element, Out, In, IsPortEnd}
+use Rattle.gos_plan.specs.Plans.{End, ImportEnd, ResultEnd, Plan, contact_at, contacts_of_import, turned_if, same_end}
+use Rattle.gos_plan.specs.Tokens.{Element, Out, In}
 use Rattle.gos_plan.specs.Accounts.{outs_at, ins_at}
 use Rattle.gos_pace.specs.Cycles.{end_of_label, out_of, in_of, outs_of, ins_of}
 use Rattle.gos_pace.specs.AnyOrder.{NonePasses, EndsDiffer}
 use Rattle.gos_plan.proofs.JointLemmas.{same_is, same_itself}
-use Rattle.gos_expand.specs.Blocks.{Nets, nets_on, total}
-use Rattle.gos_expand.specs.Starts.{Keep, ports_of, taken_ports, port_start, ends_at, port_ends, bits_taken, shake_size}
+use Rattle.gos_expand.specs.Blocks.{Nets}
+use Rattle.gos_expand.specs.Starts.{Keep, ports_of, taken_ports, port_start, ends_at, port_ends, bits_taken}
 use Rattle.gos_expand.specs.Laid.{leaves, request_nets, answer_nets, laid_port, taken, laid}
 use Rattle.gos_expand.specs.Acceptance.{AreDifferent}
 use Rattle.gos_expand.specs.Facts.{bits_put, bits_out_at, bits_in_at, elements, occurs}
 use Rattle.gos_expand.proofs.FlowLemmas.{IsSound, ground_serves, done_ground}
 use Rattle.gos_expand.proofs.PulseLemmas.{pulse_of, count_of, elements-append, shown_alone}
-use Rattle.gos_expand.proofs.RegisterLemmas.{shows, turned_back}
+use Rattle.gos_expand.proofs.RegisterLemmas.{shows}
 use Rattle.gos_expand.proofs.LabelLemmas.{answers, requests}
-use Rattle.gos_expand.proofs.OnceLemmas.{each_once, all_listed, number_is, import_there}
+use Rattle.gos_expand.proofs.OnceLemmas.{each_once, all_listed, number_is}
 
 -- ports one after another
 two_lists : (sort : Label → Bool) (f : Label → Element) (make : End → ℕ → Element) (v : Numbers) (bits : End → ℕ) (nets : End → Nets) (xs ys : List Label) (ds es : List End)
@@ -65,7 +60,7 @@ not_not true = refl
 not_not false = refl
 
 -- bits and nets at the ends of ports
-result_bits : (p : Plan) → IsSound p → (h : ℕ) (c : Contact) → slice_get (contacts_of p.outcome) h ≡ Some c
+pub result_bits : (p : Plan) → IsSound p → (h : ℕ) (c : Contact) → slice_get (contacts_of p.outcome) h ≡ Some c
     → (bits_out_at p (ResultEnd h) ≡ c.answer_bits) × (bits_in_at p (ResultEnd h) ≡ c.ask_bits)
 result_bits p sound h c is =
     let role : c.role ≡ Serve = ground_serves p.outcome h c (done_ground p.outcome sound.done) is in (
@@ -73,7 +68,7 @@ result_bits p sound h c is =
       ap (λ (f : Option Contact). bits_put (turned_if f)) is ∙ rw role refl,
     )
 
-import_bits : (p : Plan) → IsSound p → (i h : ℕ) (t : Imported) (c : Contact) → slice_get p.imports i ≡ Some t → slice_get (contacts_of t.ty) h ≡ Some c
+pub import_bits : (p : Plan) → IsSound p → (i h : ℕ) (t : Imported) (c : Contact) → slice_get p.imports i ≡ Some t → slice_get (contacts_of t.ty) h ≡ Some c
     → (bits_out_at p (ImportEnd i h) ≡ c.ask_bits) × (bits_in_at p (ImportEnd i h) ≡ c.answer_bits)
 import_bits p sound i h t c there is =
     let role : c.role ≡ Serve = ground_serves t.ty h c (sound.grounds i t there) is in
@@ -180,66 +175,3 @@ pub ins_are_apart : (keep : Keep) (p : Plan) (root : List ℕ) (v : Numbers) →
 ins_are_apart keep p root v sound differ =
     ins_differ p (inputs (laid keep p root) v)
     (λ e. subst (λ (l : List Element). ins_at e l ≤ 1) (sym (ins_are keep p root v sound differ)) (few_shown false p v (bits_in_at p) (leaves keep p) e))
-
--- an answer at an import has no number without its pulse
-quiet_answer : (name : List ℕ) (s h : ℕ) (t : Type') (c : Contact) (ins : Numbers) → IsGround t → HasWidths t
-    → IsQuietFrom (Taken name) 0 (events t) (nets_on s (total shake_size 0 (contacts_of t))) ins → slice_get (contacts_of t) h ≡ Some c → 0 < c.answer_bits
-    → at ins (answer_nets s (contacts_of t) h).pulse ≡ 0 → at ins (answer_nets s (contacts_of t) h).number ≡ 0
-quiet_answer name s zero Com c ins ground widths quiet is some none = absurd (grind (arith, is, some))
-quiet_answer name s (suc h) Com c ins ground widths quiet is some none = absurd (grind (arith, is))
-quiet_answer name s h (Exp zero) c ins ground widths quiet is some none = absurd (let wide = widths.0 in omega (arith, wide))
-quiet_answer name s zero (Exp (suc w)) c ins ground widths quiet is some none =
-    let first : s + 0 + 1 ≡ s + 1 = omega arith in
-    let here : at ins (s + 1) ≡ 0 = sym (ap (at ins) first) ∙ none in
-    ap (λ (m : ℕ). at ins (m + 1)) first ∙ quiet.0 refl here
-quiet_answer name s (suc h) (Exp (suc w)) c ins ground widths quiet is some none = absurd (grind (arith, is))
-quiet_answer name s h (Var zero) c ins ground widths quiet is some none = absurd (let wide = widths.0 in omega (arith, wide))
-quiet_answer name s zero (Var (suc w)) c ins ground widths quiet is some none =
-    let first : s + 0 + 1 ≡ s + 1 = omega arith in
-    let here : at ins (s + 1) ≡ 0 = sym (ap (at ins) first) ∙ none in
-    ap (λ (m : ℕ). at ins (m + 1)) first ∙ quiet.0 refl here
-quiet_answer name s (suc zero) (Var (suc w)) c ins ground widths quiet is some none = absurd (grind (arith, is, some))
-quiet_answer name s (suc (suc h)) (Var (suc w)) c ins ground widths quiet is some none = absurd (grind (arith, is))
-quiet_answer name s h (Pair a b) c ins ground widths quiet is some none = absurd ground
-quiet_answer name s h (Fun a b) c ins ground widths quiet is some none = absurd ground
-
-quiet_taken : (p : Plan) (n : ℕ) (is : List Imported) (ins : Numbers) (m j : ℕ) (t : Imported) → IsQuiet (taken p (suc n) is) ins → j ≡ n + m → slice_get is m ≡ Some t
-    → IsQuietFrom (Taken t.name) 0 (events t.ty) (nets_on (port_start p (suc j)) (total shake_size 0 (contacts_of t.ty))) ins
-quiet_taken p n [] ins m j t quiet e there = absurd (grind (arith, there))
-quiet_taken p n (x ∷ is) ins zero j t quiet e there =
-    let same : x ≡ t = cc there in
-    let here : n ≡ j = omega (arith, e) in
-    subst (λ (y : Imported). IsQuietFrom (Taken y.name) 0 (events y.ty) (nets_on (port_start p (suc j)) (total shake_size 0 (contacts_of y.ty))) ins) same
-    (subst (λ (k : ℕ). IsQuietFrom (Taken x.name) 0 (events x.ty) (nets_on (port_start p (suc k)) (total shake_size 0 (contacts_of x.ty))) ins) here quiet.0)
-quiet_taken p n (x ∷ is) ins (suc m) j t quiet e there = quiet_taken p (suc n) is ins m j t quiet.1 (omega (arith, e)) there
-
--- a request of the result has no number at all
-no_number : (t : Type') (h : ℕ) (c : Contact) → IsDone t → slice_get (contacts_of t) h ≡ Some c → c.ask_bits ≡ 0
-no_number Com zero c done is = grind (arith, is)
-no_number Com (suc h) c done is = absurd (grind (arith, is))
-no_number (Exp w) zero c done is = grind (arith, is)
-no_number (Exp w) (suc h) c done is = absurd (grind (arith, is))
-no_number (Var w) h c done is = absurd done
-no_number (Pair a b) h c done is = absurd done
-no_number (Fun a b) h c done is = absurd done
-
-pub quiet_input : (keep : Keep) (p : Plan) (root : List ℕ) (ins : Numbers) (e : End) (c : Contact) → IsSound p → IsQuiet (laid keep p root).ports ins → contact_at p e ≡ Some c
-    → 0 < bits_put (Some c) → at ins (leaves keep p e).pulse ≡ 0 → IsPortEnd e → at ins (leaves keep p e).number ≡ 0
-quiet_input keep p root ins (PartEnd i h) c sound quiet there some none port = absurd port
-quiet_input keep p root ins (ResultEnd h) c sound quiet there some none port =
-    let back = turned_back (slice_get (contacts_of p.outcome) h) c there in
-    let bits = (result_bits p sound h back.0 back.1).1 in
-    let zero_bits = no_number p.outcome h back.0 sound.done back.1 in
-    let same : bits_in_at p (ResultEnd h) ≡ bits_put (Some c) = ap bits_put there in
-    absurd (omega (arith, bits, zero_bits, same, some))
-quiet_input keep p root ins (ImportEnd i h) c sound quiet there some none port =
-    let of_import = import_there p i h c there in
-    let t : Imported = of_import.0 in
-    let bits = (import_bits p sound i h t c of_import.1 of_import.2).1 in
-    let same : bits_in_at p (ImportEnd i h) ≡ bits_put (Some c) = ap bits_put there in
-    let wide : 0 < c.answer_bits = omega (arith, bits, same, some) in
-    let nets : leaves keep p (ImportEnd i h) ≡ answer_nets (port_start p (suc i)) (contacts_of t.ty) h =
-    ap (λ (f : Option Imported). answer_nets (port_start p (suc i)) (contacts_of_import f) h) of_import.1 in
-    let here = quiet_taken p 0 p.imports ins i i t quiet.1 (omega arith) of_import.1 in
-    subst (λ (y : Nets). at ins y.pulse ≡ 0 → at ins y.number ≡ 0) (sym nets)
-    (quiet_answer t.name (port_start p (suc i)) h t.ty c ins (sound.grounds i t of_import.1) (sound.ground_widths i t of_import.1) here of_import.2 wide) none

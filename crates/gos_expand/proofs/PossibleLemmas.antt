@@ -151,7 +151,7 @@ ins_go keep p net n v regs after o s t before (e ∷ es) now all =
     small =
         let given = now.facts.given e is.contact is.port is.there in
         subst (λ (f : Option Contact). number_by v (bits_put f) (n.leaves e) < 2 ^ bits_put (Some is.contact)) (sym is.there)
-        (number_small v (bits_put (Some is.contact)) (n.leaves e) (λ some. (given.1 some).0))
+        (number_small v (bits_put (Some is.contact)) (n.leaves e) given.1)
 
     next : Tokens
     next = with_token p e (way_put is.contact.role) (Some x) t

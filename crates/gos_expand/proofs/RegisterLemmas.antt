@@ -339,22 +339,24 @@ port_delays keep p v regs ins e c cells settles =
     (delayed (laid_cells keep p) v regs ins (bits_taken (Some c)) cells.out_from (arrives keep p e) settles cells.out_stands)
 
 -- inputs show what is given
+pub shown_inputs : (all : List Cell) (v regs ins : Numbers) (w b : ℕ) → Settling all regs ins v → StandAt all b (inputs w)
+    → (at v (nets_from w b).pulse ≡ at ins (nets_from w b).pulse) × (0 < w → at v (nets_from w b).number ≡ at ins (nets_from w b).number)
+shown_inputs all v regs ins zero b settles stands = (settles.1 b (bit Input) (first_stands all b (bit Input) [] stands), λ some. absurd (omega (arith, some)))
+shown_inputs all v regs ins (suc w) b settles stands =
+    (settles.1 b (bit Input) (first_stands all b (bit Input) (wide (suc w) Input ∷ []) stands), λ some. settles.1 (b + 1) (wide (suc w) Input) (stands 1 _ refl))
+
+-- they are in range
 pub given_nets : (all : List Cell) (v regs ins : Numbers) (w b : ℕ) → Settling all regs ins v
     → ((n : ℕ) (c : Cell) → slice_get all n ≡ Some c → c.gate ≡ Input → at ins n < 2 ^ c.width) → StandAt all b (inputs w)
-    → (at v (nets_from w b).pulse ≡ at ins (nets_from w b).pulse) × (at v (nets_from w b).pulse ≤ 1)
-    × (0 < w → (at v (nets_from w b).number ≡ at ins (nets_from w b).number) × (at v (nets_from w b).number < 2 ^ w))
+    → (at v (nets_from w b).pulse ≤ 1) × (0 < w → at v (nets_from w b).number < 2 ^ w)
 given_nets all v regs ins zero b settles range stands =
-    let here : slice_get all b ≡ Some (bit Input) = first_stands all b (bit Input) [] stands in
-    let shows : at v b ≡ at ins b = settles.1 b (bit Input) here in
-    let small : at ins b < 2 ^ 1 = range b (bit Input) here refl in
-    (shows, omega (arith, shows, small), λ some. absurd (omega (arith, some)))
+    let shows = (shown_inputs all v regs ins zero b settles stands).0 in
+    let small : at ins b < 2 ^ 1 = range b (bit Input) (first_stands all b (bit Input) [] stands) refl in
+    (omega (arith, shows, small), λ some. absurd (omega (arith, some)))
 given_nets all v regs ins (suc w) b settles range stands =
-    let here : slice_get all b ≡ Some (bit Input) = first_stands all b (bit Input) (wide (suc w) Input ∷ []) stands in
-    let shows : at v b ≡ at ins b = settles.1 b (bit Input) here in
-    let small : at ins b < 2 ^ 1 = range b (bit Input) here refl in
-    let next : slice_get all (b + 1) ≡ Some (wide (suc w) Input) = stands 1 (wide (suc w) Input) refl in
-    let number : at v (b + 1) ≡ at ins (b + 1) = settles.1 (b + 1) (wide (suc w) Input) next in (
-      shows,
-      omega (arith, shows, small),
-      λ some. (number, subst (λ (m : ℕ). m < 2 ^ suc w) (sym number) (range (b + 1) (wide (suc w) Input) next refl)),
+    let shows = shown_inputs all v regs ins (suc w) b settles stands in
+    let pulse = shows.0 in
+    let small : at ins b < 2 ^ 1 = range b (bit Input) (first_stands all b (bit Input) (wide (suc w) Input ∷ []) stands) refl in (
+      omega (arith, pulse, small),
+      λ some. subst (λ (m : ℕ). m < 2 ^ suc w) (sym (shows.1 some)) (range (b + 1) (wide (suc w) Input) (stands 1 (wide (suc w) Input) refl) refl),
     )

@@ -3,7 +3,7 @@
 -- Read first: PromptLemmas, that the facts of cycles make lists; RegisterLemmas, OnceLemmas and OutlineLemmas, that
 -- the netlist has these facts; WiringLemmas and EndRankLemmas, that its ends have ranks where no combinational cycle is left.
 use Rattle.std.specs.Prelude.{Option}
-use Rattle.std.proofs.Common.{◌≡◌, ℕ, zero, suc, ◌^◌, ◌<◌, ◌≤◌, List, [], ◌∷◌, map, Some, slice_get, length, replicate, refl, sym, ◌∙◌, ap, subst}
+use Rattle.std.proofs.Common.{◌≡◌, ℕ, zero, suc, ◌^◌, ◌<◌, ◌≤◌, List, [], ◌∷◌, map, Some, slice_get, length, replicate, refl, sym, ap, subst}
 use Rattle.gos_netlist.specs.Nets.{Cell}
 use Rattle.gos_netlist.specs.Settling.{Numbers, at, next_registers, Settling, RunFrom}
 use Rattle.gos_pace.specs.RunProtocol.{IsInRange, InputsInRange}
@@ -34,26 +34,21 @@ use Rattle.gos_expand.proofs.OnceLemmas.{each_once, all_listed}
 use Rattle.gos_expand.proofs.EndRingLemmas.{cycle_is_ring, ring_is_cycle}
 use Rattle.gos_expand.proofs.EndRankLemmas.{rank_of, ranks_rise}
 use Rattle.gos_expand.proofs.WiringLemmas.{places_in, port_cells_at, laid_wired}
-use Rattle.gos_expand.proofs.OutlineLemmas.{outs_are, ins_are, outs_are_apart, ins_are_apart, quiet_input}
+use Rattle.gos_expand.proofs.OutlineLemmas.{outs_are, ins_are, outs_are_apart, ins_are_apart}
 
--- what the outside gives is in range, and silent without a pulse
+-- what the outside gives is in range
 given_at : (keep : Keep) (p : Plan) (root : List ℕ) (v regs ins : Numbers) → IsSound p → Settling (laid_cells keep p) regs ins v → IsInRange (laid keep p root) ins
     → (e : End) (c : Contact) → IsPortEnd e → contact_at p e ≡ Some c
-    → (at v (leaves keep p e).pulse ≤ 1)
-    × (0 < bits_put (Some c) → (at v (leaves keep p e).number < 2 ^ bits_put (Some c)) × (at v (leaves keep p e).pulse ≡ 0 → at v (leaves keep p e).number ≡ 0))
+    → (at v (leaves keep p e).pulse ≤ 1) × (0 < bits_put (Some c) → at v (leaves keep p e).number < 2 ^ bits_put (Some c))
 given_at keep p root v regs ins fits settles range e c port there =
     let cells : PortCells keep p e c = port_cells_at keep p fits e c port there in
     let all : List Cell = laid_cells keep p in
     let w : ℕ = bits_put (Some c) in
-    let nets =
-    subst (λ (n : Nets). (at v n.pulse ≡ at ins n.pulse) × (at v n.pulse ≤ 1) × (0 < w → (at v n.number ≡ at ins n.number) × (at v n.number < 2 ^ w)))
-    (sym cells.leaves_is) (given_nets all v regs ins w cells.in_from settles range.0 cells.in_stands) in (
-      nets.1,
-      λ some. ((nets.2 some).1, λ none. (nets.2 some).0 ∙ quiet_input keep p root ins e c fits range.1 there some (sym nets.0 ∙ none) port),
-    )
+    subst (λ (n : Nets). (at v n.pulse ≤ 1) × (0 < w → at v n.number < 2 ^ w)) (sym cells.leaves_is)
+    (given_nets all v regs ins w cells.in_from settles range cells.in_stands)
 
 -- a cycle of the netlist has the facts
-cycle_facts : (keep : Keep) (p : Plan) (root : List ℕ) (v regs ins : Numbers) → IsSound p → AreDifferent (root ∷ map (λ (x : Imported). x.name) p.imports)
+pub cycle_facts : (keep : Keep) (p : Plan) (root : List ℕ) (v regs ins : Numbers) → IsSound p → AreDifferent (root ∷ map (λ (x : Imported). x.name) p.imports)
     → Settling (laid_cells keep p) regs ins v → IsInRange (laid keep p root) ins
     → CycleFacts keep p (laid keep p root) (places_in keep p) v regs (next_registers (laid_cells keep p) v)
 cycle_facts keep p root v regs ins fits differ settles range =
@@ -95,7 +90,7 @@ part_facts paths p root can =
       literals = literals_fit p.parts can.in_range.of_parts;
     }
 
-plan_facts : (keep : Keep) (p : Plan) → IsRight p → PlanFacts keep p (places_in keep p)
+pub plan_facts : (keep : Keep) (p : Plan) → IsRight p → PlanFacts keep p (places_in keep p)
 plan_facts keep p right =
     record {
       once = each_once p;
@@ -104,7 +99,7 @@ plan_facts keep p right =
       straight = λ x j way there none. arrives_straight keep p x j way right there none;
     }
 
-all_zero : (m n : ℕ) → at (replicate m 0) n ≡ 0
+pub all_zero : (m n : ℕ) → at (replicate m 0) n ≡ 0
 all_zero zero n = refl
 all_zero (suc m) zero = refl
 all_zero (suc m) (suc n) = all_zero m n

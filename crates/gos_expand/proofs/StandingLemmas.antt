@@ -2,9 +2,10 @@
 -- places.
 --
 -- A token that was put at an end is pending in a register of its part's gates, or in the register of its joint, if that is
--- kept, or in the register of the output that takes it.
+-- kept, or in the register of the output that takes it. A number counts only where its pulse is there: what else a
+-- register of numbers holds has its bits, and no more is known of it.
 use Rattle.std.specs.Prelude.{Option, None}
-use Rattle.std.proofs.Common.{◌≡◌, inl, inr, ℕ, zero, suc, ◌+◌, ◌≤◌, ◌<◌, Bool, true, false, List, [], ◌∷◌, ◌++◌, Some, slice_get, Contains, refl, sym, ◌∙◌, ap, subst, arith}
+use Rattle.std.proofs.Common.{◌≡◌, inl, inr, ℕ, zero, suc, ◌+◌, ◌^◌, ◌≤◌, ◌<◌, Bool, true, false, List, [], ◌∷◌, ◌++◌, Some, slice_get, Contains, refl, sym, ◌∙◌, ap, subst, arith}
 use Rattle.gos_types.specs.declared.shakes.Role.{Role}
 use Rattle.gos_types.specs.declared.shakes.Role.TheVariants.{Serve, Ask}
 use Rattle.gos_netlist.specs.Nets.{Netlist}
@@ -29,6 +30,22 @@ use Rattle.gos_expand.specs.Facts.{Places, source, target, width, bits_put, inco
 use Rattle.gos_plan.specs.Accounts.{count, number, AddsUp, PartsPut}
 use Rattle.gos_expand.proofs.ChainLemmas.{orderly-append}
 
+-- the number that comes with a pulse: 0 where there is none
+abbrev pub number_by_pulse : ℕ → ℕ → ℕ
+number_by_pulse zero x = 0
+number_by_pulse (suc m) x = x
+
+abbrev pub carried : Numbers → Nets → ℕ
+carried v nets = number_by_pulse (at v nets.pulse) (at v nets.number)
+
+-- the number itself where there is a pulse
+pub carried_one : (v : Numbers) (nets : Nets) → at v nets.pulse ≡ 1 → carried v nets ≡ at v nets.number
+carried_one v nets pulse = ap (λ (m : ℕ). number_by_pulse m (at v nets.number)) pulse
+
+-- it is the same where pulse and number are
+pub carried_same : (v w : Numbers) (nets from : Nets) → at v nets.pulse ≡ at w from.pulse → at v nets.number ≡ at w from.number → carried v nets ≡ carried w from
+carried_same v w nets from pulse value = λ i. number_by_pulse (pulse i) (value i)
+
 -- the tokens that are pending at an end, and the sum of their numbers
 abbrev pub pending_if : Option Part → ℕ → Numbers → List Token
 pending_if None b regs = []
@@ -49,7 +66,7 @@ shown_at n regs e = at regs (n.shows e).pulse
 
 abbrev pub shown_numbers : Places → Numbers → End → ℕ
 shown_numbers n regs (PartEnd i h) = 0
-shown_numbers n regs e = at regs (n.shows e).number
+shown_numbers n regs e = carried regs (n.shows e)
 
 -- what the registers of a direction hold, if they are kept
 abbrev pub held_pulse : Bool → Numbers → Nets → ℕ
@@ -57,8 +74,13 @@ held_pulse true regs nets = at regs nets.pulse
 held_pulse false regs nets = 0
 
 abbrev pub held_number : Bool → Numbers → Nets → ℕ
-held_number true regs nets = at regs nets.number
+held_number true regs nets = carried regs nets
 held_number false regs nets = 0
+
+-- without a pulse they hold no number
+pub nothing_held : (b : Bool) (regs : Numbers) (nets : Nets) → held_pulse b regs nets ≡ 0 → held_number b regs nets ≡ 0
+nothing_held true regs nets none = ap (λ (m : ℕ). number_by_pulse m (at regs nets.number)) none
+nothing_held false regs nets none = refl
 
 -- where what lies in a direction of joint x is
 pub record Lies (keep : Keep) (p : Plan) (n : Places) (regs : Numbers) (s : Tokens) (x : ℕ) (j : Joint) (way : Direction) : Type 0 where
@@ -69,10 +91,9 @@ pub record Lies (keep : Keep) (p : Plan) (n : Places) (regs : Numbers) (s : Toke
       0 < width p j way
       → number (s.in_place way j.asking)
       ≡ held_number (keep x way) regs (n.arrives (target j way)) + (pending_numbers p n regs (source j way) + shown_numbers n regs (target j way))
-  pub silent :
-      0 < width p j way → held_pulse (keep x way) regs (n.arrives (target j way)) ≡ 0
-      → held_number (keep x way) regs (n.arrives (target j way)) ≡ 0
-  pub silent_out : 0 < width p j way → shown_at n regs (target j way) ≡ 0 → shown_numbers n regs (target j way) ≡ 0
+  pub narrow :
+      keep x way ≡ true → 0 < width p j way → at regs (n.arrives (target j way)).pulse ≡ 0
+      → at regs (n.arrives (target j way)).number < 2 ^ width p j way
 
 -- registers and tokens at the beginning of a cycle
 pub record Standing (keep : Keep) (p : Plan) (n : Places) (regs : Numbers) (s : Tokens) : Type 0 where

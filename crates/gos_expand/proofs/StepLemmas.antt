@@ -2,15 +2,15 @@
 --
 -- What is put at an end is pending, or leaves it in this cycle; what leaves it is next in the joint's register, or arrives at
 -- the other end at once; what is taken there arrived, and a port's output holds it next.
-use Rattle.std.specs.Prelude.{Option, None}
-use Rattle.std.proofs.Common.{◌≡◌, ℕ, zero, suc, ◌+◌, ◌*◌, ◌≤◌, ◌<◌, Bool, true, false, List, [], ◌++◌, Some, slice_get, refl, sym, ◌∙◌, ap, subst, arith, nat_eq}
+use Rattle.std.specs.Prelude.{Option}
+use Rattle.std.proofs.Common.{◌≡◌, ℕ, zero, suc, ◌+◌, ◌*◌, ◌^◌, ◌≤◌, ◌<◌, Bool, true, false, List, [], ◌++◌, Some, slice_get, refl, sym, ◌∙◌, ap, subst, arith, nat_eq, true≢false}
 use Rattle.gos_netlist.specs.Nets.{Netlist}
 use Rattle.gos_types.specs.Events.{Direction}
 use Rattle.gos_netlist.specs.Settling.{Numbers, at}
 use Rattle.gos_plan.specs.Kinds.{Part, Contact}
 use Rattle.gos_plan.specs.Firing.{Token}
 use Rattle.gos_plan.specs.Plans.{End, PartEnd, ImportEnd, ResultEnd, Joint, Plan, contact_at}
-use Rattle.gos_plan.specs.Tokens.{Tokens, Element, IsPortEnd, places_of, way_taken}
+use Rattle.gos_plan.specs.Tokens.{Tokens, Element, IsPortEnd, way_taken}
 use Rattle.gos_plan.specs.Orderly.{Open}
 use Rattle.gos_plan.specs.Firings.{due, value_due, times}
 use Rattle.gos_plan.specs.Accounts.{count, outs_at, outs_sum, put_at, sum_put, taken_at, sum_taken, AddsUp, PartsPut}
@@ -19,15 +19,15 @@ use Rattle.gos_expand.specs.Gates.{outs_of, pending_of}
 use Rattle.gos_expand.specs.Blocks.{Nets}
 use Rattle.gos_expand.specs.Starts.{Keep, bits_taken}
 use Rattle.gos_expand.specs.Facts.{Places, Delays, source, target, width, bits_put, bits_out_at}
-use Rattle.gos_expand.proofs.TallyLemmas.{due-append, value_due-append, no_value, shows_at}
-use Rattle.gos_expand.proofs.StandingLemmas.{pending_if, pending_at, pending_numbers, shown_at, shown_numbers, held_pulse, held_number, Lies, Now, values, Taking, taking, is_in_at, small_count}
+use Rattle.gos_expand.proofs.TallyLemmas.{due-append, value_due-append, shows_at}
+use Rattle.gos_expand.proofs.StandingLemmas.{pending_if, pending_at, pending_numbers, shown_at, shown_numbers, held_pulse, held_number, number_by_pulse, carried, carried_same, Lies, Now, values, is_in_at, small_count}
 pub use Rattle.gos_expand.proofs.StandingLemmas.{Ends, ends_of}
 use Rattle.gos_expand.proofs.DueLemmas.{value_shape, pulse_shape, nothing_at_port, sum_taken_port, shown_port}
 use Rattle.gos_expand.proofs.ScheduleLemmas.{made_firings, slot_count}
 use Rattle.gos_expand.proofs.PossibleLemmas.{listing, firings_listed, taken_port, slot_taken}
 use Rattle.gos_expand.proofs.EventLemmas.{outs_listed, flag_is, number_is}
 use Rattle.gos_expand.proofs.PulseLemmas.{flag, number_if}
-use Rattle.gos_expand.proofs.CauseLemmas.{own_contact, part_there, pulses_small, leaving_shows, Shown, shown_by_port}
+use Rattle.gos_expand.proofs.CauseLemmas.{own_contact, part_there, pulses_small, due_carried, due_narrow, leaving_shows, Shown, shown_by_port}
 use Rattle.gos_expand.proofs.MadeLemmas.{PartStep, part_step}
 use Rattle.gos_expand.proofs.RankLemmas.{Whole}
 
@@ -38,8 +38,8 @@ whole_list p n rank v = listing p n v (made_firings p n rank v)
 -- at an end of these bits: what leaves it, and what is pending there then
 pub record Sent (p : Plan) (n : Places) (rank : End → ℕ) (v regs after : Numbers) (puts : ℕ → List Token) (e : End) (w : ℕ) : Type 0 where
   pub pulse : at v (n.leaves e).pulse + pending_at p n after e ≡ pending_at p n regs e + put_at puts e (whole_list p n rank v)
-  pub number : 0 < w → at v (n.leaves e).number + pending_numbers p n after e ≡ pending_numbers p n regs e + sum_put puts e (whole_list p n rank v)
-  pub silent : 0 < w → at v (n.leaves e).pulse ≡ 0 → at v (n.leaves e).number ≡ 0
+  pub number : 0 < w → carried v (n.leaves e) + pending_numbers p n after e ≡ pending_numbers p n regs e + sum_put puts e (whole_list p n rank v)
+  pub narrow : 0 < w → at v (n.leaves e).pulse ≡ 0 → at v (n.leaves e).number < 2 ^ w
   pub goes : pending_at p n regs e ≤ at v (n.leaves e).pulse
 
 -- what is taken there, and what an output holds then
@@ -47,8 +47,7 @@ pub record Got (p : Plan) (n : Places) (rank : End → ℕ) (v regs after : Numb
   pub pulse : taken_at way e (whole_list p n rank v) + shown_at n after e ≡ at v (n.arrives e).pulse + shown_at n regs e
   pub number :
       0 < w
-      → sum_taken (values p n v) way e (whole_list p n rank v) + shown_numbers n after e ≡ at v (n.arrives e).number + shown_numbers n regs e
-  pub silent_out : 0 < w → shown_at n after e ≡ 0 → shown_numbers n after e ≡ 0
+      → sum_taken (values p n v) way e (whole_list p n rank v) + shown_numbers n after e ≡ carried v (n.arrives e) + shown_numbers n regs e
 
 sent_by_part : (keep : Keep) (p : Plan) (net : Netlist) (n : Places) (rank : End → ℕ) (v regs after : Numbers) (o : Open) (s : Tokens) (w : Whole p n rank v o s)
     (puts : ℕ → List Token) (i h : ℕ) (k : Part) (c : Contact)
@@ -68,14 +67,11 @@ sent_by_part keep p net n rank v regs after o s w puts i h k c now fires is ther
           let is_next = held_next in
           omega (arith, pulse, split, put, later, was, is_next);
       number = λ some.
-          let value = nets.1 some in
+          let value = due_carried v (n.leaves (PartEnd i h)) h all pulse (nets.1 some) in
           let was = held_sum in
           let is_next = next_sum in
           omega (arith, value, sums, put_sum, later_sum, was, is_next);
-      silent = λ some none.
-          let value = nets.1 some in
-          let nothing : due h all ≡ 0 = sym pulse ∙ none in
-          value ∙ no_value h all nothing;
+      narrow = λ some none. due_narrow v (n.leaves (PartEnd i h)) h (bits_put (Some c)) all pulse (nets.1 some) none;
       goes = let was = held_then in omega (arith, pulse, split, was);
     }
   where
@@ -116,7 +112,7 @@ sent_by_port keep p net n rank v regs after o s puts e c now port there =
     record {
       pulse = let a = (nothing_at_port p n after e port).0 in let b = shown.pulse in omega (arith, a, b);
       number = λ some. let a = (nothing_at_port p n after e port).1 in let b = shown.number some in omega (arith, a, b);
-      silent = shown.silent;
+      narrow = shown.narrow;
       goes = let d = (nothing_at_port p n regs e port).0 in omega (arith, d);
     }
 
@@ -143,43 +139,6 @@ sent_from keep p net n rank v regs after o s w puts x j way now fires there =
     ends : Ends p j way
     ends = ends_of p j way (fits p [] p.joints j now.right (is_in_at x p.joints j there))
 
--- where no pulse comes in, no number does
-silent_joint : (keep : Keep) (p : Plan) (net : Netlist) (n : Places) (rank : End → ℕ) (v regs after : Numbers) (o : Open) (s : Tokens) (w : Whole p n rank v o s)
-    (puts : ℕ → List Token) (x : ℕ) (j : Joint) (way : Direction)
-    → Now keep p net n v regs after o s → PartsPut p (values p n v) puts (whole_list p n rank v) o s w.open_then w.state_then → slice_get p.joints x ≡ Some j
-    → 0 < width p j way → at v (n.arrives (target j way)).pulse ≡ 0 → at v (n.arrives (target j way)).number ≡ 0
-silent_joint keep p net n rank v regs after o s w puts x j way now fires there some none = by_keep (keep x way) refl
-  where
-    by_keep : (b : Bool) → keep x way ≡ b → at v (n.arrives (target j way)).number ≡ 0
-    by_keep true keeps =
-        let delays = now.facts.joints x j way there keeps in
-        let quiet : held_pulse (keep x way) regs (n.arrives (target j way)) ≡ 0 =
-        ap (λ (b : Bool). held_pulse b regs (n.arrives (target j way))) keeps ∙ (sym delays.pulse ∙ none) in
-        delays.number some
-        ∙ (sym (ap (λ (b : Bool). held_number b regs (n.arrives (target j way))) keeps) ∙ (now.standing.joints x j way there).silent some quiet)
-    by_keep false passes =
-        let nets = now.plan_facts.straight x j way there passes in
-        let out = sent_from keep p net n rank v regs after o s w puts x j way now fires there in
-        ap (λ (m : Nets). at v m.number) nets ∙ out.silent some (sym (ap (λ (m : Nets). at v m.pulse) nets) ∙ none)
-
-silent_arrival : (keep : Keep) (p : Plan) (net : Netlist) (n : Places) (rank : End → ℕ) (v regs after : Numbers) (o : Open) (s : Tokens) (w : Whole p n rank v o s)
-    (puts : ℕ → List Token) (e : End) (c : Contact)
-    → Now keep p net n v regs after o s → PartsPut p (values p n v) puts (whole_list p n rank v) o s w.open_then w.state_then → contact_at p e ≡ Some c
-    → 0 < bits_taken (Some c) → at v (n.arrives e).pulse ≡ 0 → at v (n.arrives e).number ≡ 0
-silent_arrival keep p net n rank v regs after o s w puts e c now fires there some none = by_place (places_of p e) refl
-  where
-    by_joint : (t : Taking p e c) → at v (n.arrives e).number ≡ 0
-    by_joint t =
-        let way : Direction = way_taken c.role in
-        let bits : 0 < width p t.joint way = subst (λ (b : ℕ). 0 < b) (sym t.bits) some in
-        let here : at v (n.arrives e).pulse ≡ at v (n.arrives (target t.joint way)).pulse = ap (λ (d : End). at v (n.arrives d).pulse) t.is_target in
-        let number_here : at v (n.arrives e).number ≡ at v (n.arrives (target t.joint way)).number = ap (λ (d : End). at v (n.arrives d).number) t.is_target in
-        number_here ∙ silent_joint keep p net n rank v regs after o s w puts t.index t.joint way now fires t.there bits (sym here ∙ none)
-
-    by_place : (f : Option End) → places_of p e ≡ f → at v (n.arrives e).number ≡ 0
-    by_place None free = (now.facts.loose e c there free).1 some
-    by_place (Some a) place = by_joint (taking p e a c now.right there place)
-
 got_by_part : (keep : Keep) (p : Plan) (net : Netlist) (n : Places) (rank : End → ℕ) (v regs after : Numbers) (o : Open) (s : Tokens) (w : Whole p n rank v o s)
     (puts : ℕ → List Token) (i h : ℕ) (k : Part) (c : Contact)
     → Now keep p net n v regs after o s → PartsPut p (values p n v) puts (whole_list p n rank v) o s w.open_then w.state_then
@@ -189,12 +148,10 @@ got_by_part keep p net n rank v regs after o s w puts i h k c now fires is there
     record {
       pulse = let a = counted in omega (arith, a);
       number = λ some.
-          let a = by_pulse (at v (n.arrives (PartEnd i h)).pulse) some small_here
-          (λ none. silent_arrival keep p net n rank v regs after o s w puts (PartEnd i h) c now fires there some none) in
+          let a = by_pulse (at v (n.arrives (PartEnd i h)).pulse) some small_here in
           let b : sum_taken (values p n v) (way_taken c.role) (PartEnd i h) (whole_list p n rank v) ≡ at v (n.arrives (PartEnd i h)).pulse * values p n v i h =
           ap (λ (m : ℕ). m * values p n v i h) counted in
           omega (arith, a, b);
-      silent_out = λ some none. refl;
     }
   where
     small_here : at v (n.arrives (PartEnd i h)).pulse ≤ 1
@@ -211,19 +168,17 @@ got_by_part keep p net n rank v regs after o s w puts i h k c now fires is there
         let more : nat_eq (bits_taken (Some c)) 0 ≡ false = grind (arith, some) in
         value_shape p n v i h k c is there ∙ rw more refl
 
-    by_pulse : (m : ℕ) → 0 < bits_taken (Some c) → m ≤ 1 → (m ≡ 0 → at v (n.arrives (PartEnd i h)).number ≡ 0)
-        → m * values p n v i h ≡ at v (n.arrives (PartEnd i h)).number
-    by_pulse zero some le silent = let none = silent refl in grind (arith, none)
-    by_pulse (suc zero) some le silent = let here = value_here some in grind (arith, here)
-    by_pulse (suc (suc m)) some le silent = absurd (omega (arith, le))
+    by_pulse : (m : ℕ) → 0 < bits_taken (Some c) → m ≤ 1 → m * values p n v i h ≡ number_by_pulse m (at v (n.arrives (PartEnd i h)).number)
+    by_pulse zero some le = grind arith
+    by_pulse (suc zero) some le = let here = value_here some in grind (arith, here)
+    by_pulse (suc (suc m)) some le = absurd (omega (arith, le))
 
 got_by_port : (keep : Keep) (p : Plan) (net : Netlist) (n : Places) (rank : End → ℕ) (v regs after : Numbers) (o : Open) (s : Tokens) (w : Whole p n rank v o s)
     (puts : ℕ → List Token) (e : End) (c : Contact)
     → Now keep p net n v regs after o s → PartsPut p (values p n v) puts (whole_list p n rank v) o s w.open_then w.state_then
     → IsPortEnd e → contact_at p e ≡ Some c → shown_at n regs e ≤ 1
-    → (0 < bits_taken (Some c) → shown_at n regs e ≡ 0 → shown_numbers n regs e ≡ 0)
     → Got p n rank v regs after (way_taken c.role) e (bits_taken (Some c))
-got_by_port keep p net n rank v regs after o s w puts e c now fires port there small silent =
+got_by_port keep p net n rank v regs after o s w puts e c now fires port there small =
     record {
       pulse =
           let a = taken_port (whole_list p n rank v) (way_taken c.role) e port in
@@ -237,18 +192,14 @@ got_by_port keep p net n rank v regs after o s w puts e c now fires port there s
       number = λ some.
           let a = sum_taken_port (values p n v) (whole_list p n rank v) (way_taken c.role) e port in
           let b = counted.1 in
-          let d : number_if v (bits_out_at p e) (n.shows e) ≡ at v (n.shows e).number =
+          let d : number_if v (bits_out_at p e) (n.shows e) ≡ carried v (n.shows e) =
           ap (λ (y : Option Contact). number_if v (bits_taken y) (n.shows e)) there
-          ∙ number_is v (bits_taken (Some c)) (n.shows e) some small_here (λ none. quiet some none) in
-          let f = delays.number some in
-          let g = delays.next_number some in
+          ∙ number_is v (bits_taken (Some c)) (n.shows e) some small_here in
+          let f = carried_same v regs (n.shows e) (n.shows e) delays.pulse (delays.number some) in
+          let g = carried_same after v (n.shows e) (n.arrives e) delays.next (delays.next_number some) in
           let l = (shown_port n after e port).1 in
           let m = (shown_port n regs e port).1 in
           omega (arith, a, b, d, f, g, l, m);
-      silent_out = λ some none.
-          let here : at v (n.arrives e).pulse ≡ 0 = sym delays.next ∙ (sym (shown_port n after e port).0 ∙ none) in
-          (shown_port n after e port).1
-          ∙ (delays.next_number some ∙ silent_arrival keep p net n rank v regs after o s w puts e c now fires there some here);
     }
   where
     delays : Delays (bits_taken (Some c)) v regs after (n.arrives e) (n.shows e)
@@ -260,23 +211,17 @@ got_by_port keep p net n rank v regs after o s w puts e c now fires port there s
     small_here : at v (n.shows e).pulse ≤ 1
     small_here = let f = delays.pulse in let m = (shown_port n regs e port).0 in omega (arith, small, f, m)
 
-    quiet : 0 < bits_taken (Some c) → at v (n.shows e).pulse ≡ 0 → at v (n.shows e).number ≡ 0
-    quiet some none =
-        let held : shown_at n regs e ≡ 0 = (shown_port n regs e port).0 ∙ (sym delays.pulse ∙ none) in
-        delays.number some ∙ (sym (shown_port n regs e port).1 ∙ silent some held)
-
 pub got : (keep : Keep) (p : Plan) (net : Netlist) (n : Places) (rank : End → ℕ) (v regs after : Numbers) (o : Open) (s : Tokens) (w : Whole p n rank v o s)
     (puts : ℕ → List Token) (e : End) (c : Contact)
     → Now keep p net n v regs after o s → PartsPut p (values p n v) puts (whole_list p n rank v) o s w.open_then w.state_then
     → contact_at p e ≡ Some c → shown_at n regs e ≤ 1
-    → (0 < bits_taken (Some c) → shown_at n regs e ≡ 0 → shown_numbers n regs e ≡ 0)
     → Got p n rank v regs after (way_taken c.role) e (bits_taken (Some c))
-got keep p net n rank v regs after o s w puts (PartEnd i h) c now fires there small silent =
+got keep p net n rank v regs after o s w puts (PartEnd i h) c now fires there small =
     let k = part_there p i h c there in got_by_part keep p net n rank v regs after o s w puts i h k.0 c now fires k.1 there
-got keep p net n rank v regs after o s w puts (ImportEnd i h) c now fires there small silent =
-    got_by_port keep p net n rank v regs after o s w puts (ImportEnd i h) c now fires tt there small silent
-got keep p net n rank v regs after o s w puts (ResultEnd h) c now fires there small silent =
-    got_by_port keep p net n rank v regs after o s w puts (ResultEnd h) c now fires tt there small silent
+got keep p net n rank v regs after o s w puts (ImportEnd i h) c now fires there small =
+    got_by_port keep p net n rank v regs after o s w puts (ImportEnd i h) c now fires tt there small
+got keep p net n rank v regs after o s w puts (ResultEnd h) c now fires there small =
+    got_by_port keep p net n rank v regs after o s w puts (ResultEnd h) c now fires tt there small
 
 -- what a cycle makes of a direction of a joint; and a pending token goes on its way
 pub record Passed (keep : Keep) (p : Plan) (n : Places) (v regs after : Numbers) (t : Tokens) (x : ℕ) (j : Joint) (way : Direction) : Type 0 where
@@ -290,10 +235,11 @@ record Holds (keep : Keep) (p : Plan) (n : Places) (v regs after : Numbers) (x :
       ≡ held_pulse (keep x way) regs (n.arrives (target j way)) + at v (n.leaves (source j way)).pulse
   pub numbers :
       0 < width p j way
-      → held_number (keep x way) after (n.arrives (target j way)) + at v (n.arrives (target j way)).number
-      ≡ held_number (keep x way) regs (n.arrives (target j way)) + at v (n.leaves (source j way)).number
-  pub silent :
-      0 < width p j way → held_pulse (keep x way) after (n.arrives (target j way)) ≡ 0 → held_number (keep x way) after (n.arrives (target j way)) ≡ 0
+      → held_number (keep x way) after (n.arrives (target j way)) + carried v (n.arrives (target j way))
+      ≡ held_number (keep x way) regs (n.arrives (target j way)) + carried v (n.leaves (source j way))
+  pub narrow :
+      keep x way ≡ true → 0 < width p j way → at after (n.arrives (target j way)).pulse ≡ 0
+      → at after (n.arrives (target j way)).number < 2 ^ width p j way
 
 pub passed : (keep : Keep) (p : Plan) (net : Netlist) (n : Places) (rank : End → ℕ) (v regs after : Numbers) (o : Open) (s : Tokens) (w : Whole p n rank v o s)
     (puts : ℕ → List Token) (x : ℕ) (j : Joint) (way : Direction)
@@ -317,8 +263,7 @@ passed keep p net n rank v regs after o s w puts x j way now fires sums there =
                 let d = old.numbers some in
                 let e = held.numbers some in
                 omega (arith, a, b, c, d, e);
-            silent = held.silent;
-            silent_out = in_there.silent_out;
+            narrow = held.narrow;
           };
       goes = out.goes;
     }
@@ -342,8 +287,7 @@ passed keep p net n rank v regs after o s w puts x j way now fires sums there =
     in_there =
         subst (λ (d : Direction). Got p n rank v regs after d (target j way) (width p j way)) ends.to_way
         (subst (λ (b : ℕ). Got p n rank v regs after (way_taken ends.to.role) (target j way) b) ends.to_bits
-        (got keep p net n rank v regs after o s w puts (target j way) ends.to now fires ends.to_there small_shown
-        (λ some. old.silent_out (subst (λ (b : ℕ). 0 < b) ends.to_bits some))))
+        (got keep p net n rank v regs after o s w puts (target j way) ends.to now fires ends.to_there small_shown))
 
     held : Holds keep p n v regs after x j way
     held = by_keep (keep x way) refl
@@ -359,8 +303,11 @@ passed keep p net n rank v regs after o s w puts x j way now fires sums there =
             let next = delays.next in
             record {
               pulses = omega (arith, now_held, next_held, pulse, next);
-              numbers = λ some. let a = delays.number some in let b = delays.next_number some in omega (arith, now_number, next_number, a, b);
-              silent = λ some none. next_number ∙ (delays.next_number some ∙ out.silent some (sym next ∙ (sym next_held ∙ none)));
+              numbers = λ some.
+                  let a = carried_same v regs (n.arrives (target j way)) (n.arrives (target j way)) pulse (delays.number some) in
+                  let b = carried_same after v (n.arrives (target j way)) (n.leaves (source j way)) next (delays.next_number some) in
+                  omega (arith, now_number, next_number, a, b);
+              narrow = λ _ some none. subst (λ (m : ℕ). m < 2 ^ width p j way) (sym (delays.next_number some)) (out.narrow some (sym next ∙ none));
             }
         by_keep false passes =
             let nets = now.plan_facts.straight x j way there passes in
@@ -369,9 +316,9 @@ passed keep p net n rank v regs after o s w puts x j way now fires sums there =
             let now_number = ap (λ (b : Bool). held_number b regs (n.arrives (target j way))) passes in
             let next_number = ap (λ (b : Bool). held_number b after (n.arrives (target j way))) passes in
             let pulse = ap (λ (m : Nets). at v m.pulse) nets in
-            let value = ap (λ (m : Nets). at v m.number) nets in
+            let value = ap (carried v) nets in
             record {
               pulses = omega (arith, now_held, next_held, pulse);
               numbers = λ some. omega (arith, now_number, next_number, value);
-              silent = λ some none. next_number;
+              narrow = λ keeps some none. absurd (true≢false (sym keeps ∙ passes));
             }

@@ -107,7 +107,7 @@ pub record CycleFacts (keep : Keep) (p : Plan) (net : Netlist) (n : Places) (v r
   pub given :
       (e : End) (c : Contact) → IsPortEnd e → contact_at p e ≡ Some c
       → (at v (n.leaves e).pulse ≤ 1)
-      × (0 < bits_put (Some c) → (at v (n.leaves e).number < 2 ^ bits_put (Some c)) × (at v (n.leaves e).pulse ≡ 0 → at v (n.leaves e).number ≡ 0))
+      × (0 < bits_put (Some c) → at v (n.leaves e).number < 2 ^ bits_put (Some c))
 
 -- cycles one after another, from these registers on
 abbrev pub Follow : Keep → Plan → Netlist → Places → Numbers → List Numbers → Type 0

@@ -4,7 +4,7 @@ ghost use Rattle.gos_expand.specs.Acceptance.{LaidIsAccepted, AllCutCycles, Laid
 ghost use Rattle.gos_expand.specs.Facts.{FactsMakeLists};
 ghost use Rattle.gos_expand.specs.Kept.{AllKeep, AllKeepPaths, AreFew};
 ghost use Rattle.gos_expand.specs.Rings.{RingsAreCycles};
-ghost use Rattle.gos_expand.specs.Runs.{LaidMakesLists};
+ghost use Rattle.gos_expand.specs.Runs.{LaidMakesLists, LaidStaysSilent};
 ghost use Rattle.gos_expand.specs.SmallChoices.{SkipKeepsNone, AllAreTooMany, RingKeepsOne, NoneAreTooFew};
 ghost use Rattle.gos_expand.specs.SmallNets.{SkipIsLaid, SkipIsChosen, RingIsLeft, SkipCanBeLaid};
 
@@ -54,6 +54,12 @@ pub fn lists_of_facts()
 /// joints keep their registers, where it has no combinational cycle.
 pub fn cycles_are_lists()
     ensures { LaidMakesLists }
+{}
+
+/// No number goes out of such a netlist without its pulse, where none comes in so: then each output's number is 0 in a
+/// cycle without its pulse.
+pub fn outputs_are_silent()
+    ensures { LaidStaysSilent }
 {}
 
 /// The combinational cycles of such a netlist are the rings of handshakes along which what comes in passes on in one

@@ -23,7 +23,7 @@ mod tokens;
 mod whole;
 
 pub use laws::{
-    cycles_are_lists, gates_keep, laid_is_accepted, lists_of_facts, rings_are_cycles,
-    small_choices, small_nets,
+    cycles_are_lists, gates_keep, laid_is_accepted, lists_of_facts, outputs_are_silent,
+    rings_are_cycles, small_choices, small_nets,
 };
 pub use whole::{Policy, expand, expand_with};

@@ -59,10 +59,10 @@ some_power : (w : ℕ) → 0 < 2 ^ w
 some_power w = omega (arith, one-le-pow w 2 (omega arith))
 
 quiet_in_range : IsInRange silent_circuit []
-quiet_in_range = (λ n c h g. some_power c.width, (tt, tt))
+quiet_in_range = λ n c h g. some_power c.width
 
 request_in_range : IsInRange silent_circuit (1 ∷ [])
-request_in_range = (within, (tt, tt))
+request_in_range = within
   where
     within : (n : ℕ) (c : Cell) → slice_get silent_circuit.cells n ≡ Some c → c.gate ≡ Input → at (1 ∷ []) n < 2 ^ c.width
     within zero c h g =

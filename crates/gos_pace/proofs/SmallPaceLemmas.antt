@@ -78,7 +78,7 @@ follows (i ∷ ins) (v ∷ vs) regs [] k range r fl = absurd fl
 follows (i ∷ ins) (v ∷ vs) regs (part ∷ parts) k range r ((out, inp, o, n, e), fl) =
     let input = r.0.1 0 (bit Input) refl in
     let register = r.0.1 1 (bit (Reg 0)) refl in
-    let small : at v 0 < 2 = subst (λ (m : ℕ). m < 2) (sym input) (range.0.0 0 (bit Input) refl refl) in
+    let small : at v 0 < 2 = subst (λ (m : ℕ). m < 2) (sym input) (range.0 0 (bit Input) refl refl) in
     let held : at v 1 < 2 = subst (λ (m : ℕ). m < 2) (sym register) k in
     let (ts, rest, alive) = follows ins vs (next_registers skip_circuit.cells v) parts small range.1 r.1 fl in (
       record { acts = acts_of (at v 0) (at v 1); config = config_of (at v 0) } ∷ ts,

@@ -1,5 +1,11 @@
 // What the definitions say, in small, and of every plan. Each theorem is the contract of a function that does nothing.
 ghost use Rattle.gos_pace.specs.SmallPace.{LatchFlattens, SilentLags, SkipKeepsPace};
+ghost use Rattle.gos_pace.specs.SmallInputs.{
+  AnswerIsClean,
+  StrayIsInRange,
+  WideIsNotInRange,
+  GivingIsSilent,
+};
 ghost use Rattle.gos_pace.specs.AnyOrder.{OneOrderIsEnough};
 ghost use Rattle.gos_pace.specs.SmallCycles.{CallIsListed, EagerIsNotListed, SkipIsListed};
 
@@ -12,6 +18,16 @@ pub fn latch_pulses()
 pub fn keeping_pace()
     ensures keeps { SkipKeepsPace }
     ensures silent { SilentLags }
+{}
+
+/// An answer with its number is a clean input. A number without its pulse is in range all the same, and not clean; one
+/// of more bits than its net is not in range. An output with its number is silent, and a number that goes out alone is
+/// not.
+pub fn small_inputs()
+    ensures clean { AnswerIsClean }
+    ensures stray { StrayIsInRange }
+    ensures wide { WideIsNotInRange }
+    ensures silent { GivingIsSilent }
 {}
 
 /// A cycle that is made with its pulses in the order of events is made with them in every order, where each has an

@@ -25,7 +25,7 @@ use Rattle.gos_pulse.specs.inner.Agenda.{AreTaken}
 use Rattle.gos_pulse.specs.inner.Queue.{AreGiven}
 use Rattle.gos_pulse.specs.inner.Running.{BreaksCycle, RunsCycle}
 use Rattle.gos_pulse.proofs.EventLemmas.{AreRows, IsNumberNet, IsRow}
-use Rattle.gos_pulse.proofs.RangeLemmas.{in_range, none_in_range}
+use Rattle.gos_pulse.proofs.RangeLemmas.{are_clean, none_are_clean}
 use Rattle.gos_pulse.proofs.ShownLemmas.{input_rows, inputs_are, outputs_are, outputs_each}
 
 bits_small : (net : Netlist) (e : Event) (number : Option ℕ) → IsAccepted net → IsNumberNet net.cells e number → e.bits ≤ 32
@@ -64,7 +64,7 @@ module _ (old : Simulator) (past : List Label) (board : Board) (accepted : IsAcc
         ins = [];
         values = settles.0;
         settled = settles.1;
-        in_range = none_in_range old.net;
+        clean = none_are_clean old.net;
         breaks = subst (λ (ls : List Label). BreaksAt old.net (reverse ls ++ past) (at_entries t file) event) (seen_is [] settles.0 settles.1) breaks;
       }
 
@@ -87,7 +87,7 @@ module _ (old : Simulator) (past : List Label) (board : Board) (accepted : IsAcc
         values = cycle.values;
         came = came;
         settled = cycle.settled;
-        in_range = in_range old.net cycle.ins last_board.inputs.items accepted given.stands.rests.inputs cycle.inputs given.stands.in_range;
+        clean = are_clean old.net cycle.ins last_board.inputs.items accepted given.stands.rests.inputs cycle.inputs given.stands.in_range;
         registers = ap (λ (s : Simulator). s.registers) cycle.registers;
         newest = ap (λ (s : Simulator). take 1 s.settlings) cycle.registers;
         goes = record {

@@ -18,7 +18,7 @@ use Rattle.gos_netcheck.specs.PortRules.{Fits, IsEnd, all_inputs, place}
 use Rattle.gos_netcheck.specs.Accepted.{IsAccepted}
 use Rattle.gos_model.specs.Labels.{Port, Label, is_output_at}
 use Rattle.gos_pace.specs.Flattening.{port_of, pulses, inputs, outputs, AnyOrder}
-use Rattle.gos_pace.specs.RunProtocol.{IsInRange, IsQuiet, IsQuietFrom}
+use Rattle.gos_pace.specs.Silence.{IsSilentFrom, AreSilent, IsClean}
 use Rattle.gos_sim.specs.declared.event_nets.EventNets.{EventNets}
 use Rattle.gos_sim.specs.declared.pulse.Pulse.{Pulse}
 use Rattle.gos_sim.specs.EventNets as table
@@ -147,13 +147,13 @@ all_front P (x ∷ xs) ys all = let rest = all_front P xs ys all.1 in ((all.0, r
 -- a cycle with these inputs, from the registers
 record Shows (net : Netlist) (regs ins v : Numbers) : Type 0 where
   settles : Settling net.cells regs ins v
-  in_range : IsInRange net ins
+  clean : IsClean net ins
 
--- an input's net has what it was given, and it is in range
+-- an input's net has what it was given, in range
 fed_net : (net : Netlist) (regs ins v : Numbers) (b : Bool) (width x : ℕ) → b ≡ true → Shows net regs ins v → Fits net.cells (record { input = b; width = width }) x → (at v x ≡ at ins x) × (at ins x < 2 ^ width)
 fed_net net regs ins v b width x input shows (c, is, wide, end) =
     let gate = end_gate b c.gate input end in
-    (input_shown net.cells regs ins v x c shows.settles is gate, subst (λ (n : ℕ). at ins x < 2 ^ n) wide (shows.in_range.0 x c is gate))
+    (input_shown net.cells regs ins v x c shows.settles is gate, subst (λ (n : ℕ). at ins x < 2 ^ n) wide (shows.clean.0 x c is gate))
 
 -- two cycles from the same registers, whose events agree
 module _ (net : Netlist) (regs i v j w : Numbers) (one : Shows net regs i v) (two : Shows net regs j w) where
@@ -188,7 +188,7 @@ module _ (net : Netlist) (regs i v j w : Numbers) (one : Shows net regs i v) (tw
           quiet none ∙ sym (still (sym both ∙ none))
 
   -- of the events of one port
-  port_same : (side : Side) (port : Port) (n : ℕ) (es : List Event) (ns : List ℕ) → TurnsOut port side n es → FitRows net.cells side es ns → IsQuietFrom port n es ns i → IsQuietFrom port n es ns j
+  port_same : (side : Side) (port : Port) (n : ℕ) (es : List Event) (ns : List ℕ) → TurnsOut port side n es → FitRows net.cells side es ns → IsSilentFrom false port n es ns i → IsSilentFrom false port n es ns j
       → AllByRecursion (Agrees v w) (nets_from side es ns) → AllByRecursion (Agrees w v) (nets_from side es ns) → AllByRecursion IsSame (inputs_from side es ns)
   port_same side port n [] [] turns fit quiet still there back = tt
   port_same side port n [] (a ∷ ns) turns fit quiet still there back = absurd fit
@@ -209,7 +209,7 @@ module _ (net : Netlist) (regs i v j w : Numbers) (one : Shows net regs i v) (tw
       (port_same side port (suc n) es ns turns.1 fit.2 quiet.1 still.1 there.1 back.1))
 
   -- of the ports from place k on
-  ports_same : (k : ℕ) (ps : List NetPort) → FromPlace net k ps → IsQuiet ps i → IsQuiet ps j
+  ports_same : (k : ℕ) (ps : List NetPort) → FromPlace net k ps → AreSilent false ps i → AreSilent false ps j
       → AllByRecursion (Agrees v w) (flat_map table.port_events ps) → AllByRecursion (Agrees w v) (flat_map table.port_events ps) → AllByRecursion IsSame (all_inputs ps)
   ports_same k [] from quiet still there back = tt
   ports_same k (p ∷ ps) from quiet still there back =
@@ -226,7 +226,7 @@ module _ (net : Netlist) (regs i v j w : Numbers) (one : Shows net regs i v) (tw
   inputs_same : (accepted : IsAccepted net) → AllByRecursion (Agrees v w) (table.all_events net) → AllByRecursion (Agrees w v) (table.all_events net)
       → (n : ℕ) (c : Cell) → slice_get net.cells n ≡ Some c → c.gate ≡ Input → at i n ≡ at j n
   inputs_same accepted there back n c is gate =
-      let all : All IsSame (all_inputs net.ports) = All-from_recursion IsSame (all_inputs net.ports) (ports_same 0 net.ports (from_first net accepted) one.in_range.1 two.in_range.1 there back) in
+      let all : All IsSame (all_inputs net.ports) = All-from_recursion IsSame (all_inputs net.ports) (ports_same 0 net.ports (from_first net accepted) one.clean.1 two.clean.1 there back) in
       elim (same_or_not (at i n) (at j n)) [
         | inl same ↦ same
         | inr differ ↦ absurd (accepted.ports.inputs n (c, is, gate, λ has. differ (All-contains IsSame (all_inputs net.ports) n all has)))
@@ -250,9 +250,9 @@ same_input w r i j (Reg a) v same = refl
 
 module _ (net : Netlist) (accepted : IsAccepted net) (regs : Numbers) where
   -- cycles with the same labels have the same values
-  pub one_settling : (i v j w : Numbers) (came : List Label) → Settling net.cells regs i v → IsInRange net i → Settling net.cells regs j w → IsInRange net j
+  pub one_settling : (i v j w : Numbers) (came : List Label) → Settling net.cells regs i v → IsClean net i → Settling net.cells regs j w → IsClean net j
       → AnyOrder came (inputs net v) → AnyOrder came (inputs net w) → v ≡ w
-  one_settling i v j w came settles range settled ranges order other =
+  one_settling i v j w came settles quiet settled still order other =
       acyclic_settles_once net.cells regs i v w accepted.acyclic settles
       (settled.0, λ n c is. settled.1 n c is ∙ same_input c.width (at regs n) (at i n) (at j n) c.gate (at w) (same n c is))
     where
@@ -267,5 +267,5 @@ module _ (net : Netlist) (accepted : IsAccepted net) (regs : Numbers) where
 
       same : (n : ℕ) (c : Cell) → slice_get net.cells n ≡ Some c → c.gate ≡ Input → at i n ≡ at j n
       same =
-          inputs_same net regs i v j w (record { settles = settles; in_range = range }) (record { settles = settled; in_range = ranges }) accepted
+          inputs_same net regs i v j w (record { settles = settles; clean = quiet }) (record { settles = settled; clean = still }) accepted
           (all_agree net accepted v w there) (all_agree net accepted w v back)

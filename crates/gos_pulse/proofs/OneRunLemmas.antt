@@ -6,33 +6,33 @@ use Rattle.gos_netlist.specs.Settling.{Numbers, RunFrom, Settling, next_register
 use Rattle.gos_netcheck.specs.Accepted.{IsAccepted}
 use Rattle.gos_model.specs.Labels.{Label}
 use Rattle.gos_pace.specs.Flattening.{outputs, inputs, AnyOrder}
-use Rattle.gos_pace.specs.RunProtocol.{IsInRange, InputsInRange}
+use Rattle.gos_pace.specs.Silence.{IsClean, InputsAreClean}
 use Rattle.gos_pulse.specs.declared.entries.Entry.{Entry}
 use Rattle.gos_pulse.specs.Driving.{TakesAll, BreaksAt, GivesIn, GoesBy, DrivesFrom, BreaksFrom, at_entries, next_entries}
 use Rattle.gos_pulse.specs.OneAnswer.{HasOneRun, DrivenIsNotBroken, BreaksOnce}
 use Rattle.gos_pulse.proofs.OneWayLemmas.{one_taking, one_giving, one_break, none_breaks}
 use Rattle.gos_pulse.proofs.OneCycleLemmas.{outputs_are_held, one_settling}
 
--- from these registers on the nets show these values, with some inputs in range
+-- from these registers on the nets show these values, with some clean inputs
 record Runs (net : Netlist) (regs : Numbers) (vs : List Numbers) : Type 0 where
   ins : List Numbers
   run : RunFrom net.cells regs ins vs
-  in_range : InputsInRange net ins
+  clean : InputsAreClean net ins
 
 -- its first cycle, and what comes after it
 record RunsOn (net : Netlist) (regs v : Numbers) (vs : List Numbers) : Type 0 where
   ins : Numbers
   settles : Settling net.cells regs ins v
-  in_range : IsInRange net ins
+  clean : IsClean net ins
   rest : Runs net (next_registers net.cells v) vs
 
-runs_on : (net : Netlist) (regs v : Numbers) (vs ins : List Numbers) → RunFrom net.cells regs ins (v ∷ vs) → InputsInRange net ins → RunsOn net regs v vs
-runs_on net regs v vs [] run range = absurd (cc run)
-runs_on net regs v vs (i ∷ is) run range =
-    record { ins = i; settles = run.0; in_range = range.0; rest = record { ins = is; run = run.1; in_range = range.1 } }
+runs_on : (net : Netlist) (regs v : Numbers) (vs ins : List Numbers) → RunFrom net.cells regs ins (v ∷ vs) → InputsAreClean net ins → RunsOn net regs v vs
+runs_on net regs v vs [] run clean = absurd (cc run)
+runs_on net regs v vs (i ∷ is) run clean =
+    record { ins = i; settles = run.0; clean = clean.0; rest = record { ins = is; run = run.1; clean = clean.1 } }
 
 first_cycle : (net : Netlist) (regs v : Numbers) (vs : List Numbers) → Runs net regs (v ∷ vs) → RunsOn net regs v vs
-first_cycle net regs v vs runs = runs_on net regs v vs runs.ins runs.run runs.in_range
+first_cycle net regs v vs runs = runs_on net regs v vs runs.ins runs.run runs.clean
 
 module _ (net : Netlist) (accepted : IsAccepted net) (file : List Entry) where
   -- two cycles from the same registers, and what came before them
@@ -53,7 +53,7 @@ module _ (net : Netlist) (accepted : IsAccepted net) (file : List Entry) where
         let given = one_giving net (reverse went.taken ++ (reverse (outputs net w) ++ past)) t since queue goes.given went.given last end rest others
         (subst (λ (ls : List Label). GivesIn net ls t since queue goes.given last rest) (λ i. reverse (taken i) ++ seen_same i) goes.gives) went.gives in
         let values : v ≡ w =
-        one_settling net accepted regs one.ins v two.ins w (went.taken ++ went.given) one.settles one.in_range two.settles two.in_range
+        one_settling net accepted regs one.ins v two.ins w (went.taken ++ went.given) one.settles one.clean two.settles two.clean
         (subst (λ (ls : List Label). AnyOrder ls (inputs net v)) (λ i. taken i ++ given.0 i) goes.inputs) went.inputs in
         (values, goes.after ∙ (λ i. reverse (taken i ++ given.0 i) ++ seen_same i) ∙ sym went.after, given.1, given.2)
 
@@ -148,16 +148,16 @@ module _ (net : Netlist) (accepted : IsAccepted net) (file : List Entry) where
   zeros = replicate (length net.cells) 0
 
   pub one_run : (cycles : ℕ) → HasOneRun net cycles file
-  one_run cycles run other unused left (ins, range, runs, long, drives) (given, ranges, ran, count, drove) =
+  one_run cycles run other unused left (ins, clean, runs, long, drives) (given, also_clean, ran, count, drove) =
       one_driving zeros [] 0 0 (next_entries file) run other unused left
-      (record { ins = ins; run = runs; in_range = range }) (record { ins = given; run = ran; in_range = ranges }) (long ∙ sym count) drives drove
+      (record { ins = ins; run = runs; clean = clean }) (record { ins = given; run = ran; clean = also_clean }) (long ∙ sym count) drives drove
 
   pub not_broken : (cycles : ℕ) → DrivenIsNotBroken net cycles file
-  not_broken cycles run unused cycle event (ins, range, runs, long, drives) (less, given, vs, ranges, ran, breaks) =
+  not_broken cycles run unused cycle event (ins, clean, runs, long, drives) (less, given, vs, also_clean, ran, breaks) =
       driven_not_broken zeros [] 0 0 (next_entries file) run vs unused cycle event
-      (record { ins = ins; run = runs; in_range = range }) (record { ins = given; run = ran; in_range = ranges }) (omega (arith, less, long)) drives breaks
+      (record { ins = ins; run = runs; clean = clean }) (record { ins = given; run = ran; clean = also_clean }) (omega (arith, less, long)) drives breaks
 
   pub breaks_once : (cycles : ℕ) → BreaksOnce net cycles file
-  breaks_once cycles cycle event other also (less, ins, vs, range, runs, breaks) (fewer, given, ws, ranges, ran, broke) =
+  breaks_once cycles cycle event other also (less, ins, vs, clean, runs, breaks) (fewer, given, ws, also_clean, ran, broke) =
       one_broken zeros [] 0 0 (next_entries file) vs ws cycle other event also
-      (record { ins = ins; run = runs; in_range = range }) (record { ins = given; run = ran; in_range = ranges }) breaks broke
+      (record { ins = ins; run = runs; clean = clean }) (record { ins = given; run = ran; clean = also_clean }) breaks broke

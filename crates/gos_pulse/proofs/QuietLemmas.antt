@@ -101,7 +101,7 @@ module _ (old new : Simulator) (file : List Entry) (past : List Label) (t since 
         values = v;
         came = cycle.came;
         settled = settles;
-        in_range = cycle.in_range;
+        clean = cycle.clean;
         registers = cycle.registers;
         newest = cycle.newest;
         goes = record {

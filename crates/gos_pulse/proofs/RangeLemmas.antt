@@ -1,4 +1,4 @@
--- The inputs that the pulses of a cycle give are in range.
+-- The inputs that the pulses of a cycle give are clean: in range, and each number is 0 without its pulse.
 use Rattle.std.proofs.Common.{◌≡◌, ◌<◌, ◌^◌, inl, inr, ℕ, suc, Bool, true, false, not, cond, List, [], ◌∷◌, ◌++◌, length, refl, pow_pos, sym, ap, subst, ◌∙◌, arith, Some, None, true≢false}
 use Rattle.std.specs.Prelude.{slice_get, filter, IsFalse, All}
 use Rattle.std.specs.List.{flat_map, AllByRecursion}
@@ -14,7 +14,7 @@ use Rattle.gos_netcheck.specs.PortRules as rules
 use Rattle.gos_netcheck.specs.Accepted.{IsAccepted}
 use Rattle.gos_model.specs.Labels.{Port, is_output_at}
 use Rattle.gos_pace.specs.Flattening.{port_of}
-use Rattle.gos_pace.specs.RunProtocol.{IsInRange, IsQuiet, IsQuietFrom}
+use Rattle.gos_pace.specs.Silence.{IsSilentFrom, AreSilent, IsClean}
 use Rattle.gos_sim.specs.declared.event_nets.EventNets.{EventNets}
 use Rattle.gos_sim.specs.declared.pulse.Pulse.{Pulse}
 use Rattle.gos_sim.specs.EventNets as table
@@ -115,7 +115,7 @@ module _ (cells : List Cell) (ins : Numbers) (k : ℕ) (side : Side) where
       let off : p.0.on ≡ false = bit_zero p.0.on (sym p.1.gives.0 ∙ none) in
       p.1.gives.1 ∙ p.1.quiet off
 
-  port_quiet : (port : Port) (n : ℕ) (es : List Event) (ns : List ℕ) → TurnsOut port side n es → FitRows cells side es ns → AllFed ins (port_events k side n es) (nets_from side es ns) → IsQuietFrom port n es ns ins
+  port_quiet : (port : Port) (n : ℕ) (es : List Event) (ns : List ℕ) → TurnsOut port side n es → FitRows cells side es ns → AllFed ins (port_events k side n es) (nets_from side es ns) → IsSilentFrom false port n es ns ins
   port_quiet port n [] ns out fit fed = tt
   port_quiet port n (Is way None ∷ es) [] out fit fed = tt
   port_quiet port n (Is way None ∷ es) (a ∷ ns) out fit fed = port_quiet port (suc n) es ns out.1 fit.1 fed.1
@@ -136,7 +136,7 @@ module _ (net : Netlist) (ins : Numbers) where
       (subst (AllByRecursion (IsSmall net.cells ins)) (sym has.inputs) here)
       (ports_small (suc k) ps (next_place net k p ps from) parts.1)
 
-  ports_quiet : (k : ℕ) (ps : List NetPort) → FromPlace net k ps → AllFed ins (events_from k ps) (flat_map table.port_events ps) → IsQuiet ps ins
+  ports_quiet : (k : ℕ) (ps : List NetPort) → FromPlace net k ps → AllFed ins (events_from k ps) (flat_map table.port_events ps) → AreSilent false ps ins
   ports_quiet k [] from fed = tt
   ports_quiet k (p ∷ ps) from fed =
       let has = (from 0 p refl).1 in
@@ -146,9 +146,9 @@ module _ (net : Netlist) (ins : Numbers) where
         ports_quiet (suc k) ps (next_place net k p ps from) parts.1,
       )
 
--- the inputs that pulses in range give are in range
-pub in_range : (net : Netlist) (ins : Numbers) (given : List Pulse) → IsAccepted net → length given ≡ length (inputs_of net) → GivesAll (input_events net) given ins → AreInRange (inputs_of net) given → IsInRange net ins
-in_range net ins given accepted count gives range =
+-- the inputs that pulses in range give are clean
+pub are_clean : (net : Netlist) (ins : Numbers) (given : List Pulse) → IsAccepted net → length given ≡ length (inputs_of net) → GivesAll (input_events net) given ins → AreInRange (inputs_of net) given → IsClean net ins
+are_clean net ins given accepted count gives range =
     let all : AllFed ins (events_of net) (table.all_events net) = all_fed net ins (events_of net) (table.all_events net) given (net_rows net accepted) (inputs_fed net ins given accepted count gives range) in
     let from = from_first net accepted in
     let smalls = All-from_recursion (IsSmall net.cells ins) (all_inputs net.ports) (ports_small net ins 0 net.ports from all) in
@@ -169,7 +169,7 @@ in_range net ins given accepted count gives range =
               ))
         ]
 
-quiet_at : (port : Port) (n : ℕ) (es : List Event) (ns : List ℕ) → IsQuietFrom port n es ns []
+quiet_at : (port : Port) (n : ℕ) (es : List Event) (ns : List ℕ) → IsSilentFrom false port n es ns []
 quiet_at port n [] ns = tt
 quiet_at port n (Is way None ∷ es) [] = tt
 quiet_at port n (Is way None ∷ es) (a ∷ ns) = quiet_at port (suc n) es ns
@@ -177,10 +177,10 @@ quiet_at port n (Is way (Some b) ∷ es) [] = tt
 quiet_at port n (Is way (Some b) ∷ es) (a ∷ []) = tt
 quiet_at port n (Is way (Some b) ∷ es) (a ∷ x ∷ ns) = (λ _ _. refl, quiet_at port (suc n) es ns)
 
-quiet_ports : (ps : List NetPort) → IsQuiet ps []
+quiet_ports : (ps : List NetPort) → AreSilent false ps []
 quiet_ports [] = tt
 quiet_ports (p ∷ ps) = (quiet_at (port_of p.side p.name) 0 (events p.ty) p.nets, quiet_ports ps)
 
--- inputs that are all 0 are in range
-pub none_in_range : (net : Netlist) → IsInRange net []
-none_in_range net = (λ n c is gate. pow_pos c.width, quiet_ports net.ports)
+-- inputs that are all 0 are clean
+pub none_are_clean : (net : Netlist) → IsClean net []
+none_are_clean net = (λ n c is gate. pow_pos c.width, quiet_ports net.ports)

@@ -9,7 +9,7 @@ use Rattle.gos_netlist.specs.Events.{events_of}
 use Rattle.gos_netlist.specs.Settling.{Numbers, RunFrom}
 use Rattle.gos_model.specs.Labels.{Label}
 use Rattle.gos_pace.specs.Flattening.{inputs, outputs}
-use Rattle.gos_pace.specs.RunProtocol.{InputsInRange}
+use Rattle.gos_pace.specs.Silence.{InputsAreClean}
 use Rattle.gos_sim.specs.Cycle.{Simulator, at_reset}
 use Rattle.gos_pulse.specs.declared.board.Board.{Board}
 use Rattle.gos_pulse.specs.declared.entries.Entry.{Entry}
@@ -29,7 +29,7 @@ pub record IsDrivenTo (net : Netlist) (file : List Entry) (t since : ℕ) (queue
   pub run : List Numbers
   pub ins : List Numbers
   pub long : length run ≡ t
-  pub in_range : (more : List Numbers) → InputsInRange net more → InputsInRange net (ins ++ more)
+  pub clean : (more : List Numbers) → InputsAreClean net more → InputsAreClean net (ins ++ more)
   pub runs : (is vs : List Numbers) → RunFrom net.cells registers is vs → RunFrom net.cells (replicate (length net.cells) 0) (ins ++ is) (run ++ vs)
   pub drives : (vs : List Numbers) (unused : ℕ) → DrivesFrom net file past t since queue vs unused → DrivesFrom net file [] 0 0 (next_entries file) (run ++ vs) unused
   pub breaks : (vs : List Numbers) (cycle event : ℕ) → BreaksFrom net file past t since queue vs cycle event → BreaksFrom net file [] 0 0 (next_entries file) (run ++ vs) cycle event
@@ -42,7 +42,7 @@ not_begun net file registers reset =
       run = [];
       ins = [];
       long = refl;
-      in_range = λ more h. h;
+      clean = λ more h. h;
       runs = λ is vs h. subst (λ (r : Numbers). RunFrom net.cells r is vs) reset h;
       drives = λ vs unused h. h;
       breaks = λ vs cycle event h. h;
@@ -71,7 +71,7 @@ driven_more old new file t since queue past lines lines1 last rest board so_far 
       run = so_far.run ++ v ∷ [];
       ins = so_far.ins ++ i ∷ [];
       long = omega (arith, length-append so_far.run (v ∷ []), so_far.long);
-      in_range = λ more h. subst (InputsInRange net) (sym (moved so_far.ins more i)) (so_far.in_range (i ∷ more) (cycle.in_range, h));
+      clean = λ more h. subst (InputsAreClean net) (sym (moved so_far.ins more i)) (so_far.clean (i ∷ more) (cycle.clean, h));
       runs = λ is vs h.
           subst (λ (js : List Numbers). RunFrom net.cells (replicate (length net.cells) 0) js ((so_far.run ++ v ∷ []) ++ vs)) (sym (moved so_far.ins is i))
           (subst (RunFrom net.cells (replicate (length net.cells) 0) (so_far.ins ++ i ∷ is)) (sym (moved so_far.run vs v))
@@ -103,7 +103,7 @@ all_driven net file cycles since queue past registers lines trace so_far count s
       run = so_far.run;
       driven = (
         so_far.ins,
-        subst (InputsInRange net) (append-nil so_far.ins) (so_far.in_range [] tt),
+        subst (InputsAreClean net) (append-nil so_far.ins) (so_far.clean [] tt),
         subst (λ (is : List Numbers). RunFrom net.cells (replicate (length net.cells) 0) is so_far.run) (append-nil so_far.ins)
             (subst (RunFrom net.cells (replicate (length net.cells) 0) (so_far.ins ++ [])) (append-nil so_far.run) runs),
         so_far.long,
@@ -123,7 +123,7 @@ run_broken old file cycles t since queue past lines event so_far breaks less = (
   less,
   so_far.ins ++ breaks.ins ∷ [],
   so_far.run ++ breaks.values ∷ [],
-  so_far.in_range (breaks.ins ∷ []) (breaks.in_range, tt),
+  so_far.clean (breaks.ins ∷ []) (breaks.clean, tt),
   so_far.runs (breaks.ins ∷ []) (breaks.values ∷ []) (breaks.settled, refl),
   so_far.breaks (breaks.values ∷ []) t event (refl, breaks.breaks),
 )

@@ -1,6 +1,6 @@
 -- A run of a netlist under a pulse file.
 --
--- Read first: Entries; Flattening and RunProtocol of gos_pace. In each cycle the outputs are seen first. Then all `at`
+-- Read first: Entries; Flattening, RunProtocol and Silence of gos_pace. In each cycle the outputs are seen first. Then all `at`
 -- entries of the cycle are taken, in the file's order: the run ends at the first of them that the protocol doesn't
 -- allow. Then the first `next` entry that is not given yet is looked at. It is given in this cycle where its distance
 -- has passed since the cycle of the `next` entry given before it, or since cycle 0, and where the protocol allows it.
@@ -13,7 +13,8 @@ use Rattle.gos_netlist.specs.Settling.{Numbers, IsRun}
 use Rattle.gos_model.specs.Labels.{Label}
 use Rattle.gos_pace.specs.Flattening.{port_of, outputs, inputs, AnyOrder}
 use Rattle.gos_model.specs.Protocol.{Allowed}
-use Rattle.gos_pace.specs.RunProtocol.{taken_by, InputsInRange}
+use Rattle.gos_pace.specs.RunProtocol.{taken_by}
+use Rattle.gos_pace.specs.Silence.{InputsAreClean}
 use Rattle.gos_pulse.specs.declared.entries.Entry.{Entry}
 use Rattle.gos_pulse.specs.declared.fault.PulseFault.{PulseFault}
 use Rattle.gos_pulse.specs.declared.fault.PulseFault.TheVariants as faults
@@ -94,7 +95,7 @@ DrivesFrom net file past t since queue (v ∷ vs) unused =
 -- the run of the netlist from reset, of so many cycles, under these entries, of which so many are never given
 abbrev pub IsDriven : Netlist → ℕ → List Entry → List Numbers → ℕ → Type 0
 IsDriven net cycles file vs unused =
-    (ins : List Numbers) × InputsInRange net ins × IsRun net.cells ins vs × (length vs ≡ cycles)
+    (ins : List Numbers) × InputsAreClean net ins × IsRun net.cells ins vs × (length vs ≡ cycles)
     × DrivesFrom net file [] 0 0 (next_entries file) vs unused
 
 -- From cycle t on, all goes by the file up to this cycle, in which the first `at` entry that breaks the protocol
@@ -111,7 +112,7 @@ BreaksFrom net file past t since queue (v ∷ w ∷ vs) cycle event =
 -- the run is broken in this cycle, which is one of its first `cycles`, by an entry of this event
 abbrev pub IsBroken : Netlist → ℕ → List Entry → ℕ → ℕ → Type 0
 IsBroken net cycles file cycle event =
-    (cycle < cycles) × (ins : List Numbers) × (vs : List Numbers) × InputsInRange net ins × IsRun net.cells ins vs
+    (cycle < cycles) × (ins : List Numbers) × (vs : List Numbers) × InputsAreClean net ins × IsRun net.cells ins vs
     × BreaksFrom net file [] 0 0 (next_entries file) vs cycle event
 
 -- the fault is that the run is broken

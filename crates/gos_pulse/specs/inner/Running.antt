@@ -6,7 +6,7 @@ use Rattle.gos_netlist.specs.Settling.{Numbers, Settling, next_registers}
 use Rattle.gos_netcheck.specs.Accepted.{IsAccepted}
 use Rattle.gos_model.specs.Labels.{Label}
 use Rattle.gos_pace.specs.Flattening.{inputs, outputs}
-use Rattle.gos_pace.specs.RunProtocol.{IsInRange}
+use Rattle.gos_pace.specs.Silence.{IsClean}
 use Rattle.gos_sim.specs.Cycle.{Simulator}
 use Rattle.gos_pulse.specs.declared.agenda.Agenda.{Agenda}
 use Rattle.gos_pulse.specs.declared.board.Board.{Board}
@@ -36,7 +36,7 @@ pub record RunsCycle (old : Simulator) (file : List Entry) (past : List Label) (
   pub values : Numbers
   pub came : List Label
   pub settled : Settling old.net.cells old.registers ins values
-  pub in_range : IsInRange old.net ins
+  pub clean : IsClean old.net ins
   pub registers : new.registers ≡ next_registers old.net.cells values
   pub newest : take 1 new.settlings ≡ values ∷ []
   pub goes : GoesBy old.net file past t since queue values came last rest
@@ -50,5 +50,5 @@ pub record BreaksCycle (old : Simulator) (file : List Entry) (past : List Label)
   pub ins : Numbers
   pub values : Numbers
   pub settled : Settling old.net.cells old.registers ins values
-  pub in_range : IsInRange old.net ins
+  pub clean : IsClean old.net ins
   pub breaks : BreaksAt old.net (reverse (outputs old.net values) ++ past) (at_entries t file) event
