@@ -13,7 +13,8 @@ abbrev pub caller : Netlist
 caller =
     record {
       cells = bit Input ∷ bit Input ∷ bit (Reg 0) ∷ bit (Reg 1) ∷ [];
-      ports = record { name = codes "main"; side = Give; ty = Com; nets = 0 ∷ 3 ∷ [] } ∷ record { name = codes "c"; side = Take; ty = Com; nets = 2 ∷ 1 ∷ [] } ∷ [];
+      ports = record { name = codes "main"; side = Give; ty = Com; nets = 0 ∷ 3 ∷ [] }
+          ∷ record { name = codes "c"; side = Take; ty = Com; nets = 2 ∷ 1 ∷ [] } ∷ [];
     }
 
 -- a module with its ports and nets, in which cells 0 and 1 read nets of these names, and its outputs are the nets of
