@@ -7,14 +7,14 @@ use Rattle.gos_netlist.specs.Settling.{Numbers, at, next_of, shown, Settling}
 use Rattle.gos_verilog.specs.PortNets.{PortNet, port_nets}
 use Rattle.gos_verilog.specs.Lines.{assignment, cell_declarations, cell_net, clock_declarations, declaration, driver_of, kind_word, output_assignment}
 use Rattle.gos_verilog.specs.VerilogText.{AreDrivers, IsFed, IsItsNet, declarations, first_name, outputs}
-use Rattle.gos_verilog.specs.Expressions.{BitAnd, BitOr, BitXor, Plus, Minus, Equal, Below, Expression, OfPort, OfCell, Literal, Turned, Signed, Choice, ports_read, value}
-use Rattle.gos_verilog.specs.Meaning.{Line, Drives, Clocks, Assigns, Module, DeclaredPort, DeclaredNet, net_word, nets_text, line_text, port_text, module_text, IsDeclared, UsesPorts, PortValues, bits_at, MeetsLine, MeetsAll, SetsLine, SetsAll, SelectorIsBit, is_clocked, port_declared, cell_declared, GivesInput, ShowsOutput, Means, TextsMean}
+use Rattle.gos_verilog.specs.Expressions.{BitAnd, BitOr, BitXor, Plus, Minus, Equal, Below, Expression, OfPort, OfCell, Literal, Turned, Signed, Choice, Plain, operands, value}
+use Rattle.gos_verilog.specs.Meaning.{Line, Drives, Clocks, Assigns, Module, DeclaredPort, DeclaredNet, net_word, nets_text, line_text, port_text, module_text, IsDeclared, ReadsInput, UsesPorts, PortValues, bits_at, MeetsLine, MeetsAll, SetsLine, SetsAll, SelectorIsBit, is_clocked, port_declared, cell_declared, GivesInput, ShowsOutput, Means, TextsMean}
 use Rattle.gos_verilog.proofs.OneTextLemmas.{get_all}
 
 -- the expression of a cell of w bits; that of an Input is the net of a port that is named `source`
 abbrev pub expression_of : ℕ → List ℕ → Function → Expression
-expression_of w source Input = OfPort source
-expression_of w source (Const k) = Literal w k
+expression_of w source Input = Plain (OfPort source)
+expression_of w source (Const k) = Plain (Literal w k)
 expression_of w source (Not a) = Turned (OfCell a)
 expression_of w source (And a b) = Signed BitAnd (OfCell a) (OfCell b)
 expression_of w source (Or a b) = Signed BitOr (OfCell a) (OfCell b)
@@ -25,7 +25,7 @@ expression_of w source (Sub a b) = Signed Minus (OfCell a) (OfCell b)
 expression_of w source (Eq a b) = Signed Equal (OfCell a) (OfCell b)
 expression_of w source (Less a b) = Signed Below (OfCell a) (OfCell b)
 expression_of w source (Gate s a) = Choice (OfCell s) (OfCell a) (Literal w 0)
-expression_of w source (Reg a) = OfCell a
+expression_of w source (Reg a) = Plain (OfCell a)
 
 -- the line of cell i
 abbrev pub line_of : ℕ → ℕ → List ℕ → Function → Line
@@ -171,14 +171,19 @@ declared_at [] k n is = absurd (cc is)
 declared_at (m ∷ ns) zero n is = let same : m ≡ n = cc is in inl (ap (λ (p : PortNet). p.name) same, ap (λ (p : PortNet). p.input) same)
 declared_at (m ∷ ns) (suc k) n is = inr (declared_at ns k n is)
 
-reads_inputs : (ports : List DeclaredPort) (w : ℕ) (source : List ℕ) (f : Function) → (f ≡ Input → IsDeclared ports true source) → AllByRecursion (IsDeclared ports true) (ports_read (expression_of w source f))
+reads_inputs : (ports : List DeclaredPort) (w : ℕ) (source : List ℕ) (f : Function) → (f ≡ Input → IsDeclared ports true source) → AllByRecursion (ReadsInput ports) (operands (expression_of w source f))
 reads_inputs ports w source Input fed = (fed refl, tt)
-reads_inputs ports w source f fed = tt
+reads_inputs ports w source (Const k) fed = (tt, tt)
+reads_inputs ports w source (Not a) fed = (tt, tt)
+reads_inputs ports w source (Mux s a b) fed = (tt, (tt, (tt, tt)))
+reads_inputs ports w source (Gate s a) fed = (tt, (tt, (tt, tt)))
+reads_inputs ports w source (Reg a) fed = (tt, tt)
+reads_inputs ports w source f fed = (tt, (tt, tt))
 
 uses_cell : (ports : List DeclaredPort) (i w : ℕ) (source : List ℕ) (f : Function) → (f ≡ Input → IsDeclared ports true source) → UsesPorts ports (line_of i w source f)
 uses_cell ports i w source f fed = by (is_clocked f) (reads_inputs ports w source f fed)
   where
-    by : (b : Bool) → AllByRecursion (IsDeclared ports true) (ports_read (expression_of w source f)) → UsesPorts ports (if b then Clocks i w (expression_of w source f) else Drives i (expression_of w source f))
+    by : (b : Bool) → AllByRecursion (ReadsInput ports) (operands (expression_of w source f)) → UsesPorts ports (if b then Clocks i w (expression_of w source f) else Drives i (expression_of w source f))
     by true reads = reads
     by false reads = reads
 

@@ -11,14 +11,19 @@ use Rattle.gos_verilog.specs.Lines.{cell_net, literal}
 pub data Sign : Type 0 where
   BitAnd BitOr BitXor Plus Minus Equal Below : Sign
 
--- an expression: a net of a port, the net of a cell, a literal, all bits turned, a sign between two, a choice
+-- an operand: a net of a port, the net of a cell, a literal
+pub data Operand : Type 0 where
+  OfPort : (name : List ℕ) → Operand
+  OfCell : (n : ℕ) → Operand
+  Literal : (w k : ℕ) → Operand
+
+-- An expression: an operand, all its bits turned, a sign between two, a choice. Operands have no signs of their own, so
+-- no rule is needed of which sign binds first.
 pub data Expression : Type 0 where
-  OfPort : (name : List ℕ) → Expression
-  OfCell : (n : ℕ) → Expression
-  Literal : (w k : ℕ) → Expression
-  Turned : (e : Expression) → Expression
-  Signed : (sign : Sign) (e f : Expression) → Expression
-  Choice : (c e f : Expression) → Expression
+  Plain : (a : Operand) → Expression
+  Turned : (a : Operand) → Expression
+  Signed : (sign : Sign) (a b : Operand) → Expression
+  Choice : (c a b : Operand) → Expression
 
 abbrev pub sign_text : Sign → List ℕ
 sign_text BitAnd = codes "&"
@@ -29,23 +34,24 @@ sign_text Minus = codes "-"
 sign_text Equal = codes "=="
 sign_text Below = codes "<"
 
--- how it is written
-abbrev pub expression_text : Expression → List ℕ
-expression_text (OfPort name) = name
-expression_text (OfCell n) = cell_net n
-expression_text (Literal w k) = literal w k
-expression_text (Turned e) = codes "~" ++ expression_text e
-expression_text (Signed sign e f) = expression_text e ++ codes " " ++ sign_text sign ++ codes " " ++ expression_text f
-expression_text (Choice c e f) = expression_text c ++ codes " ? " ++ expression_text e ++ codes " : " ++ expression_text f
+-- how they are written
+abbrev pub operand_text : Operand → List ℕ
+operand_text (OfPort name) = name
+operand_text (OfCell n) = cell_net n
+operand_text (Literal w k) = literal w k
 
--- the nets of ports that it reads
-abbrev pub ports_read : Expression → List (List ℕ)
-ports_read (OfPort name) = name ∷ []
-ports_read (OfCell n) = []
-ports_read (Literal w k) = []
-ports_read (Turned e) = ports_read e
-ports_read (Signed sign e f) = ports_read e ++ ports_read f
-ports_read (Choice c e f) = ports_read c ++ ports_read e ++ ports_read f
+abbrev pub expression_text : Expression → List ℕ
+expression_text (Plain a) = operand_text a
+expression_text (Turned a) = codes "~" ++ operand_text a
+expression_text (Signed sign a b) = operand_text a ++ codes " " ++ sign_text sign ++ codes " " ++ operand_text b
+expression_text (Choice c a b) = operand_text c ++ codes " ? " ++ operand_text a ++ codes " : " ++ operand_text b
+
+-- the operands of an expression
+abbrev pub operands : Expression → List Operand
+operands (Plain a) = a ∷ []
+operands (Turned a) = a ∷ []
+operands (Signed sign a b) = a ∷ b ∷ []
+operands (Choice c a b) = c ∷ a ∷ b ∷ []
 
 -- what a sign makes of two numbers, at w bits
 abbrev pub result : ℕ → Sign → ℕ → ℕ → ℕ
@@ -57,11 +63,15 @@ result w Minus a b = (a + 2 ^ w - b) % 2 ^ w
 result w Equal a b = if nat_eq a b then 1 else 0
 result w Below a b = if nat_lt a b then 1 else 0
 
--- what it is, assigned to a net of w bits, by the nets of ports and the nets of cells
+-- what an operand is, by the nets of ports and the nets of cells
+abbrev pub operand_value : (List ℕ → ℕ) → (ℕ → ℕ) → Operand → ℕ
+operand_value ports nets (OfPort name) = ports name
+operand_value ports nets (OfCell n) = nets n
+operand_value ports nets (Literal w k) = k
+
+-- what an expression is, assigned to a net of w bits
 abbrev pub value : ℕ → (List ℕ → ℕ) → (ℕ → ℕ) → Expression → ℕ
-value w ports nets (OfPort name) = ports name
-value w ports nets (OfCell n) = nets n
-value w ports nets (Literal v k) = k
-value w ports nets (Turned e) = 2 ^ w - 1 - value w ports nets e
-value w ports nets (Signed sign e f) = result w sign (value w ports nets e) (value w ports nets f)
-value w ports nets (Choice c e f) = if nat_eq (value w ports nets c) 0 then value w ports nets f else value w ports nets e
+value w ports nets (Plain a) = operand_value ports nets a
+value w ports nets (Turned a) = 2 ^ w - 1 - operand_value ports nets a
+value w ports nets (Signed sign a b) = result w sign (operand_value ports nets a) (operand_value ports nets b)
+value w ports nets (Choice c a b) = if nat_eq (operand_value ports nets c) 0 then operand_value ports nets b else operand_value ports nets a

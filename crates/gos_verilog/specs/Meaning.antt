@@ -9,7 +9,7 @@ use Rattle.gos_netlist.specs.Settling.{Numbers, at, next_of, Settling}
 use Rattle.gos_verilog.specs.PortNets.{PortNet, port_nets}
 use Rattle.gos_verilog.specs.Lines.{assignment, cell_net, clock_declarations, declaration, direction_word, register}
 use Rattle.gos_verilog.specs.VerilogText.{first_name, IsVerilogOf}
-use Rattle.gos_verilog.specs.Expressions.{Expression, expression_text, ports_read, value}
+use Rattle.gos_verilog.specs.Expressions.{Operand, OfPort, Expression, expression_text, operands, value}
 
 -- a net of a port as it is declared: its name, whether it is an input of the module, and its bits
 pub record DeclaredPort : Type 0 where
@@ -63,10 +63,15 @@ abbrev pub IsDeclared : List DeclaredPort → Bool → List ℕ → Type 0
 IsDeclared [] input name = ⊥
 IsDeclared (p ∷ ports) input name = ((p.name ≡ name) × (p.input ≡ input)) ⊎ IsDeclared ports input name
 
+-- where an operand is a net of a port, it is an input
+abbrev pub ReadsInput : List DeclaredPort → Operand → Type 0
+ReadsInput ports (OfPort name) = IsDeclared ports true name
+ReadsInput ports a = Unit {0}
+
 -- of the nets of ports a line reads inputs alone, and assigns outputs alone
 abbrev pub UsesPorts : List DeclaredPort → Line → Type 0
-UsesPorts ports (Drives n e) = AllByRecursion (IsDeclared ports true) (ports_read e)
-UsesPorts ports (Clocks n w e) = AllByRecursion (IsDeclared ports true) (ports_read e)
+UsesPorts ports (Drives n e) = AllByRecursion (ReadsInput ports) (operands e)
+UsesPorts ports (Clocks n w e) = AllByRecursion (ReadsInput ports) (operands e)
 UsesPorts ports (Assigns name n) = IsDeclared ports false name
 
 -- what the nets of ports show in a cycle, by their names

@@ -5,7 +5,7 @@ use Rattle.std.specs.Prelude.{ℕ, true, false, List, [], ◌∷◌, codes}
 use Rattle.gos_types.specs.Types.{Com}
 use Rattle.gos_netlist.specs.Nets.{Netlist, Input, Reg, Give, Take}
 use Rattle.gos_netlist.specs.SmallNets.{bit}
-use Rattle.gos_verilog.specs.Expressions.{OfPort, OfCell}
+use Rattle.gos_verilog.specs.Expressions.{OfPort, OfCell, Plain}
 use Rattle.gos_verilog.specs.Meaning.{Module, Drives, Clocks, Assigns, Means}
 
 -- the circuit of `import c : com; c`: a cycle after it is run it runs c, and a cycle after c is done it is done
@@ -27,7 +27,7 @@ calling first second done run =
           ∷ record { name = codes "c__run"; input = false; width = 1 } ∷ record { name = codes "c__done"; input = true; width = 1 } ∷ [];
       nets = record { clocked = false; width = 1 } ∷ record { clocked = false; width = 1 } ∷ record { clocked = true; width = 1 }
           ∷ record { clocked = true; width = 1 } ∷ [];
-      lines = Drives 0 (OfPort first) ∷ Drives 1 (OfPort second) ∷ Clocks 2 1 (OfCell 0) ∷ Clocks 3 1 (OfCell 1)
+      lines = Drives 0 (Plain (OfPort first)) ∷ Drives 1 (Plain (OfPort second)) ∷ Clocks 2 1 (Plain (OfCell 0)) ∷ Clocks 3 1 (Plain (OfCell 1))
           ∷ Assigns (codes "main__done") done ∷ Assigns (codes "c__run") run ∷ [];
     }
 
