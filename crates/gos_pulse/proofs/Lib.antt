@@ -18,6 +18,7 @@ mod CycleLemmas
 mod RunLemmas
 mod QuietLemmas
 mod GiveLemmas
+mod SilenceLemmas
 mod OneEventLemmas
 mod OneFileLemmas
 mod OneWayLemmas

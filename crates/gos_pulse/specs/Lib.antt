@@ -7,4 +7,5 @@ pub mod Guarding
 pub mod Driving
 pub mod Traced
 pub mod OneAnswer
+pub mod Silence
 pub mod inner

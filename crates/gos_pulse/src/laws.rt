@@ -1,8 +1,9 @@
-// The law of pulse files and of driven runs: each has one answer at most.
+// The laws of pulse files and of driven runs: each has one answer at most, and runs go on.
 ghost use Rattle.std.specs.Prelude.{ℕ, List};
 ghost use Rattle.gos_netlist.specs.Nets.{Netlist};
 ghost use Rattle.gos_netcheck.specs.Accepted.{IsAccepted};
 ghost use Rattle.gos_pulse.specs.declared.entries.Entry.{Entry};
+ghost use Rattle.gos_pulse.specs.Silence.{NothingIsARun, SilenceIsARun};
 ghost use Rattle.gos_pulse.specs.OneAnswer.{
   IsOneFile,
   FilesAreNotRefused,
@@ -23,4 +24,11 @@ pub fn one_answer()
     ensures trace { (net : Netlist) (cycles : ℕ) (file : List Entry) → IsAccepted net → HasOneTrace net cycles file }
     ensures driven { (net : Netlist) (cycles : ℕ) (file : List Entry) → IsAccepted net → DrivenIsNotBroken net cycles file }
     ensures broken { (net : Netlist) (cycles : ℕ) (file : List Entry) → IsAccepted net → BreaksOnce net cycles file }
+{}
+
+/// A netlist that is accepted has runs of every length whose inputs are in range and keep the protocol: behind each such
+/// run there may come a cycle without inputs.
+pub fn runs_go_on()
+    ensures nothing { (net : Netlist) → NothingIsARun net }
+    ensures silence { (net : Netlist) → IsAccepted net → SilenceIsARun net }
 {}

@@ -4,8 +4,8 @@
 // trace says which pulses the run had: `print_trace`. `Guard` tells of each input whether the protocol allows it now.
 //
 // Read `entries.rt` first. What a pulse file says stands in specs/PulseFile.antt, what a run under it is in
-// specs/Driving.antt, and what its trace is in specs/Traced.antt. That each of these has one answer at most is the law
-// of `laws.rt`.
+// specs/Driving.antt, and what its trace is in specs/Traced.antt. That each of these has one answer at most is a law of
+// `laws.rt`, and so is that each run goes on, in specs/Silence.antt.
 //
 // Inside, the driver keeps a `Board` (`board.rt`): the guard, and the pulses of a cycle. `agenda.rt` has the `at`
 // entries by their cycles, `queue.rt` the `next` entries that wait, and `lines.rt` the lines that a cycle adds
@@ -17,7 +17,7 @@ pub use entries::{Entry, Pulses};
 pub use event_names::name_of_number;
 pub use fault::PulseFault;
 pub use guard::Guard;
-pub use laws::one_answer;
+pub use laws::{one_answer, runs_go_on};
 pub use reading::read_pulses;
 pub use trace::{Trace, TraceLine, print_trace};
 

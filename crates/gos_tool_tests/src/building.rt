@@ -65,8 +65,9 @@ fn sequence_is_built_and_traced(rt: HostRuntime) -> Result<(), Fail> {
     Ok(())
 }
 
-// Sources and pulses, and of each build the line and the pulses in their order.
-const GROUND: [(&str, &str, &str, &str); 5] = [
+// Sources and pulses, and of each build the line and the pulses in their order. A local variable is 0 at each entry; a
+// branch runs beside one that never ends, and beside one that waits.
+const GROUND: [(&str, &str, &str, &str); 7] = [
     (
         "export skip : com",
         "cycles 1000\nnext 0 main.run\n",
@@ -81,9 +82,9 @@ const GROUND: [(&str, &str, &str, &str); 5] = [
     ),
     (
         "import c : com export new x : 1 in while !x = 0:1 do (x := 1:1 ; c) : com",
-        "cycles 9000\nnext 0 main.run\nnext 0 c.done\n",
-        "ok weight 58 cycles 9000 pulses 4 unused 0\n",
-        "main.run\nc.run\nc.done\nmain.done\ncycles 9000\n",
+        "cycles 999\nnext 0 main.run\nnext 0 c.done\nnext 0 main.run\nnext 0 c.done\n",
+        "ok weight 58 cycles 999 pulses 8 unused 0\n",
+        "main.run\nc.run\nc.done\nmain.done\nmain.run\nc.run\nc.done\nmain.done\ncycles 999\n",
     ),
     (
         "export 255:8 + 1:8 : exp 8",
@@ -96,6 +97,18 @@ const GROUND: [(&str, &str, &str, &str); 5] = [
         "cycles 1000\nnext 0 main.run\n",
         "ok weight 15 cycles 1000 pulses 1 unused 0\n",
         "main.run\ncycles 1000\n",
+    ),
+    (
+        "import d : com export (while 1:1 do skip) || d : com",
+        "cycles 1000\nnext 0 main.run\nnext 0 d.done\n",
+        "ok weight 26 cycles 1000 pulses 3 unused 0\n",
+        "main.run\nd.run\nd.done\ncycles 1000\n",
+    ),
+    (
+        "import c : com import d : com export c || d : com",
+        "cycles 1000\nnext 0 main.run\nnext 0 d.done\n",
+        "ok weight 17 cycles 1000 pulses 4 unused 0\n",
+        "main.run\nc.run\nd.run\nd.done\ncycles 1000\n",
     ),
 ];
 

@@ -12,6 +12,7 @@ pub mod InputLemmas
 pub mod PortLemmas
 pub mod OneTextLemmas
 pub mod MeaningLemmas
+pub mod SmallMeaningLemmas
 pub mod NumberLemmas
 pub mod ListLemmas
 pub mod RestLemmas

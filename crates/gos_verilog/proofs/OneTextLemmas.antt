@@ -1,4 +1,4 @@
--- A Verilog text is that of one accepted netlist at most, and an accepted netlist has one text at most.
+-- A Verilog text is that of one netlist at most, and a netlist has one text at most.
 use Rattle.std.proofs.Common.{◌≡◌, inl, inr, ℕ, zero, suc, ◌+◌, ◌^◌, ◌<◌, ◌≤◌, Bool, true, false, if◌then◌else◌, List, [], ◌∷◌, ◌++◌, get_or, Some, refl, sym, ◌∙◌, ap, subst, arith, slice_get, append_assoc, codes}
 use Rattle.std.specs.List.{AllByRecursion, flat_map}
 use Rattle.std.proofs.lemmas.Bool.{cases_lt}
@@ -286,14 +286,14 @@ pub no_source : (i w : ℕ) (s t : List ℕ) (f : Function) → (f ≡ Input →
 no_source i w s t Input same = ap (λ source. driver_of i w source Input) (same refl)
 no_source i w s t f same = refl
 
-pub one_source : (ns : List PortNet) (i : ℕ) (c : Cell) (s t : List ℕ) → AreApart (input_cells ns) → IsFed IsItsNet ns i c s → IsFed IsItsNet ns i c t → s ≡ t
+one_source : (ns : List PortNet) (i : ℕ) (c : Cell) (s t : List ℕ) → HaveOwnCells ns → IsFed IsItsNet ns i c s → IsFed IsItsNet ns i c t → s ≡ t
 one_source ns i c s t apart one other =
-    let here = inputs.one_place ns one.0 other.0 one.1 other.1 apart one.2 other.2 one.3 other.3 (one.4 ∙ sym other.4) in
+    let here = apart one.0 other.0 one.1 other.1 one.2 other.2 one.3 other.3 (one.4 ∙ sym other.4) in
     let is : slice_get ns other.0 ≡ Some one.1 = subst (λ (n : ℕ). slice_get ns n ≡ Some one.1) here one.2 in
     let same : one.1 ≡ other.1 = let found : Some one.1 ≡ Some other.1 = sym is ∙ other.2 in cc found in
     one.5 ∙ (ap (λ (p : PortNet). p.name) same ∙ sym other.5)
 
-pub drivers_same : (ns : List PortNet) (i : ℕ) (cells : List Cell) (one other : List ℕ) → AreApart (input_cells ns) → AreDrivers IsItsNet ns i cells one → AreDrivers IsItsNet ns i cells other → one ≡ other
+drivers_same : (ns : List PortNet) (i : ℕ) (cells : List Cell) (one other : List ℕ) → HaveOwnCells ns → AreDrivers IsItsNet ns i cells one → AreDrivers IsItsNet ns i cells other → one ≡ other
 drivers_same ns i [] one other apart are_one are_other = are_one ∙ sym are_other
 drivers_same ns i (c ∷ cells) one other apart are_one are_other =
     let line = no_source i c.width are_one.0 are_other.0 c.gate (λ gate. one_source ns i c are_one.0 are_other.0 apart (are_one.2 gate) (are_other.2 gate)) in
@@ -301,8 +301,13 @@ drivers_same ns i (c ∷ cells) one other apart are_one are_other =
     are_one.4 ∙ ((λ j. line j ++ rest j) ∙ sym are_other.4)
 
 -- two texts of one netlist
-pub has_one_text : (net : Netlist) → HasOneText net
-has_one_text net text other accepted (drivers, are, is) (drivers_other, are_other, is_other) =
-    let apart = inputs_apart net.ports (λ k p got. (accepted.ports.each k p got).inputs) in
+one_text : (net : Netlist) → HaveOwnCells (port_nets net.ports) → HasOneText net
+one_text net apart text other (drivers, are, is) (drivers_other, are_other, is_other) =
     let same = drivers_same (port_nets net.ports) 0 net.cells drivers drivers_other apart are are_other in
     is ∙ (ap (λ lines. declarations net ++ lines ++ outputs net) same ∙ sym is_other)
+
+pub accepted_text : (net : Netlist) → IsAccepted net → HasOneText net
+accepted_text net accepted = one_text net (accepted_own net accepted)
+
+pub readable_text : (net : Netlist) → IsReadable net → HasOneText net
+readable_text net readable = one_text net (readable_own net readable)

@@ -1,4 +1,4 @@
--- A text of a netlist, from stage to stage of the reader; and that such a netlist has one text at most.
+-- A text of a netlist, from stage to stage of the reader.
 use Rattle.std.proofs.Common.{◌≡◌, ℕ, zero, suc, ◌+◌, ◌<◌, true, List, [], ◌∷◌, ◌++◌, length, map, Some, refl, sym, ◌∙◌, ap, subst, arith, slice_get, append_assoc}
 use Rattle.std.specs.List.{AllByRecursion}
 use Rattle.std.proofs.lemmas.Option.{slice_get_within}
@@ -9,7 +9,7 @@ use Rattle.gos_verilog.specs.declared.fault.VFault.{VFault}
 use Rattle.gos_verilog.specs.declared.fault.VFault.TheVariants as faults
 use Rattle.gos_lex.specs.declared.table.NameTable.{NameTable}
 use Rattle.gos_verilog.specs.PortNets.{PortNet, port_nets}
-use Rattle.gos_verilog.specs.VerilogText.{first_name, declarations, outputs, IsFed, AreDrivers, IsItsNet, IsVerilogOf}
+use Rattle.gos_verilog.specs.VerilogText.{first_name, declarations, outputs, AreDrivers, IsItsNet, IsVerilogOf}
 use Rattle.gos_verilog.specs.Readable.{IsRead, IsReadable, IsRefused}
 use Rattle.gos_verilog.specs.inner.Stages.{IsWant, IsNetName, HaveOwnNames, HaveCellWidths, declared_net}
 use Rattle.gos_verilog.specs.inner.Inputs.{AreFed}
@@ -20,7 +20,7 @@ use Rattle.gos_verilog.specs.Place.{ArePorts}
 use Rattle.gos_verilog.proofs.SuffixLemmas as names
 use Rattle.gos_verilog.proofs.PortLemmas.{IsRightNet, right_nets}
 use Rattle.gos_verilog.proofs.FoundLemmas.{wide_nets, number_nets}
-use Rattle.gos_verilog.proofs.OneTextLemmas.{drivers_body, outputs_body, names_of, no_source, readable_own, readable_apart}
+use Rattle.gos_verilog.proofs.OneTextLemmas.{drivers_body, outputs_body, names_of, readable_own, readable_apart}
 
 cell_widths : (cells : List Cell) → AllByRecursion IsWritableCell cells → HaveCellWidths cells
 cell_widths [] all = tt
@@ -115,27 +115,6 @@ text_fed net text (drivers, are, is) j c at gate =
     let e : 0 + j ≡ j = omega arith in
     let fed = fed_from (port_nets net.ports) 0 net.cells drivers are j c at gate in
     (fed.0, (fed.1, fed.2, fed.3, fed.4 ∙ e))
-
--- two texts of one netlist
-one_source : (net : Netlist) (i : ℕ) (c : Cell) (s t : List ℕ) → IsReadable net → IsFed IsItsNet (port_nets net.ports) i c s → IsFed IsItsNet (port_nets net.ports) i c t → s ≡ t
-one_source net i c s t readable one other =
-    let ns : List PortNet = port_nets net.ports in
-    let here = readable_own net readable one.0 other.0 one.1 other.1 one.2 other.2 one.3 other.3 (one.4 ∙ sym other.4) in
-    let is : slice_get ns other.0 ≡ Some one.1 = subst (λ (n : ℕ). slice_get ns n ≡ Some one.1) here one.2 in
-    let same : one.1 ≡ other.1 = let found : Some one.1 ≡ Some other.1 = sym is ∙ other.2 in cc found in
-    one.5 ∙ (ap (λ (p : PortNet). p.name) same ∙ sym other.5)
-
-drivers_same : (net : Netlist) (i : ℕ) (cells : List Cell) (one other : List ℕ) → IsReadable net → AreDrivers IsItsNet (port_nets net.ports) i cells one → AreDrivers IsItsNet (port_nets net.ports) i cells other → one ≡ other
-drivers_same net i [] one other readable are_one are_other = are_one ∙ sym are_other
-drivers_same net i (c ∷ cells) one other readable are_one are_other =
-    let line = no_source i c.width are_one.0 are_other.0 c.gate (λ gate. one_source net i c are_one.0 are_other.0 readable (are_one.2 gate) (are_other.2 gate)) in
-    let rest = drivers_same net (suc i) cells are_one.1 are_other.1 readable are_one.3 are_other.3 in
-    are_one.4 ∙ ((λ j. line j ++ rest j) ∙ sym are_other.4)
-
-pub one_text : (net : Netlist) (text other : List ℕ) → IsReadable net → IsVerilogOf net text → IsVerilogOf net other → text ≡ other
-one_text net text other readable (drivers, are, is) (drivers_other, are_other, is_other) =
-    let same = drivers_same net 0 net.cells drivers drivers_other readable are are_other in
-    is ∙ (ap (λ lines. declarations net ++ lines ++ outputs net) same ∙ sym is_other)
 
 -- where a text of a netlist makes memory the want, a fault of form refuses none
 pub refused : (text : List ℕ) (fault : VFault) → ((net : Netlist) → IsRead text net → IsWant fault) → IsRefused text fault

@@ -6,5 +6,7 @@ pub mod SmallTexts
 pub mod Readable
 pub mod OneText
 pub mod Place
+pub mod Expressions
 pub mod Meaning
+pub mod SmallMeanings
 pub mod inner

@@ -16,9 +16,9 @@ IsPrintable net = IsWritable net × IsAccepted net
 abbrev pub IsOneNetlist : List ℕ → Type 0
 IsOneNetlist text = (net other : Netlist) → IsPrintable net → IsPrintable other → IsVerilogOf net text → IsVerilogOf other text → net ≡ other
 
--- this accepted netlist has no two texts
+-- this netlist has no two texts
 abbrev pub HasOneText : Netlist → Type 0
-HasOneText net = (text other : List ℕ) → IsAccepted net → IsVerilogOf net text → IsVerilogOf net other → text ≡ other
+HasOneText net = (text other : List ℕ) → IsVerilogOf net text → IsVerilogOf net other → text ≡ other
 
 -- no two netlists are read from this text
 abbrev pub IsReadAsOne : List ℕ → Type 0

@@ -1,9 +1,12 @@
 // What the definitions say. Each theorem is the contract of a function that does nothing.
 ghost use Rattle.std.specs.Prelude.{List, ℕ, codes};
 ghost use Rattle.gos_netlist.specs.Nets.{Netlist};
-ghost use Rattle.gos_verilog.specs.Meaning.{IsTextOfExpression, MeansNext, MeansSettling};
+ghost use Rattle.gos_netcheck.specs.Accepted.{IsAccepted};
+ghost use Rattle.gos_verilog.specs.Meaning.{TextsMean};
 ghost use Rattle.gos_verilog.specs.OneText.{HasOneText, IsOneNetlist, IsReadAsOne, IsReadBack};
 ghost use Rattle.gos_verilog.specs.Place.{HasHead, HasOnePlace, IsPlace, ReadIsFormed};
+ghost use Rattle.gos_verilog.specs.Readable.{IsReadable};
+ghost use Rattle.gos_verilog.specs.SmallMeanings.{CallerIsMeant, SwappedInputsMeanOther, SwappedOutputsMeanOther};
 ghost use Rattle.gos_verilog.specs.SmallTexts.{latch_text, LatchText, LongerIsNoText, UnresetIsNoText};
 
 /// The latch has its text, and neither one in which a register has no reset nor one with a blank more.
@@ -13,10 +16,11 @@ pub fn small_texts()
     ensures end { LongerIsNoText }
 {}
 
-/// An accepted netlist has one text at most, and a text is that of one accepted netlist at most: ports, cells and their
-/// order are known by it.
+/// A netlist that is accepted or read has one text at most, and a text is that of one accepted netlist at most: ports,
+/// cells and their order are known by it.
 pub fn one_text()
-    ensures text { (net : Netlist) → HasOneText net }
+    ensures accepted { (net : Netlist) → IsAccepted net → HasOneText net }
+    ensures readable { (net : Netlist) → IsReadable net → HasOneText net }
     ensures netlist { (text : List ℕ) → IsOneNetlist text }
 {}
 
@@ -26,12 +30,16 @@ pub fn one_reading()
     ensures back { (net : Netlist) → IsReadBack net }
 {}
 
-/// Read by IEEE 1364-2005 the lines of a module mean its netlist: its nets meet all lines in a cycle exactly where they
-/// are a settling, and its registers take the netlist's next registers at a clock edge, or 0 in reset.
+/// Read by IEEE 1364-2005 a text of a netlist means the netlist: its head declares the nets of the ports; where inputs
+/// show what Input cells get, all lines are met exactly where the nets are a settling and each output shows the net of
+/// its cell; and registers take the netlist's next registers at a clock edge, or 0 in reset. A small module means its
+/// circuit. With its two outputs assigned from each other's nets it doesn't, and with its two inputs read by each
+/// other's cells it doesn't.
 pub fn meaning()
-    ensures text { IsTextOfExpression }
-    ensures settling { MeansSettling }
-    ensures edge { MeansNext }
+    ensures texts { TextsMean }
+    ensures caller { CallerIsMeant }
+    ensures outputs { SwappedOutputsMeanOther }
+    ensures inputs { SwappedInputsMeanOther }
 {}
 
 /// What begins like a text breaks off at one place, and a text that is read is of the form. For example `modul x` breaks

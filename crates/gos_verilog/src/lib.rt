@@ -2,7 +2,7 @@
 //
 // `write_verilog` gives the one text of an accepted netlist. What such a text is stands in `specs`, in the order of
 // `specs/Lib.antt`: `PortNets` (the nets of ports, with their names), `Lines` (the lines of a module), `VerilogText` (the
-// text of a netlist), `SmallTexts`, `OneText` (that each has one of the other), `Meaning` (what the lines mean).
+// text of a netlist), `SmallTexts`, `OneText` (that each has one of the other), `Meaning` (what a module means).
 // `port_net.rt` has the nets of ports, `printing.rt` the lines, `writing.rt` the whole text, and `laws.rt` theorems on the
 // definitions.
 #![tactic(auto)]

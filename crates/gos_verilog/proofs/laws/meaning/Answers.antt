@@ -1,11 +1,15 @@
-use Rattle.gos_verilog.proofs.MeaningLemmas.{text_is, means_settling, means_next}
+use Rattle.gos_verilog.proofs.MeaningLemmas.{texts_mean}
+use Rattle.gos_verilog.proofs.SmallMeaningLemmas.{caller_is_meant, swapped_outputs, swapped_inputs}
 use Rattle.gos_verilog.proofs.laws.meaning.Goals as goal
 
-pub returns-clause-text : goal.returns-clause-text
-returns-clause-text c = text_is
+pub returns-clause-texts : goal.returns-clause-texts
+returns-clause-texts c = texts_mean
 
-pub returns-clause-settling : goal.returns-clause-settling
-returns-clause-settling c = means_settling
+pub returns-clause-caller : goal.returns-clause-caller
+returns-clause-caller c = caller_is_meant
 
-pub returns-clause-edge : goal.returns-clause-edge
-returns-clause-edge c = means_next
+pub returns-clause-outputs : goal.returns-clause-outputs
+returns-clause-outputs c = swapped_outputs
+
+pub returns-clause-inputs : goal.returns-clause-inputs
+returns-clause-inputs c = swapped_inputs

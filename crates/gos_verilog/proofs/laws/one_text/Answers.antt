@@ -1,8 +1,11 @@
-use Rattle.gos_verilog.proofs.OneTextLemmas.{has_one_text, one_netlist}
+use Rattle.gos_verilog.proofs.OneTextLemmas.{accepted_text, readable_text, one_netlist}
 use Rattle.gos_verilog.proofs.laws.one_text.Goals as goal
 
-pub returns-clause-text : goal.returns-clause-text
-returns-clause-text c = has_one_text
+pub returns-clause-accepted : goal.returns-clause-accepted
+returns-clause-accepted c = accepted_text
+
+pub returns-clause-readable : goal.returns-clause-readable
+returns-clause-readable c = readable_text
 
 pub returns-clause-netlist : goal.returns-clause-netlist
 returns-clause-netlist c = one_netlist

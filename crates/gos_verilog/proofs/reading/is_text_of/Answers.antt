@@ -2,7 +2,8 @@ use Rattle.std.proofs.Common.{◌≡◌, map, sym, ◌∙◌}
 use Rattle.std.proofs.lemmas.Slice.Eq.{bytes_eq-Decides}
 use Rattle.gos_netlist.specs.Nets.{Netlist}
 use Rattle.gos_netlist.specs.Seen.{cell_of}
-use Rattle.gos_verilog.proofs.WholeLemmas.{text_fed, one_text}
+use Rattle.gos_verilog.proofs.OneTextLemmas.{readable_text}
+use Rattle.gos_verilog.proofs.WholeLemmas.{text_fed}
 use Rattle.gos_verilog.proofs.reading.is_text_of.Goals as goal
 
 pub returns-then-not-branch-clause-whole : goal.returns-then-not-branch-clause-whole
@@ -16,5 +17,5 @@ returns-clause-whole c = λ read.
     let net : Netlist = record { cells = map cell_of c.args.cells.now; ports = c.args.ports.now } in
     let text = c.args.text.now in
     let written = c.in_ok-written.written.items in
-    let same : written ≡ text = one_text net written text read.0 c.in_ok-written.ensures read.1 in
+    let same : written ≡ text = readable_text net read.0 written text c.in_ok-written.ensures read.1 in
     c.eq.ensures ∙ (bytes_eq-Decides c.as_slice.result.now text).1 (c.as_slice.ensures.value ∙ same)
