@@ -27,7 +27,7 @@ class Line:
     number: int
     names: list
     module: str
-    values: dict
+    values: dict = field(default_factory=dict)
     used: set = field(default_factory=set)
 
 
@@ -94,8 +94,10 @@ def read(file):
             take(listed, number, *words)
     if not listed.root:
         raise Wrong(f"{file}: no line says which the root is, as `root main` does")
-    if listed.files["build"] == file:
-        raise Wrong(f"{file}: the build file would be written over this list; a line `build FILE` gives it another name")
+    build = listed.files["build"]
+    if build == file or not FILE.fullmatch(build):
+        why = "would be written over this list" if build == file else f"would be called {build}, which gos can't read"
+        raise Wrong(f"{file}: the build file {why}; a line `build FILE` gives it another name")
     return listed
 
 
@@ -115,8 +117,11 @@ def take(listed, number, first, *words):
         raise listed.wrong(number, f"values stand at the end: {form}")
     by = {"root": "from", "serve": "by"}[first]
     names, module = (plain[:-2], plain[-1]) if plain[-2:-1] == (by,) else (plain, "")
+    line = Line(number, list(names), module)
+    line.values = at_line(listed, line, lambda: values_of(given))
     if first == "root" and len(names) == 1 and not listed.root and templates.value_of(names[0]):
-        listed.root = Line(number, list(names), module or names[0], values_of(listed, number, given))
+        line.module = module or names[0]
+        listed.root = line
     elif first == "root":
         raise listed.wrong(number, "there is a root already" if listed.root else form)
     elif not names or not module or by in names:
@@ -125,17 +130,17 @@ def take(listed, number, first, *words):
         for name in names:
             if any(name in it.names for it in listed.serves):
                 raise listed.wrong(number, f"another line serves `{name}`")
-        listed.serves.append(Line(number, list(names), module, values_of(listed, number, given)))
+        listed.serves.append(line)
 
 
-def values_of(listed, number, given):
+def values_of(given):
     """The values that words such as `W=8` give."""
     values = {}
     for word in given:
         name, _, text = word.partition("=")
         value = templates.value_of(text)
         if value is None or not name:
-            raise listed.wrong(number, f"`{word}` gives no value: a number or a name is one, as in `W=8`")
+            raise Wrong(f"`{word}` gives no value: a number or a name is one, as in `W=8`")
         values[name] = value
     return values
 
@@ -156,6 +161,8 @@ def source_of(module):
             made = f"; {path} came of a template, which isn't here"
             continue
         shown = str(path) if is_here else path.name
+        if is_own and not FILE.fullmatch(shown):
+            raise Wrong(f"{shown} is no name of a file for gos: it has letters, digits, _ . - and / alone")
         # (a source of one's own may have braces in its comments)
         return Source(name, shown, templates.Template(shown, "") if is_own else templates.read(path, shown), is_own)
     library = {it.name.split(".")[0] for it in (builds.TOP / "lib").glob("*.gos*")}
