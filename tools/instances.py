@@ -145,13 +145,15 @@ def values_of(given):
     return values
 
 
-def source_of(module):
-    """The source of a module that is called so: a file, or a name for which a template or a source is here or in lib."""
+def source_of(module, ends=(".gos.in", ".gos")):
+    """The source of a module that is called so: a file, or a name for which a template or a source is here or in lib. What may be here
+    ends so."""
     name = re.sub(r"\.gos(\.in)?$", "", module.rsplit("/", 1)[-1])
     if "/" in module or name != module:
         places = [(Path(module), True)]
     else:
-        places = [(folder / f"{module}{end}", folder == Path()) for folder in (Path(), builds.TOP / "lib") for end in (".gos.in", ".gos")]
+        places = [(Path(f"{module}{end}"), True) for end in ends]
+        places += [(builds.TOP / "lib" / f"{module}{end}", False) for end in (".gos.in", ".gos")]
     made = ""
     for path, is_here in places:
         if not path.is_file():

@@ -15,6 +15,8 @@ from pathlib import Path
 
 import built
 
+import circuits  # (built has put the folder above into the path)
+
 PAGE = built.LIBRARY / "README.md"
 TABLE = re.compile(r"(?:^\|.*\n)+", re.M)
 
@@ -90,6 +92,56 @@ def received(byte, stop=1):
     """Answers with which uart_receive is given a byte and a stop bit."""
     bits = [byte >> at & 1 for at in range(8)] + [stop]
     return ["line.ans 0", "half.done", "line.ans 0", *(it for bit in bits for it in ("bit.done", f"line.ans {bit}")), "byte.done"]
+
+
+class Wires:
+    """A circuit at the wires scl and sda of I2C, with a slave that takes a byte and may acknowledge it. After each bit it holds scl low
+    for a while."""
+
+    HALF = 16
+
+    def __init__(self, netlist, byte, acknowledges, held):
+        self.circuit, self.byte, self.acknowledges, self.held = circuits.Circuit("net", netlist), byte, acknowledges, held
+        self.master, self.level, self.free_from, self.pulls = {"scl": 0, "sda": 1}, 0, 0, False
+        # what the slave has seen, and for how many cycles scl was low before each rise
+        self.bits, self.lows, self.fell = [], [], 0
+
+    def wires(self, cycle):
+        return {"scl": int(self.master["scl"] and cycle >= self.free_from), "sda": int(self.master["sda"] and not self.pulls)}
+
+    def follow(self, cycle):
+        """What the slave does where scl has risen or fallen."""
+        scl = self.wires(cycle)["scl"]
+        if scl and not self.level:
+            self.bits.append(self.wires(cycle)["sda"])
+            self.lows.append(cycle - self.fell)
+        elif self.level and not scl:
+            self.pulls = self.acknowledges and len(self.bits) == 8
+            self.fell, self.free_from = cycle, cycle + self.HALF + self.held
+        self.level = scl
+
+    def answer(self, cycle, name, value):
+        """The answer to an output, how many cycles later it comes, and its value."""
+        port, event = name.split(".")
+        if event == "write":
+            self.master[port] = value
+        return {"ask": (0, f"{port}.ans", self.byte), "run": (self.HALF, f"{port}.done", None), "write": (0, f"{port}.done", None),
+                "read": (0, f"{port}.ans", self.wires(cycle).get(port))}[event]
+
+    def run(self, cycles):
+        """Asks the root once; what it gives."""
+        pins, due = {pin.name: pin for pin in self.circuit.pins}, {0: [("main.ask", None)]}
+        for cycle in range(cycles):
+            self.follow(cycle)
+            for pin, value in self.circuit.outputs():
+                if pin.name == "main.ans":
+                    return value
+                later, name, answer = self.answer(cycle, pin.name, value)
+                due.setdefault(cycle + later, []).append((name, answer))
+            self.follow(cycle)
+            self.circuit.give([(pins[name], value) for name, value in due.pop(cycle, [])])
+            self.circuit.tick()
+        return None
 
 
 def rounds(name, count):
@@ -260,6 +312,19 @@ class Library(built.Case):
             self.assertEqual((values, found.values("sda.write"), found.values("scl.write"), found.unused), ([level], [bit], [1, 0], 0))
             self.assertEqual(found.names()[3:-1], ["sda.write", "sda.done", "half.run", "half.done", "scl.write", "scl.done", *held,
                                                    "half.run", "half.done", "sda.read", "sda.ans", "scl.write", "scl.done"])
+
+    def test_i2c_byte_on_wires(self):
+        """A byte and its acknowledge, on two wires that a slave pulls down too, which holds scl after each bit."""
+        byte = "while !i < 8:4 do (seen := i2c_bit (not (!n < 128:8)) half scl sda ; n := !n + !n ; i := !i + 1:4)"
+        term = f"new n : 8 in new i : 4 in new seen : 1 in (n := byte ; {byte} ; seen := i2c_bit 1:1 half scl sda ; !seen)"
+        main = main_of("i2c_bit", term, "exp 1").replace("import bit : exp 1", "import byte : exp 8")
+        self.room.build({"main": main, "i2c_bit": module("i2c_bit")}, "cycles 9\n", ["main i2c_bit i2c_bit"])
+        for sent, acknowledges, held in ((0xA6, True, 0), (0x01, False, 0), (0xFF, True, 40), (0x5B, True, 7)):
+            wires = Wires((self.room.path / "out.net").read_text(), sent, acknowledges, held)
+            self.assertEqual(wires.run(3000), int(not acknowledges))
+            self.assertEqual(wires.bits, [sent >> at & 1 for at in range(7, -1, -1)] + [int(not acknowledges)])
+            # (no rise comes before half is over, nor while the slave holds the line, as it does behind each bit)
+            self.assertTrue(all(low >= 16 + held for low in wires.lows[1:]), wires.lows)
 
     def play(self, names, main, description):
         """Plays a main that uses these modules in surroundings of this description, in which nothing goes wrong. What came out."""

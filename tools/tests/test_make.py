@@ -99,12 +99,17 @@ class Making(built.Case):
         for words in ((), ("l", "m"), ("l", "--module", "p"), ("--modul",)):
             self.assertEqual(self.room.run(MAKE, *words).returncode, 1, words)
         for words, said in ((("none",), "none: No such file or directory"), (("--module", "repeat", "W"), "`W` gives no value: a number or a name is "
-                            "one, as in `W=8`"), (("--module", "p"), "p.gos is a source, and no template")):
+                            "one, as in `W=8`"), (("--module", "p.gos"), "p.gos is a source, and no template"),
+                            (("--module", "p"), "there is no p.gos.in and no lib/p.gos.in and no lib/p.gos")):
             ran = self.room.run(MAKE, *words)
             self.assertEqual((ran.returncode, ran.stderr), (2, said + "\n"))
         (self.room.path / "a list").write_text("root p\n")
         said = "a list: the build file would be called a list.txt, which gos can't read; a line `build FILE` gives it another name\n"
         self.assertEqual(self.room.run(MAKE, "a list").stderr, said)
+
+    def test_a_module_that_is_printed_to_its_own_name(self):
+        ran = self.room.run("bash", "-c", f"{MAKE} --module repeat W=4 > repeat.gos; {MAKE} --module repeat W=4 | cmp - repeat.gos")
+        self.assertEqual((ran.returncode, ran.stdout + ran.stderr), (0, ""))
 
     def test_a_build(self):
         """Names, the import's width, a name as a value, an import that one line serves before another one, and other files."""
