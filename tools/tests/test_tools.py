@@ -231,6 +231,7 @@ class Pictures(unittest.TestCase):
             said = run(TOOLS / "gos-picture", Path(room) / "o").stdout
         self.assertIn('p0 -> p1 [label="com", taillabel="0", headlabel="0"];', said)
         self.assertIn('r -> p0 [label="com", taillabel="0", headlabel="2"];', said)
+        self.assertIn('p1 [label="1: skip", shape=box];', said)
 
     def test_netlist(self):
         said = run(TOOLS / "gos-picture", LATCH / "a.net").stdout
