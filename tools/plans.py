@@ -5,6 +5,7 @@ The cells of the parts stand last in a netlist, in the order of the instances an
 of cells, by which one knows whether a netlist is that of some objects.
 """
 from dataclasses import dataclass
+from pathlib import Path
 
 import builds
 from builds import Wrong
@@ -156,6 +157,9 @@ def regions_of(build, plans, cells):
     return found
 
 
-def plans_of(build):
-    """The plans of a build's instances, in order."""
+def plans_of(name, build):
+    """The plans of the instances of a build file, in order."""
+    for it in build.instances:
+        if not Path(it.object).is_file():
+            raise Wrong(f"{it.object} isn't there yet: gos build {name} writes it")
     return [plan_of(it.object, builds.read_text(it.object)) for it in build.instances]

@@ -324,6 +324,8 @@ class PartsOfABuild(unittest.TestCase):
         self.assertEqual(self.picture("--part", "p", "b.txt", status=2), said)
         (self.room / "p.obj").write_text(self.FILES["p.obj"][:40])
         self.assertIn("p.obj: this is no object that is right", self.picture("b.txt", status=2))
+        (self.room / "p.obj").unlink()
+        self.assertEqual(self.picture("b.txt", status=2), "p.obj isn't there yet: gos build b.txt writes it\n")
         (self.room / "out.net").unlink()
         self.assertEqual(self.picture("--part", "p", "b.txt", status=2), "out.net isn't there yet: gos link b.txt writes it\n")
 
