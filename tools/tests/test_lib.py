@@ -239,7 +239,7 @@ class Library(built.Case):
         self.assertEqual(found.values("pin.ans").count(1), 1 + 3 + 4)
         self.assertEqual([cycle // 60 - first // 60 for cycle in found.times("pressed.run")], [3])
 
-    UART = "half answers after 32 cycles\nbit answers every 64 cycles from half.done\n"
+    UART = "half answers after 30 cycles\nbit answers every 60 cycles from half.done\n"
 
     def receive(self, line, *more):
         """What is received of a line that does so: the bytes, and the cycles in which it is looked at."""
@@ -249,26 +249,26 @@ class Library(built.Case):
 
     def test_uart_receive(self):
         text = b"gos\x00\xff\x55"
-        found, looked = self.receive(f"sends {' '.join(map(str, text))} at 64 cycles a bit after 100 cycles",
+        found, looked = self.receive(f"sends {' '.join(map(str, text))} at 60 cycles a bit after 100 cycles",
                                      "main runs 6 times", f"byte takes {' '.join(map(str, text))}", "wrong never answers")
         begin = 100
         for byte in text:
             # (it looks when half a bit is over, and then in the middle of each bit, as late as it saw the line fall)
             seen = next(cycle for cycle in looked if cycle >= begin)
             self.assertLess(seen - begin, 6)
-            middles = [cycle for cycle in looked if seen + 30 < cycle < begin + 640 - 20]
+            middles = [cycle for cycle in looked if seen + 28 < cycle < begin + 600 - 10]
             self.assertEqual(len(middles), 10)
             for at, cycle in enumerate(middles):
-                self.assertTrue(32 <= cycle - begin - 64 * at < 48, (byte, at, cycle))
-            begin += 640
-        self.assertEqual(found.times("main.done")[-1] < 100 + 6 * 640, True)
+                self.assertTrue(30 <= cycle - begin - 60 * at < 46, (byte, at, cycle))
+            begin += 600
+        self.assertLess(found.times("main.done")[-1], begin)
 
     def test_uart_receive_without_a_stop_bit(self):
-        found, _ = self.receive("is 1 0 1 0 0 0 0 0 1 0 0 1 for 64 cycles each", "main runs once", "byte takes 65", "wrong answers")
+        found, _ = self.receive("is 1 0 1 0 0 0 0 0 1 0 0 1 for 60 cycles each", "main runs once", "byte takes 65", "wrong answers")
         self.assertEqual(len(found.times("wrong.run")), 1)
 
     def test_uart_receive_passes_over_a_short_fall(self):
-        levels = "1, 0 after 50 cycles, 1 after 70 cycles, 0 after 200 cycles, 1 after 264 cycles, 0 after 328 cycles, 1 after 776 cycles"
+        levels = "1, 0 after 50 cycles, 1 after 70 cycles, 0 after 200 cycles, 1 after 260 cycles, 0 after 320 cycles, 1 after 740 cycles"
         found, _ = self.receive(f"is {levels}", "main runs once", "byte takes 1", "wrong never answers")
         self.assertEqual(len(found.times("half.run")), 2)
 
@@ -276,10 +276,9 @@ class Library(built.Case):
         text = (0x41, 0, 255, 0x80, 0x01)
         bits = [bit for byte in text for bit in (0, *(byte >> at & 1 for at in range(8)), 1)]
         found = self.play(["uart_send"], main_of("uart_send"), f"main runs 5 times\nbyte gives {' '.join(map(str, text))}\n"
-                          f"bit answers every 64 cycles\nline takes {' '.join(map(str, bits))}")
+                          f"bit answers every 50 cycles\nline takes {' '.join(map(str, bits))}")
         written = found.times("line.write")
-        self.assertEqual([cycle - written[0] for cycle in written], [64 * at for at in range(50)])
-        self.assertEqual(set(cycle % 64 for cycle in written), {written[0] % 64})
+        self.assertEqual([cycle - written[0] for cycle in written], [50 * at for at in range(50)])
         self.assertEqual({cycle - tick for cycle, tick in zip(written, found.times("bit.done"))}, {written[0] - found.times("bit.done")[0]})
 
     def test_uart_to_itself(self):
