@@ -219,8 +219,7 @@ class Library(built.Case):
         self.check("mul", [[f"x.ans {x}", f"y.ans {y}"] for x, y in cases], [x * y % 256 for x, y in cases])
 
     def test_divide(self):
-        numbers = (0, 1, 2, 7, 16, 100, 127, 128, 129, 200, 254, 255)
-        cases = [(x, y) for x in numbers for y in numbers]
+        cases = [(x, y) for x in (0, 1, 7, 100, 127, 128, 203, 255) for y in (0, 1, 3, 128, 129, 255)]
         found, _, values = run(self.room, "divide", [[f"x.ans {x}", f"y.ans {y}", "rest.done"] for x, y in cases])
         self.assertEqual(found.unused, 0)
         self.assertEqual(values, [x // y if y else 255 for x, y in cases])

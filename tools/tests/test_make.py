@@ -203,7 +203,7 @@ class Library(built.Case):
     def test_numbers_of_other_widths(self):
         for width in (5, 32):
             most = 2**width - 1
-            pairs = [(x & most, y & most) for x, y in ((0, 1), (most, most), (most, 3), (11, 5), (0xABCDEF01, 0x1234567), (most >> 1, most))]
+            pairs = [(x & most, y & most) for x, y in ((0, 1), (most, most), (most, 3), (0xABCDEF01, 0x1234567))]
             both = [("x", width), ("y", width)]
             self.numbers("mul", width, (both, pairs), [x * y & most for x, y in pairs])
             self.numbers("divide", width, (both, pairs), [x // y if y else most for x, y in pairs])
