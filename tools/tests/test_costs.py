@@ -19,6 +19,8 @@ from pathlib import Path
 
 import built
 
+import plans  # (built has put the folder above into the path)
+
 COST, PAGE = built.script("gos-cost"), built.TOP / "docs" / "COSTS.md"
 PULSES = "cycles 300\nnext 0 main.run\nnext 0 a.done\nnext 0 b.done\n"
 LOCALS = "new x : 8 in new y : 8 in"
@@ -197,6 +199,29 @@ skip       1      1     1          0
                                                             "being one\n", 1))
         with self.assertRaisesRegex(SystemExit, "usage:"):
             self.cost("--parts")
+
+    def test_all_kinds_of_parts_are_known(self):
+        """One program with each kind, and with Shares of types of each form."""
+        self.room.build({"main": """import e : exp 3
+import v : var 2
+export
+  new x : 4 in
+    (x := 3:4 + 1:4 - 2:4 & 7:4 | 1:4 ^ 2:4 ;
+     (skip || skip) ;
+     (if !x = 1:4 then x := not !x else skip) ;
+     while !x < 0:4 do skip ;
+     x := (if !x = 2:4 then 1:4 else (skip ; 2:4)) ;
+     x := (new z : 2 in 1:4) ;
+     (fun g : exp 4 -> com . g 1:4 ; g 2:4) (fun a : exp 4 . new w : 4 in w := a) ;
+     (fun h : var 4 -> exp 2 . new w : 4 in new u : 2 in (u := h w ; u := h w)) (fun a : var 4 . (a := 1:4 ; 2:2)) ;
+     (fun p : com * (com -> exp 2) . new u : 2 in (fst p ; u := snd p skip ; fst p)) (skip, fun c : com . c ; 1:2) ;
+     new u : 3 in (u := e ; u := e) ; v := !v)
+  : com
+"""}, "cycles 900\nnext 0 main.run\nnext 0 e.ans 1\nnext 0 e.ans 1\nnext 0 v.ans 1\nnext 0 v.done\n")
+        said, wrong, status = self.cost("--parts", "b.txt")
+        self.assertEqual((wrong, status), ("", 0))
+        kinds = [line.split()[0] for line in said.split("\n\n")[1].splitlines()[1:]]
+        self.assertEqual(sorted(kinds), sorted([*plans.GATES, *plans.OPERATORS, "local", "share"]))
 
     def test_longest_path(self):
         self.room.build({"main": "import e : exp 8\nexport new x : 8 in x := e + not e : com\n"}, "cycles 90\nnext 0 main.run\n")
