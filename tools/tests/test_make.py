@@ -125,6 +125,15 @@ class Making(built.Case):
         (self.room.path / "in.pls").write_text("cycles 20\nnext 0 main.run\n")
         self.assertRegex(self.room.run(self.room.gos, "build", "x.txt").stdout, r"ok weight \d+ cycles 20 pulses 2 unused 0\n")
 
+    def test_a_name_as_a_value(self):
+        (self.room.path / "slow.gos.in").write_text("{BEAT = tick: the beat}\nimport {BEAT} : com\nexport {BEAT} ; {BEAT} : com\n")
+        (self.room.path / "two.gos").write_text("import a : com\nimport b : com\nexport a || b : com\n")
+        self.assertEqual(self.make("root two\nserve a by slow\nserve b by slow BEAT=tock"), "ok instances 3 written slow_BEATtick.gos slow_BEATtock.gos l.txt\n")
+        (self.room.path / "in.pls").write_text("cycles 90\nnext 0 two.run\n" + 2 * "next 0 tick.done\nnext 0 tock.done\n")
+        self.assertRegex(self.room.run(self.room.gos, "build", "l.txt").stdout, r"cycles 90 pulses 10 unused 0\n")
+        self.assertEqual(self.make("root two\nserve a by slow BEAT=5", 2), "l:2: slow.gos.in: BEAT is a name, and not `5`: the beat\n")
+        self.assertIn("both have a port `tick`", self.make("root two\nserve a b by slow", 2))
+
     def test_two_places_are_two_instances(self):
         (self.room.path / "w.gos").write_text("import repeat : exp 3 -> com -> com\nexport fun c : com . repeat 5:3 c : com -> com\n")
         (self.room.path / "v.gos").write_text("import repeat : exp 8 -> com -> com\nimport w : com -> com\nimport c : com\nexport repeat 2:8 (w c) : com\n")
