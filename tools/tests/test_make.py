@@ -128,7 +128,8 @@ class Making(built.Case):
     def test_a_name_as_a_value(self):
         (self.room.path / "slow.gos.in").write_text("{BEAT = tick: the beat}\nimport {BEAT} : com\nexport {BEAT} ; {BEAT} : com\n")
         (self.room.path / "two.gos").write_text("import a : com\nimport b : com\nexport a || b : com\n")
-        self.assertEqual(self.make("root two\nserve a by slow\nserve b by slow BEAT=tock"), "ok instances 3 written slow_BEATtick.gos slow_BEATtock.gos l.txt\n")
+        said = self.make("root two\nserve a by slow\nserve b by slow BEAT=tock")
+        self.assertEqual(said, "ok instances 3 written slow_BEATtick.gos slow_BEATtock.gos l.txt\n")
         (self.room.path / "in.pls").write_text("cycles 90\nnext 0 two.run\n" + 2 * "next 0 tick.done\nnext 0 tock.done\n")
         self.assertRegex(self.room.run(self.room.gos, "build", "l.txt").stdout, r"cycles 90 pulses 10 unused 0\n")
         self.assertEqual(self.make("root two\nserve a by slow BEAT=5", 2), "l:2: slow.gos.in: BEAT is a name, and not `5`: the beat\n")
