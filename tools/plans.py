@@ -149,8 +149,10 @@ def regions_of(build, plans, cells):
     parts = [(it.name, number, words) for it, plan in zip(build.instances, plans) for number, words in enumerate(plan.parts)]
     wanted = [gates_of(words) for _, _, words in parts]
     start, found = len(cells) - sum(map(len, wanted)), []
+    # (what stands before them is of ports and joints)
+    is_right = start >= 0 and {cell[0] for cell in cells[:start]} <= {"input", "reg", "const"}
     for (instance, number, words), gates in zip(parts, wanted):
-        if start < 0 or [cell[0] for cell in cells[start:start + len(gates)]] != gates:
+        if not is_right or [cell[0] for cell in cells[start:start + len(gates)]] != gates:
             raise Wrong(f"{build.files['net']}: this is no netlist of the objects that the build file names; gos link writes it")
         found.append(Region(instance, number, words, start, start + len(gates)))
         start += len(gates)
