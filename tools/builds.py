@@ -12,6 +12,8 @@ TOP = Path(__file__).resolve().parent.parent
 # The statuses of these tools, beside 0.
 WORDS_ARE_WRONG, FILE_IS_WRONG, RUN_IS_WRONG = 1, 2, 3
 MOST_CYCLES = 1_000_000
+# The words of a build file's lines of which there is one each.
+SINGLE = {"root", "net", "verilog", "pulses", "trace"}
 
 
 class Wrong(Exception):
@@ -34,10 +36,20 @@ class Parser(argparse.ArgumentParser):
 
 
 @dataclass
-class Build:
-    """What a build file says: its sources with their objects, and the names of its other files."""
+class Instance:
+    """A line `inst` of a build file."""
 
-    objects: list = field(default_factory=list)
+    name: str
+    source: str
+    object: str
+
+
+@dataclass
+class Build:
+    """What a build file says: its instances, its `bind` lines as their words, and by their words its root and its other files."""
+
+    instances: list = field(default_factory=list)
+    binds: list = field(default_factory=list)
     files: dict = field(default_factory=dict)
 
 
@@ -68,20 +80,46 @@ def is_build(text):
     return next((words for _, words in statements(text)), None) == ["gosbuild", "1"]
 
 
+def said_by(text):
+    """The build that a text's lines say, whatever else stands there and whatever is missing."""
+    build = Build()
+    for _, (word, *said) in statements(text):
+        if word == "inst" and len(said) == 3:
+            build.instances.append(Instance(*said))
+        elif word == "bind" and len(said) == 3:
+            build.binds.append(said)
+        elif word in SINGLE and len(said) == 1:
+            build.files[word] = said[0]
+    return build
+
+
 def build_of(name, text):
     """The build of a build file's text; the program itself says what is wrong with one."""
     if not is_build(text):
         raise Wrong(f"{name}: this is no build file")
-    build = Build()
-    for _, words in statements(text):
-        if words[0] == "inst" and len(words) == 4:
-            build.objects.append((words[2], words[3]))
-        elif words[0] in ("root", "net", "verilog", "pulses", "trace") and len(words) == 2:
-            build.files[words[0]] = words[1]
-    missing = {"root", "net", "verilog", "pulses", "trace"} - build.files.keys()
+    build = said_by(text)
+    missing = SINGLE - build.files.keys()
     if missing:
         raise Wrong(f"{name}: it has no line of {', '.join(sorted(missing))}")
     return build
+
+
+def files_there(name, build, sorts, by="build"):
+    """The files of these sorts that a build file names, each of which is there. All but a pulse file are written by gos."""
+    for sort in sorts:
+        if not Path(build.files[sort]).is_file():
+            yet = "" if sort == "pulses" else f" yet: gos {by} {name} writes it"
+            raise Wrong(f"{build.files[sort]} isn't there{yet}")
+    return [build.files[it] for it in sorts]
+
+
+def files_of(words, parser, sorts):
+    """The three files of these sorts that words name: each of them, or the build file that names them."""
+    if len(words) == len(sorts):
+        return words
+    if len(words) != 1:
+        parser.error("there is one file, BUILD, or there are three")
+    return files_there(words[0], build_of(words[0], read_text(words[0])), sorts)
 
 
 def read_ports(name, text=None):
@@ -135,8 +173,8 @@ def call(gos, *words):
 
 def link(gos, name, build):
     """Compiles each source of a build and links them: its netlist and its Verilog text are written."""
-    for source, target in build.objects:
-        call(gos, "compile", source, target)
+    for it in build.instances:
+        call(gos, "compile", it.source, it.object)
     return call(gos, "link", name)
 
 

@@ -59,6 +59,11 @@ def cells_of(name, text):
         raise builds.Wrong(f"{name}: this is no netlist that is accepted; gos sim says where") from error
 
 
+def pins_of_cell(cell):
+    """The nets that a cell names."""
+    return cell[2] if cell[0] in PINS else []
+
+
 def shown(word, width, numbers, v):
     """What a cell shows, as a function of the nets v at the time when it is called."""
     mask = (1 << width) - 1

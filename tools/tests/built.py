@@ -37,7 +37,7 @@ def main(usage):
 
 @dataclass
 class Run:
-    """What a build left: its line's weight, the cells of its netlist, and the trace's pulses."""
+    """What a build left: its line's weight, if it has one, the cells of its netlist, and the trace's pulses."""
 
     weight: int
     unused: int
@@ -74,17 +74,31 @@ class Room:
 
     def build(self, modules, pulses, binds=(), root="main"):
         """Builds modules, each a text by its name, runs the netlist, and answers what came out."""
+        self.write_build(modules, binds, root)
+        self.write(in__pls=pulses)
+        return self.ran(self.gos, "build", "b.txt")
+
+    def play(self, modules, description, binds=(), root="main"):
+        """Builds modules and runs the netlist in the surroundings of a description (docs/PLAY.md), where it has to come to its end."""
+        self.write_build(modules, binds, root)
+        self.write(d__play=description)
+        return self.ran(TOOLS / "gos-play", "--gos", self.gos, "b.txt", "d.play")
+
+    def write_build(self, modules, binds, root):
         for name, text in modules.items():
             (self.path / f"{name}.gos").write_text(text)
         lines = [f"inst {name} {name}.gos {name}.obj\n" for name in modules] + [f"bind {it}\n" for it in binds]
-        self.write(b__txt=BUILD.format("".join(lines), root), in__pls=pulses)
-        ran = self.run(self.gos, "build", "b.txt")
-        if ran.returncode:
-            raise AssertionError(f"gos build ended with {ran.returncode}: {ran.stdout}{ran.stderr}")
-        words = ran.stdout.split()
+        self.write(b__txt=BUILD.format("".join(lines), root))
+
+    def ran(self, *words):
+        """What came out of a build by these words."""
+        ran = self.run(*words)
+        if ran.returncode or ran.stdout.count("\n") != 1:
+            raise AssertionError(f"{words[0]} {words[1]} ended with {ran.returncode}: {ran.stdout}{ran.stderr}")
+        said = dict(zip(*[iter(ran.stdout.split()[1:])] * 2))
         cells = int((self.path / "out.net").read_text().split("\n")[1].removeprefix("cells "))
         found, _ = ports.pulses_of((self.path / "out.trc").read_text())
-        return Run(int(words[words.index("weight") + 1]), int(words[words.index("unused") + 1]), cells, found)
+        return Run(int(said.get("weight", 0)), int(said["unused"]), cells, found)
 
 
 class Case(unittest.TestCase):

@@ -54,11 +54,12 @@ class Kitchen:
         return subprocess.run(["bash", "-c", command], stdout=subprocess.PIPE, stderr=subprocess.STDOUT, **how).stdout
 
 
-def done(section, build):
-    """A section as it has to be."""
+def done(section, build=""):
+    """A section as it has to be, done where there is this build file, if any."""
     with tempfile.TemporaryDirectory() as room:
         kitchen = Kitchen(room)
-        (kitchen.folder / "b.txt").write_text(build)
+        if build:
+            (kitchen.folder / "b.txt").write_text(build)
 
         def block(found):
             language, name, body = found.groups()

@@ -15,8 +15,11 @@ import re
 import shutil
 import sys
 import tempfile
+from pathlib import Path
 
 import built
+
+import plans  # (built has put the folder above into the path)
 
 COST, PAGE = built.script("gos-cost"), built.TOP / "docs" / "COSTS.md"
 PULSES = "cycles 300\nnext 0 main.run\nnext 0 a.done\nnext 0 b.done\n"
@@ -113,17 +116,26 @@ class Measure:
         return text
 
 
+def with_shown(room, text):
+    """The page with what gos-cost prints of the examples that it shows."""
+    for example, words in (("sequence", ["b.txt"]), ("shared_procedure", ["--parts", "b.txt"])):
+        shutil.copytree(built.TOP / "examples" / example, room.path, dirs_exist_ok=True)
+        room.run(room.gos, "build", "b.txt")
+        with contextlib.chdir(room.path), contextlib.redirect_stdout(io.StringIO()) as said:
+            COST.main(words)
+        command = f"    $ gos-cost {' '.join(words)}\n"
+        block = "".join(f"    {line}".rstrip() + "\n" for line in said.getvalue().rstrip().split("\n"))
+        text = re.sub(re.escape(command) + r"(?:    .*\n|\n(?=    ))*", lambda _, it=command + block: it, text)
+    return text
+
+
 class Page(built.Case):
     def test_tables_are_what_is_measured(self):
         text = PAGE.read_text()
         self.assertEqual(Measure(self.room).page(text), text)
 
-    def test_the_build_that_it_shows(self):
-        shutil.copytree(built.TOP / "examples" / "sequence", self.room.path, dirs_exist_ok=True)
-        self.room.run(self.room.gos, "build", "b.txt")
-        with contextlib.chdir(self.room.path):
-            said = "\n".join(["$ gos-cost b.txt", *COST.said("b.txt")])
-        self.assertIn("".join(f"    {line}".rstrip() + "\n" for line in said.split("\n")), PAGE.read_text())
+    def test_the_builds_that_it_shows(self):
+        self.assertEqual(with_shown(self.room, PAGE.read_text()), PAGE.read_text())
 
     def test_the_square(self):
         """What the page says of n uses in a line, n of the table."""
@@ -168,6 +180,49 @@ from   to      times  fewest  most  all
 c.run  d.done      2       3     5    8
 """)
 
+    def test_parts(self):
+        main = "import p : com\nimport q : com\nexport p ; q ; p : com\n"
+        self.room.build({"main": main, "p": "export skip : com\n"}, "cycles 9\nnext 0 main.run\nnext 0 q.done\n", ["main p p"])
+        self.assertEqual(self.cost("--parts", "b.txt"), ("""\
+instance  parts  cells  bits  registers
+main          3     16    16          2
+p             1      1     1          0
+of none       0      4     4          2
+
+kind   parts  cells  bits  registers
+share      1     10    10          2
+seq        2      6     6          0
+skip       1      1     1          0
+""", "", 0))
+        self.room.write(p__obj="gosobj 1\n")
+        self.assertEqual(self.cost("--parts", "b.txt")[1:], ("tools/gos-cost: p.obj: this is no object that is right; gos link says where it stops "
+                                                            "being one\n", 1))
+        with self.assertRaisesRegex(SystemExit, "usage:"):
+            self.cost("--parts")
+
+    def test_all_kinds_of_parts_are_known(self):
+        """One program with each kind, and with Shares of types of each form."""
+        self.room.build({"main": """import e : exp 3
+import v : var 2
+export
+  new x : 4 in
+    (x := 3:4 + 1:4 - 2:4 & 7:4 | 1:4 ^ 2:4 ;
+     (skip || skip) ;
+     (if !x = 1:4 then x := not !x else skip) ;
+     while !x < 0:4 do skip ;
+     x := (if !x = 2:4 then 1:4 else (skip ; 2:4)) ;
+     x := (new z : 2 in 1:4) ;
+     (fun g : exp 4 -> com . g 1:4 ; g 2:4) (fun a : exp 4 . new w : 4 in w := a) ;
+     (fun h : var 4 -> exp 2 . new w : 4 in new u : 2 in (u := h w ; u := h w)) (fun a : var 4 . (a := 1:4 ; 2:2)) ;
+     (fun p : com * (com -> exp 2) . new u : 2 in (fst p ; u := snd p skip ; fst p)) (skip, fun c : com . c ; 1:2) ;
+     new u : 3 in (u := e ; u := e) ; v := !v)
+  : com
+"""}, "cycles 900\nnext 0 main.run\nnext 0 e.ans 1\nnext 0 e.ans 1\nnext 0 v.ans 1\nnext 0 v.done\n")
+        said, wrong, status = self.cost("--parts", "b.txt")
+        self.assertEqual((wrong, status), ("", 0))
+        kinds = [line.split()[0] for line in said.split("\n\n")[1].splitlines()[1:]]
+        self.assertEqual(sorted(kinds), sorted([*plans.GATES, *plans.OPERATORS, "local", "share"]))
+
     def test_longest_path(self):
         self.room.build({"main": "import e : exp 8\nexport new x : 8 in x := e + not e : com\n"}, "cycles 90\nnext 0 main.run\n")
         said = self.cost("b.txt")[0]
@@ -196,7 +251,9 @@ c.run  d.done      2       3     5    8
 
 def write(gos):
     """Gives the page what is measured."""
-    built.Room.gos = gos
+    built.Room.gos = str(Path(gos).resolve())
+    with tempfile.TemporaryDirectory() as room:
+        PAGE.write_text(with_shown(built.Room(room), PAGE.read_text()))
     with tempfile.TemporaryDirectory() as room:
         PAGE.write_text(Measure(built.Room(room)).page(PAGE.read_text()))
 

@@ -4,14 +4,18 @@
 usage: tools/tests/test_lib.py GOS [WORDS OF unittest]
        tools/tests/test_lib.py GOS --write
 
-With --write the table gets what is measured. A module is run by a main that gives it its arguments from ports.
+With --write the table gets what is measured. A module is run by a main that gives it its arguments from ports. What has timers and
+lines is played in a description of its surroundings (docs/PLAY.md).
 """
 import re
 import sys
 import tempfile
 from dataclasses import dataclass
+from pathlib import Path
 
 import built
+
+import circuits  # (built has put the folder above into the path)
 
 PAGE = built.LIBRARY / "README.md"
 TABLE = re.compile(r"(?:^\|.*\n)+", re.M)
@@ -19,7 +23,7 @@ TABLE = re.compile(r"(?:^\|.*\n)+", re.M)
 
 @dataclass
 class User:
-    """A main that uses a module: its imports beside the module, its term and its type, and the cycles of the table in words."""
+    """A main that uses a module: its imports beside the module, its term and its type, what the module does and its cycles in words."""
 
     imports: list
     term: str
@@ -36,8 +40,19 @@ USERS = {
     "widen": User(["x : exp 8"], "widen x", "exp 16", "puts 8 bits into 16", "{base}"),
     "wait_until": User(["so : exp 1"], "wait_until so", "com", "asks until it is so", "{base} + {round} an answer of 0"),
     "mul": User(["x : exp 8", "y : exp 8"], "mul x y", "exp 8", "multiplies, modulo 256", "{base} + {round} a bit of 1 in y"),
+    "divide": User(["x : exp 8", "y : exp 8", "rest : var 8"], "divide x y rest", "exp 8", "quotient and rest",
+                   "{base} + {round} a 1 in the quotient"),
+    "debounce": User(["pin : exp 1", "tick : com"], "debounce pin tick", "exp 1", "a level that stays", "{base} + {round} a look more"),
+    "uart_receive": User(["line : exp 1", "half : com", "bit : com", "byte : var 8"], "uart_receive line (half, bit) byte", "exp 1",
+                         "receives a byte", "{base} + {round} a bit of 1"),
+    "uart_send": User(["byte : exp 8", "bit : com", "line : var 1"], "uart_send byte bit line", "com", "sends a byte", "{base}"),
+    "spi": User(["byte : exp 8", "half : com", "sck : var 1", "mosi : var 1", "miso : exp 1"], "spi byte half sck mosi miso", "exp 8",
+                "exchanges a byte, mode 0", "{base}"),
+    "i2c_bit": User(["bit : exp 1", "half : com", "scl : var 1", "sda : var 1"], "i2c_bit bit half scl sda", "exp 1",
+                    "exchanges a bit", "{base} + {round} an answer of 0"),
 }
 NUMBERS = (0, 1, 13, 85, 170, 203, 255)
+USES = "| Module | In use | Where these are |\n|---|---|---|\n"
 
 
 def module(name):
@@ -49,19 +64,84 @@ def type_of(name):
     return module(name).rsplit(" : ", 1)[1].strip()
 
 
+def main_of(name, term="", gives="", imports=()):
+    """The text of a main that uses a module: as its user does, or by another term and with more imports."""
+    user = USERS[name]
+    lines = "".join(f"import {it}\n" for it in [f"{name} : {type_of(name)}", *user.imports, *imports])
+    return f"{lines}export {term or user.term} : {gives or user.gives}\n"
+
+
 def run(room, name, runs):
     """Runs a module's main once for each list of answers that ports give, in the order in which they are asked.
 
     What came out, the cycles of each run, and what each answered.
     """
-    user = USERS[name]
-    imports = "".join(f"import {it}\n" for it in [f"{name} : {type_of(name)}", *user.imports])
-    request, answer = ("run", "done") if user.gives == "com" else ("ask", "ans")
+    request, answer = ("run", "done") if USERS[name].gives == "com" else ("ask", "ans")
     pulses = "".join(f"next 0 main.{request}\n" + "".join(f"next 0 {it}\n" for it in answers) for answers in runs)
-    main = f"{imports}export {user.term} : {user.gives}\n"
-    found = room.build({"main": main, name: module(name)}, f"cycles {400 * len(runs) + 9}\n{pulses}", [f"main {name} {name}"])
+    found = room.build({"main": main_of(name), name: module(name)}, f"cycles {900 * len(runs) + 9}\n{pulses}", [f"main {name} {name}"])
     taken = [end - start for start, end in zip(found.times(f"main.{request}"), found.times(f"main.{answer}"))]
     return found, taken, found.values(f"main.{answer}")
+
+
+def looks(levels):
+    """The answers of a pin that shows these levels, one at each tick."""
+    return [it for level in levels for it in ("tick.done", f"pin.ans {level}")]
+
+
+def received(byte, stop=1):
+    """Answers with which uart_receive is given a byte and a stop bit."""
+    bits = [byte >> at & 1 for at in range(8)] + [stop]
+    return ["line.ans 0", "half.done", "line.ans 0", *(it for bit in bits for it in ("bit.done", f"line.ans {bit}")), "byte.done"]
+
+
+class Wires:
+    """A circuit at the wires scl and sda of I2C, with a slave that takes a byte and may acknowledge it. After each bit it holds scl low
+    for a while."""
+
+    HALF = 16
+
+    def __init__(self, netlist, byte, acknowledges, held):
+        self.circuit, self.byte, self.acknowledges, self.held = circuits.Circuit("net", netlist), byte, acknowledges, held
+        self.master, self.level, self.free_from, self.pulls = {"scl": 0, "sda": 1}, 0, 0, False
+        # what the slave has seen, and for how many cycles scl was low before each rise
+        self.bits, self.lows, self.fell = [], [], 0
+
+    def wires(self, cycle):
+        return {"scl": int(self.master["scl"] and cycle >= self.free_from), "sda": int(self.master["sda"] and not self.pulls)}
+
+    def follow(self, cycle):
+        """What the slave does where scl has risen or fallen."""
+        scl = self.wires(cycle)["scl"]
+        if scl and not self.level:
+            self.bits.append(self.wires(cycle)["sda"])
+            self.lows.append(cycle - self.fell)
+        elif self.level and not scl:
+            self.pulls = self.acknowledges and len(self.bits) == 8
+            self.fell, self.free_from = cycle, cycle + self.HALF + self.held
+        self.level = scl
+
+    def answer(self, cycle, name, value):
+        """The answer to an output, how many cycles later it comes, and its value."""
+        port, event = name.split(".")
+        if event == "write":
+            self.master[port] = value
+        return {"ask": (0, f"{port}.ans", self.byte), "run": (self.HALF, f"{port}.done", None), "write": (0, f"{port}.done", None),
+                "read": (0, f"{port}.ans", self.wires(cycle).get(port))}[event]
+
+    def run(self, cycles):
+        """Asks the root once; what it gives."""
+        pins, due = {pin.name: pin for pin in self.circuit.pins}, {0: [("main.ask", None)]}
+        for cycle in range(cycles):
+            self.follow(cycle)
+            for pin, value in self.circuit.outputs():
+                if pin.name == "main.ans":
+                    return value
+                later, name, answer = self.answer(cycle, pin.name, value)
+                due.setdefault(cycle + later, []).append((name, answer))
+            self.follow(cycle)
+            self.circuit.give([(pins[name], value) for name, value in due.pop(cycle, [])])
+            self.circuit.tick()
+        return None
 
 
 def rounds(name, count):
@@ -70,6 +150,11 @@ def rounds(name, count):
         "repeat": [f"n.ans {count}", *["c.done"] * count], "times": [f"n.ans {count}", *["v.done"] * count],
         "bit": ["x.ans 85", f"k.ans {7 - count}"], "shift_right": ["x.ans 85", f"n.ans {8 - count}"], "widen": [f"x.ans {count}"],
         "wait_until": [*["so.ans 0"] * count, "so.ans 1"], "mul": ["x.ans 85", f"y.ans {(1 << count) - 1}"],
+        "divide": [f"x.ans {(1 << count) - 1}", "y.ans 1", "rest.done"],
+        "debounce": looks([(count - at) % 2 for at in range(count)] + [0, 0, 0, 0]),
+        "uart_receive": received((1 << count) - 1), "uart_send": [f"byte.ans {count}", *["bit.done", "line.done"] * 10],
+        "spi": [f"byte.ans {count}", *["mosi.done", "half.done", "sck.done", f"miso.ans {count % 2}", "half.done", "sck.done"] * 8],
+        "i2c_bit": ["bit.ans 1", "sda.done", "half.done", "scl.done", *["scl.ans 0"] * count, "scl.ans 1", "half.done", "sda.ans 1", "scl.done"],
     }[name]
 
 
@@ -84,9 +169,11 @@ def row(room, name):
 
 
 def page(room, text):
-    """The page with its table as it is measured."""
+    """The page with its table as it is measured, and with that of uses."""
     head = ["| Module | Type | What it does | Weight | Cells | Cycles |", "|---|---|---|---|---|---|"]
-    return TABLE.sub("\n".join([*head, *(row(room, name) for name in USERS)]) + "\n", text, count=1)
+    uses = "".join(f"| `{name}` | `{user.term}` | `{', '.join(user.imports)}` |\n" for name, user in USERS.items())
+    tables = iter(["\n".join([*head, *(row(room, name) for name in USERS)]) + "\n", f"{USES}{uses}"])
+    return TABLE.sub(lambda _: next(tables), text, count=2)
 
 
 class Library(built.Case):
@@ -131,10 +218,121 @@ class Library(built.Case):
         cases = [*zip(NUMBERS, reversed(NUMBERS)), (0, 255), (1, 203), (255, 255), (16, 16), (15, 17)]
         self.check("mul", [[f"x.ans {x}", f"y.ans {y}"] for x, y in cases], [x * y % 256 for x, y in cases])
 
+    def test_divide(self):
+        cases = [(x, y) for x in (0, 1, 7, 100, 127, 128, 203, 255) for y in (0, 1, 3, 128, 129, 255)]
+        found, _, values = run(self.room, "divide", [[f"x.ans {x}", f"y.ans {y}", "rest.done"] for x, y in cases])
+        self.assertEqual(found.unused, 0)
+        self.assertEqual(values, [x // y if y else 255 for x, y in cases])
+        self.assertEqual(found.values("rest.write"), [x % y if y else x for x, y in cases])
+
+    def test_debounce_at_each_look(self):
+        cases = {(0, 0, 0, 0): 0, (1, 1, 1, 1): 1, (1, 0, 0, 0, 0): 0, (0, 0, 0, 1, 1, 1, 0, 1, 1, 1, 1): 1, (1, 1, 1, 0, 0, 1, 0, 0, 0, 0): 0}
+        self.check("debounce", [looks(it) for it in cases], list(cases.values()))
+
+    def test_debounce_passes_over_what_is_short(self):
+        """A pin that is 1 for up to three ticks, and then, bouncing, for long."""
+        main = main_of("debounce", "while not (debounce pin tick) do skip ; pressed", "com", ["pressed : com"])
+        levels = "0, 1 after 100 cycles, 0 after 130 cycles, 1 after 400 cycles, 0 after 550 cycles, 1 after 1000 cycles, 0 after 1010 cycles"
+        found = self.play(["debounce"], main, f"main runs once\npressed answers\ntick answers every 60 cycles\npin is {levels}, 1 after 1080 cycles")
+        first = next(cycle for cycle in found.times("pin.ans") if cycle >= 1080)
+        self.assertEqual(found.values("pin.ans").count(1), 1 + 3 + 4)
+        self.assertEqual([cycle // 60 - first // 60 for cycle in found.times("pressed.run")], [3])
+
+    UART = "half answers after 30 cycles\nbit answers every 60 cycles from half.done\n"
+
+    def receive(self, line, *more):
+        """What is received of a line that does so: the bytes, and the cycles in which it is looked at."""
+        main = main_of("uart_receive", "if uart_receive line (half, bit) byte then skip else wrong", "com", ["wrong : com"])
+        found = self.play(["uart_receive"], main, "\n".join([f"line {line}", self.UART, *more]))
+        return found, found.times("line.ask")
+
+    def test_uart_receive(self):
+        text = b"gos\x00\xff\x55"
+        found, looked = self.receive(f"sends {' '.join(map(str, text))} at 60 cycles a bit after 100 cycles",
+                                     "main runs 6 times", f"byte takes {' '.join(map(str, text))}", "wrong never answers")
+        begin = 100
+        for byte in text:
+            # (it looks when half a bit is over, and then in the middle of each bit, as late as it saw the line fall)
+            seen = next(cycle for cycle in looked if cycle >= begin)
+            self.assertLess(seen - begin, 6)
+            middles = [cycle for cycle in looked if seen + 28 < cycle < begin + 600 - 10]
+            self.assertEqual(len(middles), 10)
+            for at, cycle in enumerate(middles):
+                self.assertTrue(30 <= cycle - begin - 60 * at < 46, (byte, at, cycle))
+            begin += 600
+        self.assertLess(found.times("main.done")[-1], begin)
+
+    def test_uart_receive_without_a_stop_bit(self):
+        found, _ = self.receive("is 1 0 1 0 0 0 0 0 1 0 0 1 for 60 cycles each", "main runs once", "byte takes 65", "wrong answers")
+        self.assertEqual(len(found.times("wrong.run")), 1)
+
+    def test_uart_receive_passes_over_a_short_fall(self):
+        levels = "1, 0 after 50 cycles, 1 after 70 cycles, 0 after 200 cycles, 1 after 260 cycles, 0 after 320 cycles, 1 after 740 cycles"
+        found, _ = self.receive(f"is {levels}", "main runs once", "byte takes 1", "wrong never answers")
+        self.assertEqual(len(found.times("half.run")), 2)
+
+    def test_uart_send(self):
+        text = (0x41, 0, 255, 0x80, 0x01)
+        bits = [bit for byte in text for bit in (0, *(byte >> at & 1 for at in range(8)), 1)]
+        found = self.play(["uart_send"], main_of("uart_send"), f"main runs 5 times\nbyte gives {' '.join(map(str, text))}\n"
+                          f"bit answers every 50 cycles\nline takes {' '.join(map(str, bits))}")
+        written = found.times("line.write")
+        self.assertEqual([cycle - written[0] for cycle in written], [50 * at for at in range(50)])
+        self.assertEqual({cycle - tick for cycle, tick in zip(written, found.times("bit.done"))}, {written[0] - found.times("bit.done")[0]})
+
+    def test_uart_to_itself(self):
+        """What one sends the other receives, in a circuit that has both."""
+        imports = ["uart_receive : exp 1 -> com * com -> var 8 -> exp 1", "wire : exp 1", "half : com", "middle : com", "got : var 8", "wrong : com"]
+        main = main_of("uart_send", "uart_send byte bit line || (if uart_receive wire (half, middle) got then skip else wrong)", "com", imports)
+        around = ["main runs 3 times after 200 cycles", "byte gives 71 200 5", "bit answers every 40 cycles", "line is a variable from 1",
+                  "wire is an array from 0 1 at line", "half answers after 20 cycles", "middle answers every 40 cycles from half.done",
+                  "got takes 71 200 5", "wrong never answers"]
+        self.play(["uart_send", "uart_receive"], main, "\n".join(around))
+
+    def test_spi(self):
+        sent, came = (0xA5, 0x00, 0xFF, 0x01), (0x3C, 0xFF, 0x80, 0x55)
+        bits = [" ".join(str(byte >> at & 1) for byte in some for at in range(7, -1, -1)) for some in (sent, came)]
+        found = self.play(["spi"], main_of("spi"), f"main runs 4 times\nbyte gives {' '.join(map(str, sent))}\nhalf answers after 16 cycles\n"
+                          f"sck takes {'1 0 ' * 32}\nmosi takes {bits[0]}\nmiso gives {bits[1]}")
+        self.assertEqual(found.values("main.ans"), list(came))
+        turn = ["mosi.write", "mosi.done", "half.run", "half.done", "sck.write", "sck.done", "miso.ask", "miso.ans", "half.run", "half.done",
+                "sck.write", "sck.done"]
+        self.assertEqual(found.names(), ["main.ask", "byte.ask", "byte.ans", *8 * turn, "main.ans"] * 4)
+        rises, falls = found.times("sck.write")[::2], found.times("sck.write")[1::2]
+        self.assertTrue(all(16 <= fall - rise <= 48 for rise, fall in zip(rises, falls)))
+
+    def test_i2c_bit(self):
+        for bit, level, stretched in ((0, 0, 0), (1, 1, 0), (1, 0, 5), (0, 0, 17)):
+            waits = ["scl.done", *["scl.ans 0"] * stretched, "scl.ans 1"]
+            answers = [f"bit.ans {bit}", "sda.done", "half.done", *waits, "half.done", f"sda.ans {level}", "scl.done"]
+            found, _, values = run(self.room, "i2c_bit", [answers])
+            held = ["scl.read", "scl.ans"] * (stretched + 1)
+            self.assertEqual((values, found.values("sda.write"), found.values("scl.write"), found.unused), ([level], [bit], [1, 0], 0))
+            self.assertEqual(found.names()[3:-1], ["sda.write", "sda.done", "half.run", "half.done", "scl.write", "scl.done", *held,
+                                                   "half.run", "half.done", "sda.read", "sda.ans", "scl.write", "scl.done"])
+
+    def test_i2c_byte_on_wires(self):
+        """A byte and its acknowledge, on two wires that a slave pulls down too, which holds scl after each bit."""
+        byte = "while !i < 8:4 do (seen := i2c_bit (not (!n < 128:8)) half scl sda ; n := !n + !n ; i := !i + 1:4)"
+        term = f"new n : 8 in new i : 4 in new seen : 1 in (n := byte ; {byte} ; seen := i2c_bit 1:1 half scl sda ; !seen)"
+        main = main_of("i2c_bit", term, "exp 1").replace("import bit : exp 1", "import byte : exp 8")
+        self.room.build({"main": main, "i2c_bit": module("i2c_bit")}, "cycles 9\n", ["main i2c_bit i2c_bit"])
+        for sent, acknowledges, held in ((0xA6, True, 0), (0x01, False, 0), (0xFF, True, 40), (0x5B, True, 7)):
+            wires = Wires((self.room.path / "out.net").read_text(), sent, acknowledges, held)
+            self.assertEqual(wires.run(3000), int(not acknowledges))
+            self.assertEqual(wires.bits, [sent >> at & 1 for at in range(7, -1, -1)] + [int(not acknowledges)])
+            # (no rise comes before half is over, nor while the slave holds the line, as it does behind each bit)
+            self.assertTrue(all(low >= 16 + held for low in wires.lows[1:]), wires.lows)
+
+    def play(self, names, main, description):
+        """Plays a main that uses these modules in surroundings of this description, in which nothing goes wrong. What came out."""
+        modules = {"main": main, **{name: module(name) for name in names}}
+        return self.room.play(modules, description + "\n", [f"main {name} {name}" for name in names])
+
 
 def write(gos):
     """Gives the table what is measured."""
-    built.Room.gos = gos
+    built.Room.gos = str(Path(gos).resolve())
     with tempfile.TemporaryDirectory() as room:
         PAGE.write_text(page(built.Room(room), PAGE.read_text()))
 

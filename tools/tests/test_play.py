@@ -317,6 +317,7 @@ class Examples(Room):
         for made, kept in (("in.pls", "in.pls"), ("out.trc", "trace.txt")):
             self.assertEqual((self.room / made).read_text(), (EXAMPLES / name / kept).read_text())
         self.said(TOOLS / "gos-why", "b.txt")
+        self.assertIn('subgraph "cluster main.0"', self.said(TOOLS / "gos-picture", "--part", "main", "b.txt"))
         if shutil.which("iverilog"):
             self.said("iverilog", "-g2005", "-o", "bench.vvp", "bench.v", "out.v")
             self.assertEqual(self.said("vvp", "-n", "bench.vvp"), (EXAMPLES / name / "trace.txt").read_text())

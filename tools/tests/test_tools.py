@@ -25,7 +25,7 @@ TOP = Path(__file__).resolve().parent.parent.parent
 TOOLS, LATCH = TOP / "tools", TOP / "examples" / "latch"
 # What tools/quick and the gate run.
 TRIED = ("tools/house", "examples/run", "tools/tests/test_tools.py", "tools/tests/tutorial",
-         *(f"tools/tests/test_{it}.py" for it in "play where lsp costs cookbook lib".split()))
+         *(f"tools/tests/test_{it}.py" for it in "play where lsp costs cookbook lib make".split()))
 WORDS = re.search(r"The words are `([^`]+)`", (TOP / "docs" / "LANGUAGE.md").read_text().replace("\n  ", " "))[1].split()
 
 
@@ -231,6 +231,7 @@ class Pictures(unittest.TestCase):
             said = run(TOOLS / "gos-picture", Path(room) / "o").stdout
         self.assertIn('p0 -> p1 [label="com", taillabel="0", headlabel="0"];', said)
         self.assertIn('r -> p0 [label="com", taillabel="0", headlabel="2"];', said)
+        self.assertIn('p1 [label="1: skip", shape=box];', said)
 
     def test_netlist(self):
         said = run(TOOLS / "gos-picture", LATCH / "a.net").stdout
@@ -255,6 +256,95 @@ class Pictures(unittest.TestCase):
             self.assertRegex(ran.stderr, r"^n: it has 595 cells, and more than 200 aren't drawn, .*; gos-picture n \| sfdp -Tsvg > o.svg draws .*\n$")
             self.assertFalse((Path(room) / "o.svg").exists())
             self.assertIn("n592 -> n594", run(TOOLS / "gos-picture", "n", cwd=room).stdout)
+
+
+class PartsOfABuild(unittest.TestCase):
+    """Pictures of a build and of its parts: a main that runs a procedure twice."""
+
+    FILES = {
+        "b.txt": "gosbuild 1\ninst main main.gos main.obj\ninst p p.gos p.obj\nbind main p p\nroot main\nnet out.net\nverilog out.v\n"
+                 "pulses in.pls\ntrace out.trc\n",
+        "main.obj": "gosobj 1\nweight 16\nimports 1\nimport p com\nresult com\nparts 2\nshare com\nseq\njoints 4\np0.0 i0.0\nr.0 p1.2\n"
+                    "p1.0 p0.1\np1.1 p0.2\nend\n",
+        "p.obj": "gosobj 1\nweight 5\nimports 0\nresult com\nparts 1\nskip\njoints 1\nr.0 p0.0\nend\n",
+        "out.net": "gosnet 1\ncells 16\ninput 1\nreg 1 14\nreg 1 11\nnot 1 2\nconst 1 0\nmux 1 12 4 2\nor 1 4 13\nor 1 12 13\nreg 1 7\n"
+                   "and 1 15 3\nand 1 15 2\nor 1 5 6\nor 1 0 0\nor 1 9 9\nor 1 10 10\nor 1 8 8\nports 1\ngive main com 0 1\nend\n",
+    }
+
+    def setUp(self):
+        room = tempfile.TemporaryDirectory()
+        self.addCleanup(room.cleanup)
+        self.room = Path(room.name)
+        for name, text in self.FILES.items():
+            (self.room / name).write_text(text)
+
+    def picture(self, *words, status=0):
+        ran = run(TOOLS / "gos-picture", *words, cwd=self.room)
+        self.assertEqual((ran.returncode, ran.stderr == ""), (status, status == 0), ran.stderr)
+        return ran.stdout + ran.stderr
+
+    def test_a_build(self):
+        lines = ['  "main" [label="main\\nmain.gos\\n2 parts", shape=box];', '  "p" [label="p\\np.gos\\n1 parts", shape=box];',
+                 '  "port main" [label="main", shape=oval, style=bold];', '  "port main" -> "main" [label="com"];',
+                 '  "main" -> "p" [label="p: com"];', "}", ""]
+        self.assertEqual(self.picture("b.txt").split("\n")[4:], lines)
+        (self.room / "b.txt").write_text(self.FILES["b.txt"].replace("bind main p p\n", ""))
+        self.assertIn('"main" -> "port p" [label="com"];', self.picture("b.txt"))
+
+    def test_a_part(self):
+        said = self.picture("--part", "p", "b.txt").split("\n")
+        self.assertEqual(said[4].strip()[:45], 'subgraph "cluster p.0" { label="p.0: skip"; f')
+        self.assertEqual(said[5:], ['    n15 [label="or", shape=ellipse];', "  }", '  "main.0" [label="main.0\\nshare com", shape=folder, style=dashed];',
+                                    '  "n15" -> "main.0";', '  "main.0" -> "n15";', "}", ""])
+        said = self.picture("--part", "main.1", "b.txt")
+        for line in ('"main.done" [shape=oval, style=bold];', '"main.run" -> "n12";', '"n14" -> "main.done";', '"n13" -> "main.0";'):
+            self.assertIn(f"  {line}\n", said)
+        self.assertNotIn("p.0", said)
+        whole = self.picture("--part", "main", "b.txt")
+        self.assertEqual((whole.count("subgraph"), len(re.findall(r"^    n\d+ ", whole, re.M))), (2, 13))
+
+    def test_a_register_of_a_joint_belongs_to_no_part(self):
+        # (the same netlist, where the request of the result has a register, as for a ring)
+        cells = "input 1, reg 1 15, reg 1 0, reg 1 12, not 1 3, const 1 0, mux 1 13 5 3, or 1 5 14, or 1 13 14, reg 1 8, and 1 16 4, and 1 16 3, " \
+                "or 1 6 7, or 1 2 2, or 1 10 10, or 1 11 11, or 1 9 9".split(", ")
+        (self.room / "out.net").write_text("\n".join(["gosnet 1", "cells 17", *cells, "ports 1", "give main com 0 1", "end", ""]))
+        said = self.picture("--part", "main.1", "b.txt")
+        for line in ('"n2" [label="reg", shape=box];', '"main.run" -> "n2";', '"n2" -> "n13";'):
+            self.assertIn(f"  {line}\n", said)
+
+    def test_what_is_wrong(self):
+        for words, said in ((("--part", "q", "b.txt"), "b.txt: there is no instance q; there are main, p\n"),
+                            (("--part", "mein", "b.txt"), "b.txt: there is no instance mein; is main meant?\n"),
+                            (("--part", "main.2", "b.txt"), "b.txt: main has no part main.2; its parts are main.0 to main.1\n"),
+                            (("--part", "p", "out.net"), "out.net: this is no build file\n"),
+                            (("p.gos",), "p.gos: No such file or directory\n")):
+            self.assertEqual(self.picture(*words, status=2), said)
+        (self.room / "p.obj").write_text(self.FILES["p.obj"].replace("skip", "seq"))
+        said = "out.net: this is no netlist of the objects that the build file names; gos link writes it\n"
+        self.assertEqual(self.picture("--part", "p", "b.txt", status=2), said)
+        (self.room / "p.obj").write_text(self.FILES["p.obj"][:40])
+        self.assertIn("p.obj: this is no object that is right", self.picture("b.txt", status=2))
+        (self.room / "p.obj").unlink()
+        self.assertEqual(self.picture("b.txt", status=2), "p.obj isn't there yet: gos build b.txt writes it\n")
+        (self.room / "out.net").unlink()
+        self.assertEqual(self.picture("--part", "p", "b.txt", status=2), "out.net isn't there yet: gos link b.txt writes it\n")
+
+    def test_too_large_a_part(self):
+        count = 120
+        parts = "lit 1 0\n" * count
+        (self.room / "p.obj").write_text(f"gosobj 1\nweight 5\nimports 0\nresult com\nparts {count}\n{parts}joints 0\nend\n")
+        gates = [line for at in range(count) for line in ("or 1 0 0", "const 1 0", f"gate 1 {15 + 3 * at} {16 + 3 * at}")]
+        lines = self.FILES["out.net"].split("\n")
+        (self.room / "out.net").write_text("\n".join(["gosnet 1", f"cells {15 + 3 * count}", *lines[2:17], *gates, *lines[18:]]))
+        said = self.picture("--part", "p", "b.txt", "o.svg", status=2)
+        self.assertEqual(said, "b.txt: it has 362 cells and neighbours in p, and more than 200 aren't drawn, for dot takes minutes then; "
+                               "p.0 to p.119 are its parts, each of which is drawn by its name; and gos-picture p.obj o.svg draws them all as boxes\n")
+
+    @unittest.skipUnless(shutil.which("dot"), "Graphviz is not installed")
+    def test_drawn(self):
+        for words in (("b.txt",), ("--part", "main", "b.txt"), ("--part", "p.0", "b.txt")):
+            self.assertEqual(self.picture(*words, "o.svg"), "")
+            self.assertIn("</svg>", (self.room / "o.svg").read_text())
 
 
 class Editors(unittest.TestCase):
