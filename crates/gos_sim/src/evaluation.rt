@@ -23,7 +23,7 @@ use std::alloc::Global;
 use std::marker::Model;
 
 /// What the steps of a run do, by the names of their gates.
-#[derive(Debug, Clone, Copy, PartialEq, Eq)]
+#[derive(Clone, Copy, PartialEq, Eq)]
 pub enum Kind {
     Const,
     Not,
@@ -39,7 +39,7 @@ pub enum Kind {
 }
 
 /// Steps of one kind, whose nets stand one behind another, and so do their operands.
-#[derive(Debug, Clone, Copy)]
+#[derive(Clone, Copy)]
 pub struct Run {
     /// What they do.
     pub kind: Kind,

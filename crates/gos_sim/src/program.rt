@@ -10,7 +10,7 @@ use gos_types::NoMemory;
 use std::alloc::Global;
 
 /// A cell to evaluate, which is neither an input nor a register.
-#[derive(Debug, Clone, Copy)]
+#[derive(Clone, Copy)]
 pub struct Step {
     /// Its net.
     pub net: u32,
@@ -21,7 +21,7 @@ pub struct Step {
 }
 
 /// A register.
-#[derive(Debug, Clone, Copy)]
+#[derive(Clone, Copy)]
 pub struct Latch {
     /// Its net.
     pub net: u32,

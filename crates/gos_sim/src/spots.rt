@@ -11,7 +11,7 @@ use std::alloc::Global;
 const EACH: usize = 16;
 
 /// A run, and how many steps stand before it.
-#[derive(Debug, Clone, Copy)]
+#[derive(Clone, Copy)]
 pub struct Spot {
     /// The run.
     pub run: usize,
