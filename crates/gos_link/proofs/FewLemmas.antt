@@ -12,8 +12,6 @@ use Rattle.gos_plan.specs.Plans.{End, Joint, Plan, contact_at, IsRight}
 use Rattle.gos_plan.specs.Size.{shakes_of, plan_size}
 use Rattle.gos_plan.specs.Joining.{origin, IsJoining, IsSameButOrder}
 use Rattle.gos_plan.proofs.JointLemmas.{same_itself}
-use Rattle.gos_ties.specs.declared.points.Place as spot
-use Rattle.gos_ties.specs.declared.points.Place.TheVariants as spots
 use Rattle.gos_ties.specs.declared.points.Point.{Point}
 use Rattle.gos_ties.specs.declared.points.Tie.{Tie}
 use Rattle.gos_ties.specs.Ties.{at, Meet}

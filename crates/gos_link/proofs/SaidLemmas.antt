@@ -1,6 +1,6 @@
--- What lines of two and of four words don't say.
+-- What lines of two and of four words don't say, and what a refusal leaves known.
 use Rattle.std.proofs.Common.{◌≡◌, [], ◌∷◌, sym, subst}
-use Rattle.std.specs.Prelude.{codes}
+use Rattle.std.specs.Prelude.{Result, Ok, Err, OnErr, codes}
 use Rattle.gos_outside.specs.FileName.{IsFileName}
 use Rattle.gos_lex.specs.Names.{IsName}
 use Rattle.gos_lex.specs.Lines.{Word, Words}
@@ -32,3 +32,8 @@ says_nothing words two four (says.Inst name source object) h = four _ _ _ _ h.0
 says_nothing words two four (says.Bind user import giver) h = four _ _ _ _ h.0
 says_nothing words two four (says.Root name) h = two _ _ h.0
 says_nothing words two four (says.File role name) h = two _ _ h.0
+
+-- what holds, holds where something was refused
+pub on_refusal : {A E : Type 0} (P : Type 0) (r : Result A E) → P → OnErr r P
+on_refusal P (Ok a) holds = tt
+on_refusal P (Err e) holds = holds

@@ -32,11 +32,13 @@ use std::alloc::Global;
 const MAX_TEXT: usize = 65_536;
 
 /// Reads the build file that stands in the file `own`. The error is `Form` with the first wrong line, or `NoMemory`.
+/// A text above the limit takes no memory.
 pub fn read_build(alloc: Global, text: &[u8], own: &[u8]) -> Result<Build, LinkFault>
     ensures read { IfOk result (IsBuildFile text.now own.now) }
     ensures few_instances { IfOk result (λ build. length build.instances.items ≤ 65536) }
     ensures few_binds { IfOk result (λ build. length build.binds.items ≤ 65536) }
     ensures fault { IfErr result (λ fault. fault ≢ LinkFault.NoMemory → (line : ℕ) × (fault ≡ LinkFault.Form line) × IsFirstWrong text.now own.now line) }
+    ensures long { 65536 < length text.now → IfErr result (λ fault. fault ≡ LinkFault.Form 0) }
 {
     if text.len() > MAX_TEXT {
         return Err(LinkFault::Form { line: 0 });

@@ -1,6 +1,6 @@
 // What one line of a build file says.
 
-ghost use Rattle.std.specs.Prelude.{◌≡◌, ◌∷◌, [], IfOk, MatchOption, map, codes};
+ghost use Rattle.std.specs.Prelude.{◌≡◌, ◌∷◌, [], IfOk, OnErr, MatchOption, map, codes};
 ghost use Rattle.gos_lex.specs.Names.{IsName};
 ghost use Rattle.gos_lex.specs.Lines.{Word};
 ghost use Rattle.gos_link.specs.BuildFile.{keyword, Says, sort_of, sort_of_file, is_instance, is_source, is_no_source};
@@ -81,7 +81,8 @@ fn new_name(alloc: Global, bytes: &[u8]) -> Result<Name, NoMemory>
 // What a line of two words says.
 #[tactic(auto, using(crate::proofs::SaidLemmas::none_of_two))]
 fn said_by_two(alloc: Global, word: &[u8], name: &[u8]) -> Result<Option<Said>, NoMemory>
-    ensures { IfOk result (λ found. MatchOption found ((said : Said) → Says (word.now ∷ name.now ∷ []) said → ⊥) (Says (word.now ∷ name.now ∷ []))) }
+    ensures said { IfOk result (λ found. MatchOption found ((said : Said) → Says (word.now ∷ name.now ∷ []) said → ⊥) (Says (word.now ∷ name.now ∷ []))) }
+    ensures memory { OnErr result ((said : Said) × Says (word.now ∷ name.now ∷ []) said) }
 {
     if word == b"gosbuild".as_slice() {
         return Ok(version(name));
@@ -110,7 +111,9 @@ fn version(number: &[u8]) -> Option<Said>
 // What a line `root NAME` says.
 #[tactic(auto, using(crate::proofs::SaidLemmas::none_of_two))]
 fn said_by_root(alloc: Global, name: &[u8]) -> Result<Option<Said>, NoMemory>
-    ensures { IfOk result (λ found. MatchOption found ((said : Said) → Says (codes "root" ∷ name.now ∷ []) said → ⊥) (Says (codes "root" ∷ name.now ∷ []))) }
+    ensures said { IfOk result (λ found. MatchOption found ((said : Said) → Says (codes "root" ∷ name.now ∷ []) said → ⊥)
+        (Says (codes "root" ∷ name.now ∷ []))) }
+    ensures memory { OnErr result ((said : Said) × Says (codes "root" ∷ name.now ∷ []) said) }
 {
     if !is_name(name) {
         return Ok(None);
@@ -122,7 +125,9 @@ fn said_by_root(alloc: Global, name: &[u8]) -> Result<Option<Said>, NoMemory>
 // What a line of a file of the build says.
 #[tactic(auto, using(crate::proofs::SaidLemmas::none_of_two))]
 fn said_by_file(alloc: Global, role: Role, name: &[u8]) -> Result<Option<Said>, NoMemory>
-    ensures { IfOk result (λ found. MatchOption found ((said : Said) → Says (keyword role ∷ name.now ∷ []) said → ⊥) (Says (keyword role ∷ name.now ∷ []))) }
+    ensures said { IfOk result (λ found. MatchOption found ((said : Said) → Says (keyword role ∷ name.now ∷ []) said → ⊥)
+        (Says (keyword role ∷ name.now ∷ []))) }
+    ensures memory { OnErr result ((said : Said) × Says (keyword role ∷ name.now ∷ []) said) }
 {
     if !is_file_name(name) {
         return Ok(None);
@@ -139,9 +144,11 @@ fn said_by_four(
     second: &[u8],
     third: &[u8],
 ) -> Result<Option<Said>, NoMemory>
-    ensures { IfOk result (λ found. MatchOption found ((said : Said)
+    ensures said { IfOk result (λ found. MatchOption found ((said : Said)
         → Says (word.now ∷ first.now ∷ second.now ∷ third.now ∷ []) said → ⊥)
         (Says (word.now ∷ first.now ∷ second.now ∷ third.now ∷ []))) }
+    ensures memory { OnErr result ((said : Said)
+        × Says (word.now ∷ first.now ∷ second.now ∷ third.now ∷ []) said) }
 {
     if word == b"inst".as_slice() {
         said_by_inst(alloc, first, second, third)
@@ -159,9 +166,11 @@ fn said_by_inst(
     source: &[u8],
     object: &[u8],
 ) -> Result<Option<Said>, NoMemory>
-    ensures { IfOk result (λ found. MatchOption found ((said : Said)
+    ensures said { IfOk result (λ found. MatchOption found ((said : Said)
         → Says (codes "inst" ∷ name.now ∷ source.now ∷ object.now ∷ []) said → ⊥)
         (Says (codes "inst" ∷ name.now ∷ source.now ∷ object.now ∷ []))) }
+    ensures memory { OnErr result ((said : Said)
+        × Says (codes "inst" ∷ name.now ∷ source.now ∷ object.now ∷ []) said) }
 {
     if !is_name(name) || !is_file_name(source) || !is_file_name(object) {
         return Ok(None);
@@ -183,9 +192,11 @@ fn said_by_bind(
     import: &[u8],
     giver: &[u8],
 ) -> Result<Option<Said>, NoMemory>
-    ensures { IfOk result (λ found. MatchOption found ((said : Said)
+    ensures said { IfOk result (λ found. MatchOption found ((said : Said)
         → Says (codes "bind" ∷ user.now ∷ import.now ∷ giver.now ∷ []) said → ⊥)
         (Says (codes "bind" ∷ user.now ∷ import.now ∷ giver.now ∷ []))) }
+    ensures memory { OnErr result ((said : Said)
+        × Says (codes "bind" ∷ user.now ∷ import.now ∷ giver.now ∷ []) said) }
 {
     if !is_name(user) || !is_name(import) || !is_name(giver) {
         return Ok(None);
@@ -222,11 +233,13 @@ fn four_words<'a>(words: &[&'a [u8]]) -> Option<(&'a [u8], &'a [u8], &'a [u8], &
     }
 }
 
-/// What a line of these words says, if it is of one of the forms. `Err` is want of memory alone.
+/// What a line of these words says, if it is of one of the forms. `Err` is want of memory alone, and only a line that says
+/// something wants any.
 #[tactic(auto, using(crate::proofs::SaidLemmas::says_nothing))]
 pub(crate) fn said_by(alloc: Global, words: &[&[u8]]) -> Result<Option<Said>, NoMemory>
-    ensures { IfOk result (λ found. MatchOption found ((said : Said) → Says (map (λ word. word.now) words.now) said → ⊥)
+    ensures said { IfOk result (λ found. MatchOption found ((said : Said) → Says (map (λ word. word.now) words.now) said → ⊥)
         (Says (map (λ word. word.now) words.now))) }
+    ensures memory { OnErr result ((said : Said) × Says (map (λ word. word.now) words.now) said) }
 {
     if let Some((word, name)) = two_words(words) {
         return said_by_two(alloc, word, name);

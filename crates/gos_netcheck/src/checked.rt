@@ -1,5 +1,5 @@
 // The acceptance test, and the netlists that pass it.
-ghost use Rattle.std.specs.Prelude.{◌≡◌, ◌<◌, ◌^◌, IfOk, IfErr, map, length};
+ghost use Rattle.std.specs.Prelude.{◌≡◌, ◌<◌, ◌≤◌, ◌^◌, IfOk, IfErr, map, length};
 ghost use Rattle.gos_netlist.specs.Seen.{number_of};
 ghost use Rattle.gos_netcheck.specs.Schedule.{IsSchedule};
 ghost use Rattle.gos_netcheck.specs.Levels.{AreLevels};
@@ -42,10 +42,11 @@ impl Model for Checked {
 }
 
 impl Checked {
-    /// The netlist.
+    /// The netlist. It has no more cells than 32 bits can number.
     pub fn netlist(&self) -> &Netlist
         ensures value { result.now ≡ self.now }
         ensures accepted { IsAccepted self.now }
+        ensures few { length self.now.cells < 2 ^ 32 }
     {
         &self.net
     }
@@ -60,7 +61,8 @@ impl Checked {
 
     /// All nets, each behind all that feeds its cell. A register is fed by none, since it shows what its pin was before.
     pub fn schedule(&self) -> &[NetId]
-        ensures { IsSchedule self.now.cells (map number_of result.now) }
+        ensures schedule { IsSchedule self.now.cells (map number_of result.now) }
+        ensures few { length result.now ≤ length self.now.cells }
     {
         self.order.as_slice()
     }

@@ -1,5 +1,5 @@
 // Reading a netlist from its text.
-ghost use Rattle.std.specs.Prelude.{IfOk, IfErr};
+ghost use Rattle.std.specs.Prelude.{◌≡◌, ◌<◌, IfOk, IfErr, length};
 ghost use Rattle.gos_netlist.specs.NetFaults.{IsRead, HasFault};
 ghost use Rattle.gos_lex.specs.ItemTexts.{Passed, IsFixed};
 ghost use Rattle.gos_netlist.specs.inner.NetLines.{BreaksOff};
@@ -13,10 +13,11 @@ use std::alloc::Global;
 // The longest text, in bytes.
 const LONGEST_TEXT: usize = 268_435_456;
 
-/// The netlist that this text is the text of. `print_net` is the way back.
+/// The netlist that this text is the text of. `print_net` is the way back. A text above the limit takes no memory.
 pub fn read_net(alloc: Global, text: &[u8]) -> Result<Netlist, NetTextFault>
     ensures read { IfOk result (IsRead text.now) }
     ensures fault { IfErr result (HasFault text.now) }
+    ensures long { 268435456 < length text.now → IfErr result (λ e. e ≡ NetTextFault.Limit 268435456) }
 {
     if text.len() > LONGEST_TEXT {
         return Err(NetTextFault::Limit { at: LONGEST_TEXT });

@@ -1,7 +1,7 @@
 -- What the linked edges' functions read and write, as clauses see it.
 use Rattle.std.specs.Prelude.{◌≡◌, ◌<◌, ◌≤◌, ◌+◌, ℕ, List, [], ◌∷◌, ◌++◌, length, map, set}
 use Rattle.std.proofs.Common.{sym, ◌∙◌, ap, subst, arith, get_or}
-use Rattle.std.proofs.lemmas.List.{length-map, length-set, length_push, map-append}
+use Rattle.std.proofs.lemmas.List.{length-map, length-set, map-append}
 use Rattle.gos_order.specs.declared.links.Entry.{Entry}
 use Rattle.gos_order.specs.declared.links.Way.{Way}
 use Rattle.gos_order.specs.declared.links.Way.TheVariants.{Out, In}
@@ -93,6 +93,3 @@ module _ (old : Inside) (linked : AreLinked old) (from to place : ℕ) (first : 
 
   pub sides_kept : length (set old.last_in.items to place) ≡ length (set old.last_out.items from place)
   sides_kept = rw (length-set, length-set) linked.sides
-
-  pub small_kept : length old.entries.items < 4294967294 → length entries ≤ 4294967294
-  small_kept room = omega (arith, room, ap length pushed, length_push old.entries.items entry)

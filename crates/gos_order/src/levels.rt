@@ -5,7 +5,7 @@
 // one on the way out among lower levels. Here a search on the way out that stays below a level and gives up comes
 // first, so that levels stay low where edges come in the order of a program; and no level is raised before it is known
 // that there is no ring.
-ghost use Rattle.std.specs.Prelude.{◌≡◌, ◌+◌, ◌∷◌, ◌<◌, [], length, IfSome, MatchOption, Bool, ◌≢◌};
+ghost use Rattle.std.specs.Prelude.{◌≡◌, ◌+◌, ◌∷◌, ◌<◌, ◌^◌, [], length, IfSome, MatchOption, Bool, ◌≢◌};
 ghost use Rattle.gos_order.specs.Rings.{Leads};
 ghost use Rattle.gos_order.specs.inner.NodeLists.{IsIn, at};
 ghost use Rattle.gos_order.specs.inner.Levels.{AreBefore, AreBelow, AreRaised, AreRising, MakesRoom};
@@ -17,19 +17,19 @@ use crate::search::{Outcome, Search};
 /// Where an edge from one node to another would close no ring, the level to which the nodes behind it have to be raised.
 pub fn room(
     links: &Links,
-    levels: &[u32],
+    levels: &[usize],
     before: &mut Nodes,
     behind: &mut Nodes,
     from: u32,
     to: u32,
-) -> Option<u32>
+) -> Option<usize>
     requires sized { length levels.now ≡ links.now.nodes }
     requires before { before.old.bound ≡ links.now.nodes }
     requires behind { behind.old.bound ≡ links.now.nodes }
     requires from { from < links.now.nodes }
     requires to { to < links.now.nodes }
     requires rising { AreRising links.now.edges levels.now }
-    requires low { at levels.now from < 4294967295 }
+    requires low { at levels.now from < 2 ^ 63 }
     requires other { from ≢ to }
     ensures room { MatchOption result (Leads links.now.edges to from) (MakesRoom links.now.edges levels.now behind.new.items from to) }
     ensures before_bound { before.new.bound ≡ before.old.bound }
@@ -53,19 +53,19 @@ pub fn room(
 // The same, where many nodes are near behind it.
 fn room_above(
     links: &Links,
-    levels: &[u32],
+    levels: &[usize],
     before: &mut Nodes,
     behind: &mut Nodes,
     from: u32,
     to: u32,
-) -> Option<u32>
+) -> Option<usize>
     requires sized { length levels.now ≡ links.now.nodes }
     requires before { before.old.bound ≡ links.now.nodes }
     requires behind { behind.old.bound ≡ links.now.nodes }
     requires from { from < links.now.nodes }
     requires to { to < links.now.nodes }
     requires rising { AreRising links.now.edges levels.now }
-    requires low { at levels.now from < 4294967295 }
+    requires low { at levels.now from < 2 ^ 63 }
     requires other { from ≢ to }
     ensures room { MatchOption result (Leads links.now.edges to from) (MakesRoom links.now.edges levels.now behind.new.items from to) }
     ensures before_bound { before.new.bound ≡ before.old.bound }
@@ -88,19 +88,19 @@ fn room_above(
 // Finds the nodes before one, where none of them is the other, and the level to which what lies behind has to be raised.
 fn find_before(
     links: &Links,
-    levels: &[u32],
+    levels: &[usize],
     before: &mut Nodes,
     behind: &Nodes,
     from: u32,
     to: u32,
-) -> Option<u32>
+) -> Option<usize>
     requires sized { length levels.now ≡ links.now.nodes }
     requires before { before.old.bound ≡ links.now.nodes }
     requires behind { behind.now.bound ≡ links.now.nodes }
     requires from { from < links.now.nodes }
     requires to { behind.now.items ≡ to ∷ [] }
     requires rising { AreRising links.now.edges levels.now }
-    requires low { at levels.now from < 4294967295 }
+    requires low { at levels.now from < 2 ^ 63 }
     requires other { from ≢ to }
     ensures before { MatchOption result (Leads links.now.edges to from) (AreBefore links.now.edges levels.now before.new.items from) }
     ensures other { IfSome result (λ _. IsIn before.new.items to → ⊥) }
@@ -131,12 +131,12 @@ fn find_before(
 // Finds the nodes behind one that are below a level, unless one of those before the other is among them.
 fn find_behind(
     links: &Links,
-    levels: &[u32],
+    levels: &[usize],
     before: &Nodes,
     behind: &mut Nodes,
     from: u32,
     to: u32,
-    limit: u32,
+    limit: usize,
     endless: bool,
 ) -> Outcome
     requires sized { length levels.now ≡ links.now.nodes }
@@ -165,7 +165,7 @@ fn find_behind(
 }
 
 /// Raises nodes to a level.
-pub fn raise(levels: &mut [u32], nodes: &Nodes, level: u32)
+pub fn raise(levels: &mut [usize], nodes: &Nodes, level: usize)
     requires { nodes.now.bound ≡ length levels.old }
     ensures { AreRaised nodes.now.items level levels.old levels.new }
 {

@@ -1,14 +1,11 @@
 // The edges of a graph, linked so that those that begin or end at a node are found in time for each.
-ghost use Rattle.std.specs.Prelude.{◌≡◌, ◌<◌, ◌≤◌, [], length, IfOk, OnOk, OnErr};
+ghost use Rattle.std.specs.Prelude.{◌≡◌, ◌<◌, ◌^◌, [], length, IfOk, OnOk, OnErr};
 ghost use Rattle.gos_order.specs.Rings.{IsInRange, and_edge};
 ghost use Rattle.gos_order.specs.inner.Chains.{IsLast, near_at, far_at};
 
 use gos_types::NoMemory;
 use std::alloc::Global;
 use std::marker::Model;
-
-/// How many edges there may be: one fewer than numbers for levels.
-const MOST_EDGES: usize = 4294967294;
 
 /// Which way edges are followed: out of a node, to where they lead, or into it, to where they come from.
 #[derive(Clone, Copy)]
@@ -22,8 +19,8 @@ pub enum Way {
 struct Entry {
     from: u32,
     to: u32,
-    next_out: u32,
-    next_in: u32,
+    next_out: usize,
+    next_in: usize,
 }
 
 /// The edges of a graph.
@@ -31,8 +28,8 @@ struct Entry {
 pub struct Links {
     entries: Vec<Entry>,
     // The place of the last edge that begins at each node, and of the last that ends there.
-    last_out: Vec<u32>,
-    last_in: Vec<u32>,
+    last_out: Vec<usize>,
+    last_in: Vec<usize>,
 }
 
 impl Model for Links {
@@ -64,7 +61,7 @@ impl Links {
     /// How many edges there are. They are between nodes.
     pub fn len(&self) -> usize
         ensures count { result ≡ length self.now.edges }
-        ensures small { result ≤ 4294967294 }
+        ensures small { result < 2 ^ 63 }
         ensures range { IsInRange self.now }
     {
         self.entries.len()
@@ -76,8 +73,8 @@ impl Links {
         ensures { IsLast way self.now.edges (length self.now.edges) node result }
     {
         match way {
-            Way::Out => self.last_out[node as usize] as usize,
-            Way::In => self.last_in[node as usize] as usize,
+            Way::Out => self.last_out[node as usize],
+            Way::In => self.last_in[node as usize],
         }
     }
 
@@ -87,8 +84,8 @@ impl Links {
         ensures { IsLast way self.now.edges place (near_at way self.now.edges place) result }
     {
         match way {
-            Way::Out => self.entries[place].next_out as usize,
-            Way::In => self.entries[place].next_in as usize,
+            Way::Out => self.entries[place].next_out,
+            Way::In => self.entries[place].next_in,
         }
     }
 
@@ -104,17 +101,14 @@ impl Links {
         }
     }
 
-    /// Adds an edge behind the others. `Err` is want of memory alone, or of numbers: there are 4,294,967,294 edges.
+    /// Adds an edge behind the others. `Err` is want of memory alone.
     pub fn add(&mut self, from: u32, to: u32) -> Result<(), NoMemory>
         requires from { from < self.old.nodes }
         requires to { to < self.old.nodes }
         ensures added { OnOk result (self.new ≡ record self.old { edges = and_edge self.old.edges from to }) }
-        ensures small { OnOk result (length self.new.edges ≤ 4294967294) }
+        ensures small { OnOk result (length self.new.edges < 2 ^ 63) }
         ensures err { OnErr result (self.new ≡ self.old) }
     {
-        if self.entries.len() >= MOST_EDGES {
-            return Err(NoMemory);
-        }
         let next_out = self.last_out[from as usize];
         let next_in = self.last_in[to as usize];
         self.entries.push(Entry {
@@ -123,7 +117,7 @@ impl Links {
             next_out,
             next_in,
         })?;
-        let place = self.entries.len() as u32;
+        let place = self.entries.len();
         self.last_out[from as usize] = place;
         self.last_in[to as usize] = place;
         Ok(())

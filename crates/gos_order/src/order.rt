@@ -14,7 +14,7 @@ use std::marker::Model;
 #[derive(Drop)]
 pub struct Order {
     links: Links,
-    levels: Vec<u32>,
+    levels: Vec<usize>,
     // What the searches for the last edge have reached.
     before: Nodes,
     behind: Nodes,
@@ -59,8 +59,7 @@ impl Order {
         self.links.len()
     }
 
-    /// Adds an edge behind the others if it closes no ring, and tells whether it did. `Err` is want of memory alone, or
-    /// of numbers: there are 4,294,967,294 edges.
+    /// Adds an edge behind the others if it closes no ring, and tells whether it did. `Err` is want of memory alone.
     pub fn add(&mut self, from: u32, to: u32) -> Result<bool, NoMemory>
         requires from { from < self.old.nodes }
         requires to { to < self.old.nodes }

@@ -24,12 +24,12 @@ pub enum Outcome {
 #[derive(Drop)]
 pub struct Search<'a> {
     pub links: &'a Links,
-    pub levels: &'a [u32],
+    pub levels: &'a [usize],
     /// The nodes that are not to be met.
     pub apart: &'a Nodes,
     pub way: Way,
     /// The search goes on from nodes of levels below the limit on the way out, and from the others on the way in.
-    pub limit: u32,
+    pub limit: usize,
     /// The search doesn't give up.
     pub endless: bool,
     ghost levels_fit: { length levels.now ≡ links.now.nodes },

@@ -1,5 +1,5 @@
 // Reading a plan from its text.
-ghost use Rattle.std.specs.Prelude.{◌≡◌, All, IfOk, IfErr};
+ghost use Rattle.std.specs.Prelude.{◌≡◌, ◌<◌, All, IfOk, IfErr, length};
 ghost use Rattle.gos_types.specs.Types.{type_of};
 ghost use Rattle.gos_plan.specs.Ranges.{IsInRange, AreInRange};
 ghost use Rattle.gos_plan.specs.Seen.{plan_of};
@@ -35,10 +35,11 @@ pub(crate) struct Values {
 
 /// The plan that this text is the text of. `print_object` is the way back.
 ///
-/// `Joint` is answered only where the text is whole.
+/// `Joint` is answered only where the text is whole. A text above the limit takes no memory.
 pub fn read_object(alloc: Global, text: &[u8]) -> Result<Plan, ObjectFault>
     ensures read { IfOk result (λ plan. IsRead text.now (plan_of plan)) }
     ensures fault { IfErr result (HasFault text.now) }
+    ensures long { 4194304 < length text.now → IfErr result (λ e. e ≡ ObjectFault.Limit 4194304) }
 {
     if text.len() > LONGEST_TEXT {
         return Err(ObjectFault::Limit { at: LONGEST_TEXT });

@@ -1,6 +1,6 @@
 // The reader of pulse files.
 
-ghost use Rattle.std.specs.Prelude.{◌≢◌, ◌<◌, ◌+◌, ◌^◌, ℕ, Some, None, All, map, length, IfOk, IfErr, MatchOption, IsTrue, ◌↔◌};
+ghost use Rattle.std.specs.Prelude.{◌≡◌, ◌≢◌, ◌<◌, ◌+◌, ◌^◌, ℕ, Some, None, All, map, length, IfOk, IfErr, MatchOption, IsTrue, ◌↔◌};
 ghost use Rattle.std.specs.Str.Lines.{lines};
 ghost use Rattle.gos_lex.specs.Lines.{statements_from};
 ghost use Rattle.gos_pulse.specs.Entries.{SaysCycles, IsRunLength, IsInTime, IsValue, IsEntry};
@@ -25,11 +25,12 @@ const MAX_CYCLES: u64 = 1_000_000;
 const MAX_ENTRIES: usize = 100_000;
 
 /// Reads a pulse file for a netlist. The error is the first wrong line and why it is wrong, in the order `Form`,
-/// `Limit`, `NoPort`, `Value`; it is never `Broken`.
+/// `Limit`, `NoPort`, `Value`; it is never `Broken`. A text above the limit takes no memory.
 pub fn read_pulses(alloc: Global, text: &[u8], net: &Netlist) -> Result<Pulses, PulseFault>
     ensures read { IfOk result (λ pulses. IsPulseFile net.now text.now pulses.0 pulses.1) }
     ensures entries { IfOk result (λ pulses. All (GivesInput net.now) pulses.1) }
     ensures fault { IfErr result (λ fault. fault ≢ PulseFault.NoMemory → IsRefused net.now text.now fault) }
+    ensures long { 16777216 < length text.now → IfErr result (λ fault. fault ≡ PulseFault.Limit 0) }
 {
     if text.len() > MAX_TEXT {
         return Err(PulseFault::Limit { line: 0 });

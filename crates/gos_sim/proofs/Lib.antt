@@ -16,6 +16,7 @@ pub mod NumberLemmas
 pub mod MoveLemmas
 pub mod EvaluationLemmas
 pub mod SpotLemmas
+pub mod DraftLemmas
 pub mod CycleLemmas
 pub mod MachineLemmas
 pub mod PastLemmas

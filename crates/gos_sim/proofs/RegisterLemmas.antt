@@ -1,21 +1,22 @@
 -- The latches of cells, made in an order of all cells.
-use Rattle.std.specs.Prelude.{◌≡◌, ℕ, ◌+◌, ◌≤◌, ◌⊎◌, List, [], ◌∷◌, ◌++◌, length, map, take, All, Contains, Some, slice_get}
-use Rattle.std.proofs.Common.{arith, sym, subst, inl, inr}
-use Rattle.std.proofs.lemmas.List.{append-nil, length-map, take_all}
+use Rattle.std.specs.Prelude.{◌≡◌, ℕ, ◌+◌, ◌≤◌, if◌then◌else◌, ◌⊎◌, List, [], ◌∷◌, ◌++◌, length, map, take, All, Contains, Some, get_or, slice_get}
+use Rattle.std.proofs.Common.{arith, sym, ap, subst, inl, inr, ◌∙◌}
+use Rattle.std.proofs.lemmas.List.{append-nil, length-append, length-map, take_all}
 use Rattle.std.proofs.lemmas.List.Elements.{All-push, All-nil, All-cons, Contains-push, Contains-append_left, Contains-push_cases}
-use Rattle.std.proofs.lemmas.Option.{slice_get_within}
+use Rattle.std.proofs.lemmas.Option.{get_or_from_slice_get, slice_get_within}
 use Rattle.gos_netlist.specs.declared.nets.Cell as declared
-use Rattle.gos_netlist.specs.Nets.{Function, Reg, Cell}
+use Rattle.gos_netlist.specs.Nets.{Function, Input, Const, Not, And, Or, Xor, Mux, Add, Sub, Eq, Less, Gate, Reg, Cell}
 use Rattle.gos_netlist.specs.Cycles.{IsRegister}
 use Rattle.gos_netlist.specs.Settling.{Numbers, next_of}
 use Rattle.gos_netlist.specs.Seen.{cell_of, function_of}
 use Rattle.gos_sim.specs.declared.program.Latch.{Latch}
+use Rattle.gos_sim.specs.declared.program.Step.{Step}
 use Rattle.gos_sim.specs.inner.Order.{IsOrder}
-use Rattle.gos_sim.specs.inner.Program.{IsLatchOf, IsLatchWithin, HasLatch, AreLatches, latches_at}
+use Rattle.gos_sim.specs.inner.Program.{IsLatchOf, IsLatchWithin, HasLatch, AreLatches, is_source, latches_at, no_cell, steps_at, steps_named}
 use Rattle.gos_sim.specs.inner.Ready.{AreCellsReady, IsCellWithin}
 use Rattle.gos_sim.proofs.PlaceLemmas.{same_element}
 use Rattle.gos_sim.proofs.SourceLemmas.{register_or_not}
-use Rattle.gos_sim.proofs.ProgramLemmas.{cell_at, take_one}
+use Rattle.gos_sim.proofs.ProgramLemmas.{cell_at, steps_named_more, take_one}
 
 -- the latches that are made of the nets that came before
 pub record AreMade (cells : List Cell) (before : List ℕ) (latches : List Latch) : Type 0 where
@@ -103,3 +104,34 @@ latches_at_within cells n c ready at_n = by_cell (function_of c.gate) cell (regi
         (All-cons (IsLatchWithin (length cells)) (record { net = n; pin = a }) []
         (record { net = slice_get_within cells n c at_n; pin = register.pins 0 0 (omega arith) }) (All-nil (IsLatchWithin (length cells))))
     by_cell f is (inr other) = subst (λ (ls : List Latch). All (IsLatchWithin (length cells)) ls) (sym (other.2 n)) (All-nil (IsLatchWithin (length cells)))
+
+-- a cell is a step or a latch, or neither
+one_of_cell : (f : Function) (n : ℕ) (s : Step) → length (if is_source f then [] else s ∷ []) + length (latches_at n f) ≤ 1
+one_of_cell Input n s = omega arith
+one_of_cell (Const k) n s = omega arith
+one_of_cell (Not a) n s = omega arith
+one_of_cell (And a b) n s = omega arith
+one_of_cell (Or a b) n s = omega arith
+one_of_cell (Xor a b) n s = omega arith
+one_of_cell (Mux t a b) n s = omega arith
+one_of_cell (Add a b) n s = omega arith
+one_of_cell (Sub a b) n s = omega arith
+one_of_cell (Eq a b) n s = omega arith
+one_of_cell (Less a b) n s = omega arith
+one_of_cell (Gate t a) n s = omega arith
+one_of_cell (Reg a) n s = omega arith
+
+-- so nets have no more steps and latches than they are
+pub counted_more : (cells : List declared.Cell) (order : List ℕ) (latches : List Latch) (i n : ℕ) (c : declared.Cell)
+    → slice_get order i ≡ Some n → slice_get cells n ≡ Some c → length (steps_named cells (take i order)) + length latches ≤ i
+    → length (steps_named cells (take (i + 1) order)) + length (latches ++ latches_at n (function_of c.gate)) ≤ i + 1
+counted_more cells order latches i n c at_i at_n few =
+    let before : List Step = steps_named cells (take i order) in
+    let is : get_or cells n no_cell ≡ c = get_or_from_slice_get cells n c no_cell at_n in
+    let more : length (steps_named cells (take (i + 1) order)) ≡ length before + length (steps_at n c) =
+    ap (λ (ns : List ℕ). length (steps_named cells ns)) (take_one order i n at_i)
+    ∙ (ap length (steps_named_more cells (take i order) n)
+    ∙ (length-append before (steps_at n (get_or cells n no_cell)) ∙ ap (λ (d : declared.Cell). length before + length (steps_at n d)) is)) in
+    let others = length-append latches (latches_at n (function_of c.gate)) in
+    let one = one_of_cell (function_of c.gate) n (record { net = n; width = c.width; gate = c.gate }) in
+    omega (arith, more, others, one, few)

@@ -147,7 +147,7 @@ run_left (r ∷ rs) zero left less = omega arith
 run_left (r ∷ rs) (suc k) left less = omega (arith, run_left rs k left less)
 
 -- the steps that are left are those of the next run, and those behind it
-left_of : (runs : List Run) (k : ℕ) (r : Run) → slice_get runs k ≡ Some r → steps_in (drop k runs) ≡ r.count + steps_in (drop (k + 1) runs)
+pub left_of : (runs : List Run) (k : ℕ) (r : Run) → slice_get runs k ≡ Some r → steps_in (drop k runs) ≡ r.count + steps_in (drop (k + 1) runs)
 left_of runs k r is = ap steps_in (drop_one runs k r is)
 
 -- a run more stands before the next spot
@@ -207,7 +207,7 @@ net_of_kind w gate n (x ∷ xs) s is =
     let step : ◌≡◌ {A = Step} (record { net = n; width = w; gate = gate x }) s = cc in
     ap (λ (t : Step). t.net) step
 
-net_of : (kind : Kind) (o : Operands) (r : Run) (s : Step) → steps_of_kind kind o r ≡ s ∷ [] → r.net ≡ s.net
+pub net_of : (kind : Kind) (o : Operands) (r : Run) (s : Step) → steps_of_kind kind o r ≡ s ∷ [] → r.net ≡ s.net
 net_of kinds.Const o r s is = net_of_kind 0 gates.Const r.net (part r o.constants.items) s is
 net_of kinds.Not o r s is = net_of_kind r.width gates.Not r.net (part r o.pins.items) s is
 net_of kinds.And o r s is = net_of_kind 0 (λ p. gates.And p.a p.b) r.net (part r o.pairs.items) s is

@@ -1,5 +1,5 @@
 // A cycle in which little changes: only what hangs on the changes is evaluated.
-ghost use Rattle.std.specs.Prelude.{◌≡◌, ℕ, ◌+◌, ◌<◌, ◌/◌, ◌⊎◌, ◌++◌, ◌∷◌, [], All, IfOk, IsFalse, IsTrue, length, set};
+ghost use Rattle.std.specs.Prelude.{◌≡◌, ℕ, ◌+◌, ◌<◌, ◌/◌, ◌^◌, ◌⊎◌, ◌++◌, ◌∷◌, [], All, IfOk, IsFalse, IsTrue, length, set};
 ghost use Rattle.gos_netlist.specs.Settling.{at};
 ghost use Rattle.gos_sim.specs.Cycle.{GivesAll, IsWord};
 ghost use Rattle.gos_sim.specs.inner.Program.{IsLatchWithin, IsStepWithin};
@@ -82,14 +82,12 @@ impl Active {
     pub fn new(alloc: Global, machine: &Machine, count: usize) -> Result<Active, NoMemory>
         requires steps { All (IsStepWithin count) machine.now.program }
         requires latches { All (IsLatchWithin count) machine.now.latches.items }
+        requires few { length machine.now.program + length machine.now.latches.items < 2 ^ 32 }
         ensures fresh { IfOk result (λ active. IsFalse active.settled) }
         ensures awake { IfOk result (λ active. IsAwake count machine.now.program machine.now.latches.items active) }
     {
         let program = &machine.program;
-        let items = program.len().saturating_add(machine.latches.len());
-        if items > u32::MAX as usize {
-            return Err(NoMemory);
-        }
+        let items = program.len() + machine.latches.len();
         let room = items / PART + LEAST;
         let readers = readers_of(alloc, count, program, &machine.latches)?;
         let marks = Marks::new(alloc, items / 64 + 1)?;

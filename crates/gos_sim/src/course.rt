@@ -1,7 +1,7 @@
 // How a cycle is run.
 
 /// How much of it is evaluated.
-#[derive(Debug, Clone, Copy)]
+#[derive(Clone, Copy)]
 pub enum Course {
     /// Nothing: the values stand still.
     Rest,

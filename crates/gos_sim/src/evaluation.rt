@@ -1,12 +1,12 @@
 // Steps in runs: one behind another, all of one kind, so that a loop for that kind goes through them.
-ghost use Rattle.std.specs.Prelude.{◌≡◌, ℕ, ◌+◌, ◌<◌, ◌≤◌, List, ◌∷◌, [], ◌++◌, All, IfOk, IsFalse, IsTrue, OnOk, length, map};
+ghost use Rattle.std.specs.Prelude.{◌≡◌, ℕ, ◌+◌, ◌<◌, ◌≤◌, ◌^◌, List, ◌∷◌, [], ◌++◌, All, IfOk, IsFalse, IsTrue, OnOk, length, map};
 ghost use Rattle.std.specs.List.{flat_map};
 ghost use Rattle.gos_netlist.specs.Seen.{cell_of, function_of, number_of};
 ghost use Rattle.gos_netlist.specs.Settling.{Numbers, at};
 ghost use Rattle.gos_sim.specs.inner.Program.{HaveOneCell, IsShort, IsStepWithin, SparesEarlier, is_source, steps_at, steps_named};
 ghost use Rattle.gos_sim.specs.inner.Ready.{AreCellsReady};
-ghost use Rattle.gos_sim.specs.inner.Drafts.{AddsSteps, IsDraft};
-ghost use Rattle.gos_sim.specs.inner.Places.{AreStepsMoved};
+ghost use Rattle.gos_sim.specs.inner.Drafts.{AddsSteps, AreCounted, AreUpTo, IsDraft, IsDraftOf};
+ghost use Rattle.gos_sim.specs.inner.Places.{AreStepsMoved, none};
 ghost use Rattle.gos_sim.specs.inner.Running.{AreShown, KeepsOtherSteps};
 ghost use Rattle.gos_sim.specs.inner.Spots.{HasGate, IsEvaluated, IsGate, IsNumbered, IsSpot, Tells};
 ghost use Rattle.gos_sim.specs.inner.Evaluation.{AreRunsMore, Fits, GoesOn, IsAdded, after, part, steps_from, steps_of};
@@ -23,7 +23,7 @@ use std::alloc::Global;
 use std::marker::Model;
 
 /// What the steps of a run do, by the names of their gates.
-#[derive(Debug, Clone, Copy, PartialEq, Eq)]
+#[derive(Clone, Copy, PartialEq, Eq)]
 pub enum Kind {
     Const,
     Not,
@@ -39,7 +39,7 @@ pub enum Kind {
 }
 
 /// Steps of one kind, whose nets stand one behind another, and so do their operands.
-#[derive(Debug, Clone, Copy)]
+#[derive(Clone, Copy)]
 pub struct Run {
     /// What they do.
     pub kind: Kind,
@@ -268,6 +268,8 @@ pub fn steps_moved(
     requires cells { AreCellsReady (map cell_of cells.now) }
     requires nets { All (λ n. n.0 < length cells.now) nets.now }
     requires places { length places.now ≡ length cells.now }
+    requires few { length nets.now < 2 ^ 32 }
+    requires below { All (λ p. p < none) places.now }
     ensures { IfOk result (λ there. AreStepsMoved (at places.now) (steps_named cells.now (map number_of nets.now)) there) }
 {
     let mut draft = no_steps(alloc);
@@ -303,7 +305,8 @@ pub struct Draft {
 
 // No steps.
 fn no_steps(alloc: Global) -> Draft
-    ensures { (places : Numbers) → IsDraft places [] result }
+    ensures draft { (places : Numbers) → IsDraft places [] result }
+    ensures room { IsDraftOf 0 result }
 {
     Draft {
         operands: no_operands(alloc),
@@ -315,8 +318,11 @@ fn no_steps(alloc: Global) -> Draft
 impl Draft {
     // Adds a cell at its place, if it is a step.
     fn add(&mut self, net: u32, cell: Cell, places: &[u32]) -> Result<(), NoMemory>
-        requires { All (IsStepWithin (length places.now)) (steps_at net cell) }
-        ensures { OnOk result (AddsSteps places.now (steps_at net cell) self.old self.new) }
+        requires step { All (IsStepWithin (length places.now)) (steps_at net cell) }
+        requires below { All (λ p. p < none) places.now }
+        requires room { AreUpTo 4294967294 self.old.operands }
+        ensures steps { OnOk result (AddsSteps places.now (steps_at net cell) self.old self.new) }
+        ensures room { OnOk result ((many : ℕ) → many < none → IsDraftOf many self.old → IsDraftOf (many + 1) self.new) }
     {
         let Cell { width, gate } = cell;
         match gate {
@@ -335,6 +341,7 @@ impl Draft {
 fn no_run() -> Run
     ensures count { result.count ≡ 0 }
     ensures first { result.first ≡ 0 }
+    ensures numbered { IsNumbered result }
 {
     Run {
         kind: Kind::Const,
@@ -346,7 +353,9 @@ fn no_run() -> Run
 }
 
 // No operands.
-fn no_operands(alloc: Global) -> Operands {
+fn no_operands(alloc: Global) -> Operands
+    ensures { AreUpTo 0 result }
+{
     Operands {
         constants: Vec::new(alloc),
         pins: Vec::new(alloc),
@@ -358,7 +367,8 @@ fn no_operands(alloc: Global) -> Operands {
 // Adds a run behind the last one, or makes that longer where it goes on as the last one does.
 fn add_run(runs: &mut Vec<Run>, last: &mut Run, next: Run) -> Result<(), NoMemory>
     requires { next.count ≡ 1 }
-    ensures { OnOk result (AreRunsMore runs.old.items last.old next runs.new.items last.new) }
+    ensures more { OnOk result (AreRunsMore runs.old.items last.old next runs.new.items last.new) }
+    ensures counted { OnOk result ((many : ℕ) → IsNumbered next → AreCounted many runs.old.items last.old → AreCounted (many + 1) runs.new.items last.new) }
 {
     if last.goes_on(&next) {
         last.count += 1;
@@ -387,6 +397,7 @@ impl Operands {
     fn add(&mut self, step: Step) -> Result<Run, NoMemory>
         requires inside { IsFalse (is_source (function_of step.gate)) }
         requires short { IsShort (function_of step.gate) }
+        requires room { AreUpTo 4294967294 self.old }
         ensures { IfOk result (IsAdded self.old self.new step) }
     {
         let (net, width) = (step.net, step.width);
@@ -414,15 +425,13 @@ impl Operands {
     }
 }
 
-// Adds an operand, and gives its place. More than 32 bits can number are more than memory has.
+// Adds an operand, and gives its place.
 fn added<T: Drop>(operands: &mut Vec<T>, operand: T) -> Result<u32, NoMemory>
+    requires room { length operands.old.items < 2 ^ 32 }
     ensures place { IfOk result (λ place. place ≡ length operands.old.items) }
     ensures added { OnOk result (operands.new.items ≡ operands.old.items ++ operand ∷ []) }
 {
-    let place = operands.len();
-    if place >= u32::MAX as usize {
-        return Err(NoMemory);
-    }
+    let place = operands.len() as u32;
     operands.push(operand)?;
-    Ok(place as u32)
+    Ok(place)
 }

@@ -1,5 +1,5 @@
 // A netlist as it runs: its events, its steps and its latches.
-ghost use Rattle.std.specs.Prelude.{◌≡◌, All, IfOk, IsTrue, length, map};
+ghost use Rattle.std.specs.Prelude.{◌≡◌, ◌+◌, ◌<◌, ◌≤◌, ◌^◌, All, IfOk, IsTrue, length, map};
 ghost use Rattle.gos_netlist.specs.Seen.{number_of};
 ghost use Rattle.gos_sim.specs.Cycle.{GivesAll, IsWord};
 ghost use Rattle.gos_sim.specs.inner.Machine.{IsMachine, IsRunnable, IsStill, RunsThrough, Settles, SettlesAtReset, plan_of};
@@ -49,12 +49,15 @@ pub fn machine_of(
     requires ready { IsReady net.now }
     requires order { IsSchedule net.now.cells (map number_of order.now) }
     requires leveled { AreLevels net.now.cells levels.now }
-    ensures { IfOk result (IsMachine net.now) }
+    requires few { length net.now.cells < 2 ^ 32 }
+    requires once { length order.now ≤ length net.now.cells }
+    ensures machine { IfOk result (IsMachine net.now) }
+    ensures few { IfOk result (λ machine. length machine.program + length machine.latches.items < 2 ^ 32) }
 {
     let inputs = events_of(alloc, net, true)?;
     let outputs = events_of(alloc, net, false)?;
     let sorted = by_keys(alloc, &net.cells, order)?;
-    let latches = latches(alloc, &net.cells, order)?;
+    let latches = latches(alloc, &net.cells, &sorted)?;
     let Places { of, count } = numbered(alloc, net.cells.len(), &latches, &sorted)?;
     Ok(Machine {
         inputs: events_moved(alloc, &inputs, &of)?,

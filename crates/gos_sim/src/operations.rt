@@ -9,7 +9,7 @@ ghost use Rattle.gos_sim.specs.inner.Ready.{IsCellWithin};
 use gos_netlist::{Gate, NetId};
 
 /// The nets that a step of two pins reads.
-#[derive(Debug, Clone, Copy)]
+#[derive(Clone, Copy)]
 pub struct Pair {
     /// Its first pin.
     pub a: NetId,
@@ -18,7 +18,7 @@ pub struct Pair {
 }
 
 /// The nets that a step of three pins reads.
-#[derive(Debug, Clone, Copy)]
+#[derive(Clone, Copy)]
 pub struct Triple {
     /// The one that chooses.
     pub s: NetId,

@@ -9,7 +9,7 @@ use crate::log::Log;
 use std::mem::swap;
 
 /// How the values of the nets came about.
-#[derive(Debug, Clone, Copy)]
+#[derive(Clone, Copy)]
 pub enum Past {
     /// By no cycle: all registers and inputs are 0.
     Reset,

@@ -1,5 +1,5 @@
 // The places of nets: a simulator keeps their values in the order in which it writes them.
-ghost use Rattle.std.specs.Prelude.{◌≡◌, ◌≢◌, ℕ, ◌<◌, All, Contains, IfOk, OnOk, length, map};
+ghost use Rattle.std.specs.Prelude.{◌≡◌, ◌≢◌, ℕ, ◌<◌, ◌≤◌, All, Contains, IfOk, length, map};
 ghost use Rattle.gos_netlist.specs.Nets.{pins};
 ghost use Rattle.gos_netlist.specs.Seen.{function_of, number_of};
 ghost use Rattle.gos_netlist.specs.Settling.{at};
@@ -26,51 +26,44 @@ pub struct Places {
 }
 
 impl Places {
-    // Gives a net the next place, if it has none. More places than 32 bits can number are more than memory has.
-    fn add(&mut self, net: u32) -> Result<(), NoMemory>
+    // Gives a net the next place, if it has none.
+    fn add(&mut self, net: u32)
         requires net { net < length self.old.of.items }
         requires partly { IsPartly self.old.of.items self.old.count }
-        ensures partly { OnOk result (IsPartly self.new.of.items self.new.count) }
-        ensures each { OnOk result (length self.new.of.items ≡ length self.old.of.items) }
-        ensures placed { OnOk result (at self.new.of.items net ≢ none) }
-        ensures kept { OnOk result ((n : ℕ) → at self.old.of.items n ≢ none → at self.new.of.items n ≢ none) }
+        ensures partly { IsPartly self.new.of.items self.new.count }
+        ensures each { length self.new.of.items ≡ length self.old.of.items }
+        ensures placed { at self.new.of.items net ≢ none }
+        ensures kept { (n : ℕ) → at self.old.of.items n ≢ none → at self.new.of.items n ≢ none }
     {
-        if self.of[net as usize] != NONE {
-            return Ok(());
+        if self.of[net as usize] == NONE {
+            self.of[net as usize] = self.count;
+            self.count += 1;
         }
-        if self.count == NONE {
-            return Err(NoMemory);
-        }
-        self.of[net as usize] = self.count;
-        self.count += 1;
-        Ok(())
     }
 
     // Gives places to the nets of registers.
-    fn add_latches(&mut self, latches: &[Latch]) -> Result<(), NoMemory>
+    fn add_latches(&mut self, latches: &[Latch])
         requires latches { All (IsLatchWithin (length self.old.of.items)) latches.now }
         requires partly { IsPartly self.old.of.items self.old.count }
-        ensures partly { OnOk result (IsPartly self.new.of.items self.new.count) }
-        ensures each { OnOk result (length self.new.of.items ≡ length self.old.of.items) }
+        ensures partly { IsPartly self.new.of.items self.new.count }
+        ensures each { length self.new.of.items ≡ length self.old.of.items }
     {
         for latch in latches {
-            self.add(latch.net)?;
+            self.add(latch.net);
         }
-        Ok(())
     }
 
     // Gives places to nets in their order.
-    fn add_nets(&mut self, nets: &[NetId]) -> Result<(), NoMemory>
+    fn add_nets(&mut self, nets: &[NetId])
         requires nets { All (λ n. n.0 < length self.old.of.items) nets.now }
         requires partly { IsPartly self.old.of.items self.old.count }
-        ensures partly { OnOk result (IsPartly self.new.of.items self.new.count) }
-        ensures each { OnOk result (length self.new.of.items ≡ length self.old.of.items) }
-        ensures placed { OnOk result (All (λ n. at self.new.of.items n.0 ≢ none) nets.now) }
+        ensures partly { IsPartly self.new.of.items self.new.count }
+        ensures each { length self.new.of.items ≡ length self.old.of.items }
+        ensures placed { All (λ n. at self.new.of.items n.0 ≢ none) nets.now }
     {
         for net in nets {
-            self.add(net.0)?;
+            self.add(net.0);
         }
-        Ok(())
     }
 }
 
@@ -85,13 +78,15 @@ pub fn numbered(
     requires latches { All (IsLatchWithin count) latches.now }
     requires nets { All (λ n. n.0 < count) nets.now }
     requires all { (n : ℕ) → n < count → Contains (map number_of nets.now) n }
+    requires few { count ≤ none }
     ensures each { IfOk result (λ places. length places.of.items ≡ count) }
     ensures numbering { IfOk result (λ places. IsNumbering places.of.items places.count) }
+    ensures few { IfOk result (λ places. places.count ≤ none) }
 {
     let of = vec![in alloc; NONE; count]?;
     let mut places = Places { of, count: 0 };
-    places.add_latches(latches)?;
-    places.add_nets(nets)?;
+    places.add_latches(latches);
+    places.add_nets(nets);
     Ok(places)
 }
 

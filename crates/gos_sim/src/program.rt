@@ -1,7 +1,7 @@
 // The program that a simulator runs in each cycle, as it is made of the cells.
-ghost use Rattle.std.specs.Prelude.{◌≡◌, ◌++◌, All, IfOk, OnOk, length, map};
+ghost use Rattle.std.specs.Prelude.{◌≡◌, ◌+◌, ◌≤◌, ◌++◌, All, IfOk, OnOk, length, map};
 ghost use Rattle.gos_netlist.specs.Seen.{cell_of, function_of, number_of};
-ghost use Rattle.gos_sim.specs.inner.Program.{AreLatches, IsLatchWithin, latches_at};
+ghost use Rattle.gos_sim.specs.inner.Program.{AreLatches, IsLatchWithin, latches_at, steps_named};
 ghost use Rattle.gos_sim.specs.inner.Ready.{AreCellsReady};
 ghost use Rattle.gos_sim.specs.inner.Order.{IsOrder};
 
@@ -10,7 +10,7 @@ use gos_types::NoMemory;
 use std::alloc::Global;
 
 /// A cell to evaluate, which is neither an input nor a register.
-#[derive(Debug, Clone, Copy)]
+#[derive(Clone, Copy)]
 pub struct Step {
     /// Its net.
     pub net: u32,
@@ -21,7 +21,7 @@ pub struct Step {
 }
 
 /// A register.
-#[derive(Debug, Clone, Copy)]
+#[derive(Clone, Copy)]
 pub struct Latch {
     /// Its net.
     pub net: u32,
@@ -35,6 +35,7 @@ pub fn latches(alloc: Global, cells: &[Cell], order: &[NetId]) -> Result<Vec<Lat
     requires order { IsOrder (map cell_of cells.now) (map number_of order.now) }
     ensures latches { IfOk result (λ latches. AreLatches (map cell_of cells.now) latches.items) }
     ensures within { IfOk result (λ latches. All (IsLatchWithin (length cells.now)) latches.items) }
+    ensures few { IfOk result (λ latches. length (steps_named cells.now (map number_of order.now)) + length latches.items ≤ length order.now) }
 {
     let mut latches = Vec::new(alloc);
     for net in order {

@@ -1,5 +1,5 @@
 // The readers of places: the steps, by number, and behind them the latches. They are the items that a changed value marks.
-ghost use Rattle.std.specs.Prelude.{◌≡◌, ℕ, ◌+◌, ◌<◌, ◌≤◌, ◌/◌, All, IfOk, OnOk, length};
+ghost use Rattle.std.specs.Prelude.{◌≡◌, ℕ, ◌+◌, ◌<◌, ◌/◌, ◌^◌, All, IfOk, OnOk, length};
 ghost use Rattle.gos_netlist.specs.Nets.{pins};
 ghost use Rattle.gos_netlist.specs.Seen.{function_of};
 ghost use Rattle.gos_sim.specs.inner.Program.{IsLatchWithin, IsStepWithin};
@@ -13,23 +13,20 @@ use gos_netlist::{Gate, NetId};
 use gos_types::NoMemory;
 use std::alloc::Global;
 
-/// How many readers there may be at most.
-const MOST: usize = u32::MAX as usize;
-
 /// An item that reads a place, and a link to the one before it: one more than where that stands, or 0.
 #[derive(Clone, Copy)]
 pub struct Reader {
     /// The item.
     pub item: u32,
-    /// The link to the reader before it.
-    pub next: u32,
+    /// The link to the reader before it. There may be more readers than 32 bits can number.
+    pub next: usize,
 }
 
 /// The readers of each place.
 #[derive(Drop)]
 pub struct Readers {
     /// For each place the link to the last one of its readers.
-    pub heads: Vec<u32>,
+    pub heads: Vec<usize>,
     /// All readers.
     pub all: Vec<Reader>,
 }
@@ -43,11 +40,11 @@ impl Readers {
         ensures kept { KeepsMarks marks.old.words.items marks.new.words.items }
         ensures marked { (item : ℕ) → Reads self.now place item → IsUnmarked marks.new.words.items item → ⊥ }
     {
-        let mut link = self.heads[place as usize] as usize;
+        let mut link = self.heads[place as usize];
         while link > 0 {
             let Reader { item, next } = self.all[link - 1];
             marks.mark(item as usize);
-            link = next as usize;
+            link = next;
         }
     }
 
@@ -61,11 +58,8 @@ impl Readers {
     {
         let next = self.heads[place as usize];
         let count = self.all.len();
-        if count >= MOST {
-            return Err(NoMemory);
-        }
         self.all.push(Reader { item, next })?;
-        self.heads[place as usize] = count as u32 + 1;
+        self.heads[place as usize] = count + 1;
         Ok(())
     }
 
@@ -114,7 +108,7 @@ impl Readers {
     // Adds the steps as readers of their pins.
     fn add_steps(&mut self, steps: &Program) -> Result<(), NoMemory>
         requires steps { All (IsStepWithin (length self.old.heads.items)) steps.now }
-        requires few { length steps.now ≤ 4294967295 }
+        requires few { length steps.now < 2 ^ 32 }
         ensures each { OnOk result (length self.new.heads.items ≡ length self.old.heads.items) }
         ensures linked { OnOk result ((words : ℕ) → length steps.now / 64 < words → AreLinked words self.old → AreLinked words self.new) }
         ensures reads { OnOk result (AreStepsReading steps.now self.new) }
@@ -128,7 +122,7 @@ impl Readers {
     // Adds the latches as readers of their pins, behind so many steps.
     fn add_latches(&mut self, first: usize, latches: &[Latch]) -> Result<(), NoMemory>
         requires latches { All (IsLatchWithin (length self.old.heads.items)) latches.now }
-        requires few { first + length latches.now ≤ 4294967295 }
+        requires few { first + length latches.now < 2 ^ 32 }
         ensures each { OnOk result (length self.new.heads.items ≡ length self.old.heads.items) }
         ensures linked { OnOk result ((words : ℕ) → (first + length latches.now) / 64 < words → AreLinked words self.old → AreLinked words self.new) }
         ensures kept { OnOk result (KeepsReaders self.old self.new) }
@@ -150,7 +144,7 @@ pub fn readers_of(
 ) -> Result<Readers, NoMemory>
     requires steps { All (IsStepWithin count) steps.now }
     requires latches { All (IsLatchWithin count) latches.now }
-    requires few { length steps.now + length latches.now ≤ 4294967295 }
+    requires few { length steps.now + length latches.now < 2 ^ 32 }
     ensures each { IfOk result (λ readers. length readers.heads.items ≡ count) }
     ensures linked { IfOk result (λ readers. (words : ℕ) → (length steps.now + length latches.now) / 64 < words → AreLinked words readers) }
     ensures reading { IfOk result (λ readers. ReadAll steps.now latches.now readers) }

@@ -1,5 +1,5 @@
 // The simulator.
-ghost use Rattle.std.specs.Prelude.{◌≡◌, All, IfErr, IfOk, IsFalse, IsTrue, length, replicate};
+ghost use Rattle.std.specs.Prelude.{◌≡◌, ◌+◌, ◌<◌, ◌^◌, All, IfErr, IfOk, IsFalse, IsTrue, length, replicate};
 ghost use Rattle.gos_netcheck.specs.Accepted.{IsAccepted};
 ghost use Rattle.gos_sim.specs.EventNets.{input_events, output_events};
 ghost use Rattle.gos_sim.specs.Cycle.{IsCycle, IsNextOutput, IsWord, at_reset};
@@ -199,7 +199,8 @@ fn parts_of(
 // The machine of an accepted netlist.
 #[tactic(auto, using(crate::proofs::AcceptedLemmas::ready_of_accepted))]
 fn machine_for(alloc: Global, net: &Checked) -> Result<Machine, NoMemory>
-    ensures { IfOk result (IsMachine net.now) }
+    ensures machine { IfOk result (IsMachine net.now) }
+    ensures few { IfOk result (λ machine. length machine.program + length machine.latches.items < 2 ^ 32) }
 {
     let levels = net.levels(alloc)?;
     machine_of(alloc, net.netlist(), net.schedule(), &levels)

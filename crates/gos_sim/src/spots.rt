@@ -1,5 +1,5 @@
 // Where single steps stand among runs: for one in so many steps its run is noted, and the others aren't far from it.
-ghost use Rattle.std.specs.Prelude.{◌≡◌, ◌+◌, ◌<◌, ◌≤◌, All, IfOk, List, OnOk};
+ghost use Rattle.std.specs.Prelude.{◌≡◌, ◌<◌, ◌≤◌, ◌^◌, All, IfOk, List, OnOk};
 ghost use Rattle.gos_sim.specs.declared.evaluation.Run.{Run};
 ghost use Rattle.gos_sim.specs.inner.Spots.{IsAlone, IsNumbered, IsSpot, one_of, steps_in};
 
@@ -11,10 +11,10 @@ use std::alloc::Global;
 const EACH: usize = 16;
 
 /// A run, and how many steps stand before it.
-#[derive(Debug, Clone, Copy)]
+#[derive(Clone, Copy)]
 pub struct Spot {
     /// The run.
-    pub run: u32,
+    pub run: usize,
     /// The steps before it.
     pub before: u32,
 }
@@ -28,49 +28,20 @@ pub struct Spots {
     pub count: u32,
 }
 
-// The spots of runs. More steps than 32 bits can number are more than memory has.
+// The spots of runs.
 pub fn spots_of(alloc: Global, runs: &[Run]) -> Result<Spots, NoMemory>
+    requires few { steps_in runs.now < 2 ^ 32 }
     ensures spots { IfOk result (λ spots. All (IsSpot runs.now) spots.all.items) }
     ensures count { IfOk result (λ spots. spots.count ≡ steps_in runs.now) }
-    ensures numbered { IfOk result (λ _. All IsNumbered runs.now) }
 {
     let mut all = Vec::new(alloc);
     let mut before = 0;
-    for (place, run) in runs.iter().enumerate() {
-        let end = end_of(run, before)?;
-        let spot = spot_at(place, before)?;
-        add_spots(&mut all, spot, end)?;
+    for (run, steps) in runs.iter().enumerate() {
+        let end = before + steps.count;
+        add_spots(&mut all, Spot { run, before }, end)?;
         before = end;
     }
     Ok(Spots { all, count: before })
-}
-
-// How many steps there are up to the end of a run, with so many before it.
-fn end_of(run: &Run, before: u32) -> Result<u32, NoMemory>
-    ensures end { IfOk result (λ end. end ≡ before + run.now.count) }
-    ensures numbered { IfOk result (λ _. IsNumbered run.now) }
-{
-    let count = u64::from(run.count);
-    let limit = u64::from(u32::MAX);
-    let net = u64::from(run.net) + count;
-    let first = u64::from(run.first) + count;
-    let end = u64::from(before) + count;
-    if net > limit || first > limit || end > limit {
-        return Err(NoMemory);
-    }
-    Ok(end as u32)
-}
-
-// The spot of a run at a place.
-fn spot_at(place: usize, before: u32) -> Result<Spot, NoMemory>
-    ensures run { IfOk result (λ spot. spot.run ≡ place) }
-    ensures before { IfOk result (λ spot. spot.before ≡ before) }
-{
-    if place as u64 > u64::from(u32::MAX) {
-        return Err(NoMemory);
-    }
-    let run = place as u32;
-    Ok(Spot { run, before })
 }
 
 // Adds a spot for steps that aren't noted yet, up to this one.
@@ -113,7 +84,7 @@ fn alone_from(runs: &[Run], spot: Spot, step: usize) -> Run
     requires step { step < steps_in runs.now }
     ensures { IsAlone runs.now step result }
 {
-    let mut place = spot.run as usize;
+    let mut place = spot.run;
     let mut left = step - spot.before as usize;
     while left >= runs[place].count as usize {
         left -= runs[place].count as usize;

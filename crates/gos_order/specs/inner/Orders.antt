@@ -1,5 +1,5 @@
 -- How clauses see the orders of this crate's program, and what is true inside each.
-use Rattle.std.specs.Prelude.{◌≡◌, ◌≤◌, ℕ, length}
+use Rattle.std.specs.Prelude.{◌≡◌, ◌<◌, ◌≤◌, ◌^◌, ℕ, length}
 use Rattle.gos_order.specs.declared.order.Order.TheInside.{Inside}
 use Rattle.gos_order.specs.Rings.{Graph, HasRing}
 use Rattle.gos_order.specs.inner.NodeLists.{at}
@@ -15,5 +15,5 @@ pub record IsOrdered (order : Inside) : Type 0 where
   pub behind : order.behind.bound ≡ order.links.nodes
   pub rising : AreRising order.links.edges order.levels.items
   pub low : (node : ℕ) → at order.levels.items node ≤ length order.links.edges
-  pub small : length order.links.edges ≤ 4294967294
+  pub small : length order.links.edges < 2 ^ 63
   pub ringless : HasRing order.links.edges → ⊥

@@ -90,10 +90,11 @@ AreRunsMore runs last next more newest =
     (o : Operands) → AreFitting o runs last → Fits o next
     → (all_steps o more newest ≡ all_steps o runs last ++ steps_of o next) × AreFitting o more newest
 
--- some list is another one and more behind it
+-- some list is another one, or has one element more behind it
 pub record IsLonger {A : Type 0} (old new : List A) : Type 0 where
   pub rest : List A
   pub is : new ≡ old ++ rest
+  pub few : length rest ≤ 1
 
 -- so are the operands of each kind
 pub record AreLonger (old new : Operands) : Type 0 where

@@ -1,7 +1,7 @@
 -- Places: nets numbered anew, so that a simulator keeps their values in the order in which it writes them.
 --
 -- Read first: Program.
-use Rattle.std.specs.Prelude.{◌≡◌, ◌≢◌, ℕ, ◌<◌, ◌≤◌, Some, List, length, map, slice_get}
+use Rattle.std.specs.Prelude.{◌≡◌, ◌≢◌, ℕ, suc, ◌<◌, ◌≤◌, if◌then◌else◌, Some, List, [], ◌∷◌, length, map, nat_eq, slice_get}
 use Rattle.std.specs.Option.{option_map}
 use Rattle.gos_netlist.specs.Nets.{Function, Input, Const, Not, And, Or, Xor, Mux, Add, Sub, Eq, Less, Gate, Reg}
 use Rattle.gos_netlist.specs.Seen.{function_of}
@@ -52,9 +52,15 @@ pub record AreStepsMoved (p : ℕ → ℕ) (old new : List Step) : Type 0 where
 abbrev pub none : ℕ
 none = 4294967295
 
--- some nets have places below a number, no two the same
+-- how many nets have a place
+abbrev pub placed : Numbers → ℕ
+placed [] = 0
+placed (p ∷ ps) = if nat_eq p none then placed ps else suc (placed ps)
+
+-- so many nets have places below their number, no two the same, and places are numbers of 32 bits
 pub record IsPartly (places : Numbers) (count : ℕ) : Type 0 where
-  pub room : count ≤ none
+  pub few : length places ≤ none
+  pub counted : count ≡ placed places
   pub below : (n : ℕ) → n < length places → at places n ≢ none → at places n < count
   pub one : (a b : ℕ) → a < length places → b < length places → at places a ≢ none → at places b ≢ none → at places a ≡ at places b → a ≡ b
 

@@ -3,7 +3,7 @@ use Rattle.std.proofs.lemmas.List.{get_or_read}
 use Rattle.gos_order.specs.declared.links.Entry.{Entry}
 use Rattle.gos_order.specs.Rings.{Graph}
 use Rattle.gos_order.specs.inner.NodeLists.{at}
-use Rattle.gos_order.proofs.LinkLemmas.{chained_out, chained_in, range_kept, sides_kept, small_kept}
+use Rattle.gos_order.proofs.LinkLemmas.{chained_out, chained_in, range_kept, sides_kept}
 use Rattle.gos_order.proofs.links.Links.add.Goals as goal
 
 pub invariant_of-self-2 : goal.invariant_of-self-2
@@ -25,10 +25,9 @@ invariant_of-self-2 c =
     let wanted : Entry = record { from = from; to = to; next_out = at old.last_out.items from; next_in = at old.last_in.items to } in
     let is_entry : entry ≡ wanted = λ i. record { from = from; to = to; next_out = out i; next_in = into i } in
     let counted : place ≡ length old.entries.items + 1 = search rules in
-    let room : length old.entries.items < 4294967294 = search rules in
     record {
       sides = sides_kept old c.self.invariant from to place first second entries entry is_entry pushed counted;
-      small = small_kept old c.self.invariant from to place first second entries entry is_entry pushed counted room;
+      small = omega (arith, c.push.new.self.ok.0, c.push.new.self.small);
       range = range_kept old c.self.invariant from to place first second entries entry is_entry pushed counted;
       out = chained_out old c.self.invariant from to place first second entries entry is_entry pushed counted;
       into = chained_in old c.self.invariant from to place first second entries entry is_entry pushed counted;

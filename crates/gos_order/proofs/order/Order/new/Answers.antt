@@ -1,4 +1,4 @@
-use Rattle.std.proofs.Common.{rules, ◌≡◌, ◌≤◌, [], ap, sym, subst, arith, length, ℕ, List, replicate}
+use Rattle.std.proofs.Common.{rules, ◌≡◌, ◌<◌, ◌≤◌, ◌^◌, [], ap, sym, subst, arith, length, ℕ, List, replicate}
 use Rattle.gos_order.specs.Rings.{Graph, Edge, HasRing}
 use Rattle.gos_order.specs.inner.NodeLists.{at}
 use Rattle.gos_order.specs.inner.Levels.{AreRising}
@@ -16,6 +16,6 @@ invariant_of-result c =
       behind = search rules;
       rising = subst (λ (edges : List Edge). AreRising edges levels) (sym none) (rising_empty levels);
       low = λ node. subst (λ (xs : List ℕ). at xs node ≤ length c.in_ok-links.links.edges) (sym zeros) (low_zero c.args.nodes node (length c.in_ok-links.links.edges));
-      small = subst (λ (edges : List Edge). length edges ≤ 4294967294) (sym none) (omega arith);
+      small = subst (λ (edges : List Edge). length edges < 2 ^ 63) (sym none) (omega arith);
       ringless = subst (λ (edges : List Edge). HasRing edges → ⊥) (sym none) ringless_empty;
     }

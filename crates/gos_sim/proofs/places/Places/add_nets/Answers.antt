@@ -8,7 +8,7 @@ use Rattle.gos_sim.proofs.places.Places.add_nets.Goals as goal
 
 pub loop-net-preserved : goal.loop-net-preserved
 loop-net-preserved c =
-    let more = c.in_ok-add.ensures in
+    let more = c.add.ensures in
     let nets = c.args.nets.now in
     let index = c.loop-net.net-index in
     let Placed : NetId → Type 0 = λ n. at c.add.new.self.of.items n.0 ≢ none in

@@ -10,8 +10,8 @@ loop-link-preserved c =
     let link = c.loop-link.link in
     let known = c.loop-link.invariant in
     let low : link - 1 < length all = omega (arith, known.within, c.loop-link-test.true) in
-    let r = c.index-in-loop-link.result.now in
-    let is = slice_get_read all (length all) (link - 1) r refl low c.index-in-loop-link.ensures in
+    let r = c.index.result.now in
+    let is = slice_get_read all (length all) (link - 1) r refl low c.index.ensures in
     record {
       within = omega (arith, c.requires.linked.down (link - 1) r is, low);
       each = c.mark.ensures.each ∙ known.each;
