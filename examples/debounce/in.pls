@@ -1,51 +1,73 @@
 # By gos-play, from debounce.play.
-cycles 420
+cycles 1400
 next 0 main.run
-next 10 tick.done
+next 40 tick.done
 next 2 button.ans 0
-next 8 tick.done
+next 38 tick.done
 next 2 button.ans 0
-next 8 tick.done
+next 38 tick.done
 next 2 button.ans 1
-next 28 tick.done
+next 38 tick.done
+next 2 button.ans 0
+next 38 tick.done
 next 2 button.ans 1
-next 28 tick.done
+next 38 tick.done
 next 2 button.ans 1
-next 28 tick.done
+next 38 tick.done
+next 2 button.ans 0
+next 38 tick.done
+next 2 button.ans 1
+next 38 tick.done
+next 2 button.ans 1
+next 38 tick.done
+next 2 button.ans 1
+next 38 tick.done
 next 2 button.ans 1
 next 20 level.done
-next 8 tick.done
+next 18 tick.done
 next 2 button.ans 1
-next 8 tick.done
+next 38 tick.done
 next 2 button.ans 1
-next 8 tick.done
+next 38 tick.done
 next 2 button.ans 1
-next 8 tick.done
-next 2 button.ans 0
-next 28 tick.done
+next 38 tick.done
 next 2 button.ans 1
-next 8 tick.done
+next 38 tick.done
 next 2 button.ans 0
-next 28 tick.done
+next 38 tick.done
+next 2 button.ans 1
+next 38 tick.done
+next 2 button.ans 1
+next 38 tick.done
 next 2 button.ans 0
-next 28 tick.done
+next 38 tick.done
+next 2 button.ans 1
+next 38 tick.done
 next 2 button.ans 0
-next 28 tick.done
+next 38 tick.done
+next 2 button.ans 0
+next 38 tick.done
+next 2 button.ans 0
+next 38 tick.done
 next 2 button.ans 0
 next 20 level.done
-next 8 tick.done
+next 18 tick.done
 next 2 button.ans 0
-next 8 tick.done
+next 38 tick.done
 next 2 button.ans 0
-next 8 tick.done
+next 38 tick.done
 next 2 button.ans 0
-next 8 tick.done
+next 38 tick.done
 next 2 button.ans 0
-next 8 tick.done
+next 38 tick.done
 next 2 button.ans 0
-next 8 tick.done
+next 38 tick.done
+next 2 button.ans 1
+next 38 tick.done
+next 2 button.ans 1
+next 38 tick.done
 next 2 button.ans 0
-next 8 tick.done
+next 38 tick.done
 next 2 button.ans 0
-next 8 tick.done
+next 38 tick.done
 next 2 button.ans 0

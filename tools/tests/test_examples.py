@@ -1,6 +1,9 @@
 #!/usr/bin/env python3
 """Does what the README of each controller in examples says, and compares what is printed with what stands there.
 
+Where verilator is installed, the command of docs/VERILOG.md that reads a module for faults finds none in any example; and where
+iverilog is, the page's frame for pins shows what the button is.
+
 usage: tools/tests/test_examples.py GOS [WORDS OF unittest]
        tools/tests/test_examples.py GOS --write
 
@@ -19,9 +22,23 @@ from pathlib import Path
 
 import built
 
-EXAMPLES = built.TOP / "examples"
+EXAMPLES, VERILOG = built.TOP / "examples", built.TOP / "docs" / "VERILOG.md"
 MOST_LINES = 20
 BLOCK = re.compile(r"^```console\n(.*?)^```$", re.M | re.S)
+FILE = re.compile(r"^```\w+ (\S+)\n(.*?)^```$", re.M | re.S)
+BENCH = """
+module bench;
+  reg clock = 0, button = 0;
+  wire led;
+  top frame(clock, button, led);
+  always #1 clock = ~clock;
+  initial begin
+    #100 $display("%b", led); button = 1;
+    #100 $display("%b", led); button = 0;
+    #100 $display("%b", led); $finish(0);
+  end
+endmodule
+"""
 # The tool that a command wants, where it may be missing.
 WANTED = {"iverilog": "iverilog", "vvp": "vvp", "gos-bench": "iverilog", "gos-formal": "yosys"}
 
@@ -74,6 +91,31 @@ class Controllers(unittest.TestCase):
             with self.subTest(example.name):
                 self.assertIn(f"- `{example.name}`: ", listed)
                 self.assertLessEqual(len((example / "README.md").read_text().splitlines()), MOST_LINES)
+
+
+class Verilog(built.Case):
+    """What docs/VERILOG.md shows."""
+
+    def test_the_command_that_reads_for_faults_is_silent(self):
+        if not shutil.which("verilator"):
+            self.skipTest("verilator is not installed")
+        words = re.search(r"^    (verilator --lint-only .*)$", VERILOG.read_text(), re.M)[1].split()
+        for build in sorted(EXAMPLES.glob("*/b.txt")):
+            with self.subTest(build.parent.name):
+                room = built.Room(shutil.copytree(build.parent, self.room.path / build.parent.name))
+                room.run(room.gos, "build", "b.txt")
+                ran = room.run(*words)
+                self.assertEqual((ran.returncode, ran.stdout + ran.stderr), (0, ""))
+
+    def test_the_frame_shows_what_the_button_is(self):
+        if not shutil.which("iverilog"):
+            self.skipTest("iverilog is not installed")
+        files = dict(FILE.findall(VERILOG.read_text()))
+        self.room.write(top__v=files["top.v"], bench__v=BENCH)
+        self.room.build({"main": files["main.gos"]}, "cycles 1\n")
+        ran = self.room.run("iverilog", "-o", "bench", "bench.v", "top.v", "out.v")
+        self.assertEqual((ran.returncode, ran.stdout + ran.stderr), (0, ""))
+        self.assertEqual(self.room.run("vvp", "-n", "bench").stdout, "0\n1\n0\n")
 
 
 def write():
