@@ -25,7 +25,7 @@ TOP = Path(__file__).resolve().parent.parent.parent
 TOOLS, LATCH = TOP / "tools", TOP / "examples" / "latch"
 # What tools/quick and the gate run.
 TRIED = ("tools/house", "examples/run", "tools/tests/test_tools.py", "tools/tests/tutorial",
-         *(f"tools/tests/test_{it}.py" for it in "play where lsp costs cookbook lib make".split()))
+         *(f"tools/tests/test_{it}.py" for it in "play where lsp costs cookbook lib make examples language".split()))
 WORDS = re.search(r"The words are `([^`]+)`", (TOP / "docs" / "LANGUAGE.md").read_text().replace("\n  ", " "))[1].split()
 
 

@@ -1,0 +1,73 @@
+# By gos-play, from debounce.play.
+cycles 1400
+next 0 main.run
+next 40 tick.done
+next 2 button.ans 0
+next 38 tick.done
+next 2 button.ans 0
+next 38 tick.done
+next 2 button.ans 1
+next 38 tick.done
+next 2 button.ans 0
+next 38 tick.done
+next 2 button.ans 1
+next 38 tick.done
+next 2 button.ans 1
+next 38 tick.done
+next 2 button.ans 0
+next 38 tick.done
+next 2 button.ans 1
+next 38 tick.done
+next 2 button.ans 1
+next 38 tick.done
+next 2 button.ans 1
+next 38 tick.done
+next 2 button.ans 1
+next 20 level.done
+next 18 tick.done
+next 2 button.ans 1
+next 38 tick.done
+next 2 button.ans 1
+next 38 tick.done
+next 2 button.ans 1
+next 38 tick.done
+next 2 button.ans 1
+next 38 tick.done
+next 2 button.ans 0
+next 38 tick.done
+next 2 button.ans 1
+next 38 tick.done
+next 2 button.ans 1
+next 38 tick.done
+next 2 button.ans 0
+next 38 tick.done
+next 2 button.ans 1
+next 38 tick.done
+next 2 button.ans 0
+next 38 tick.done
+next 2 button.ans 0
+next 38 tick.done
+next 2 button.ans 0
+next 38 tick.done
+next 2 button.ans 0
+next 20 level.done
+next 18 tick.done
+next 2 button.ans 0
+next 38 tick.done
+next 2 button.ans 0
+next 38 tick.done
+next 2 button.ans 0
+next 38 tick.done
+next 2 button.ans 0
+next 38 tick.done
+next 2 button.ans 0
+next 38 tick.done
+next 2 button.ans 1
+next 38 tick.done
+next 2 button.ans 1
+next 38 tick.done
+next 2 button.ans 0
+next 38 tick.done
+next 2 button.ans 0
+next 38 tick.done
+next 2 button.ans 0
