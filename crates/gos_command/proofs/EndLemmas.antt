@@ -1,7 +1,10 @@
 -- Facts of results, stops and files that follow from other ones.
-use Rattle.std.proofs.Common.{List, ℕ, Option, Some, None, Result, Ok, Err}
+use Rattle.std.proofs.Common.{◌≡◌, ◌≢◌, List, ◌++◌, ℕ, Option, Some, None, Result, Ok, Err, refl, sym, subst}
+use Rattle.std.specs.Result.{IsErrAnd}
 use Rattle.std.specs.Prelude.{IfSome, IfOk, IfErr}
-use Rattle.gos_command.specs.Ends.{IfStopped}
+use Rattle.gos_outside.specs.Calls.{StoreCall, Calls, and_all, Ending, Whole, AreMade}
+use Rattle.gos_outside.proofs.CallsLemmas.{ends_before, goes_on, stops_short}
+use Rattle.gos_command.specs.Ends.{IfStopped, stop_ending, ending}
 use Rattle.gos_command.specs.declared.status.Fault.{Fault}
 use Rattle.gos_command.specs.declared.stop.Stop.{Stop}
 use Rattle.gos_command.specs.declared.stop.Stop.TheVariants.{Rejected, StoreFailed, NoMemory}
@@ -41,3 +44,37 @@ pub of_stop : {T : Type 0} (P Q : Fault → List ℕ → Type 0) (r : Result T S
     → IfErr r (λ stop. IfStopped stop P) → IfErr r (λ stop. IfStopped stop Q)
 of_stop P Q (Ok x) f h = tt
 of_stop P Q (Err stop) f h = of_stopped P Q stop f h
+
+-- A stop is no end of all calls.
+pub not_whole : (stop : Stop) → stop_ending stop ≢ Whole
+not_whole (Rejected r) = λ e. cc e
+not_whole StoreFailed = λ e. cc e
+not_whole NoMemory = λ e. cc e
+
+-- a stop after all of some calls, of which none failed
+pub stops_after : (stop : Stop) (calls more : List StoreCall) (old new : Calls) → stop ≢ StoreFailed → new ≡ and_all old calls → AreMade (stop_ending stop) (calls ++ more) old new
+stops_after (Rejected r) calls more old new other made = stops_short calls more old new made
+stops_after StoreFailed calls more old new other made = absurd (other refl)
+stops_after NoMemory calls more old new other made = stops_short calls more old new made
+
+-- and a want of memory there
+pub out_after : {A : Type 0} (r : Result A Stop) (calls more : List StoreCall) (old new : Calls) → IsErrAnd r (λ e. e ≡ NoMemory) → new ≡ and_all old calls → AreMade (ending r) (calls ++ more) old new
+out_after (Ok x) calls more old new out made = absurd out
+out_after (Err stop) calls more old new out made = subst (λ (s : Stop). AreMade (stop_ending s) (calls ++ more) old new) (sym out) (stops_short calls more old new made)
+
+-- at the exit of a `?`: the call that failed made the first of the calls, or the last of them
+pub early : {T : Type 0} (r : Result T Stop) (stop : Stop) (calls more : List StoreCall) (old new : Calls) → IsErrAnd r (λ e. e ≡ stop) → AreMade (stop_ending stop) calls old new
+    → AreMade (ending r) (calls ++ more) old new
+early (Ok x) stop calls more old new same made = absurd same
+early (Err e) stop calls more old new same made =
+    subst (λ (s : Stop). AreMade (stop_ending s) (calls ++ more) old new) (sym same) (ends_before (stop_ending stop) calls more old new (not_whole stop) made)
+
+pub late : {T : Type 0} (r : Result T Stop) (stop : Stop) (calls more : List StoreCall) (old between new : Calls) → IsErrAnd r (λ e. e ≡ stop) → between ≡ and_all old calls
+    → AreMade (stop_ending stop) more between new → AreMade (ending r) (calls ++ more) old new
+late (Ok x) stop calls more old between new same first made = absurd same
+late (Err e) stop calls more old between new same first made =
+    subst (λ (s : Stop). AreMade (stop_ending s) (calls ++ more) old new) (sym same) (goes_on (stop_ending stop) calls more old between new first made)
+
+-- calls of what is the same
+pub made_of : {A : Type 0} (f : A → List StoreCall) (ending : Ending) (old new : Calls) (a b : A) → a ≡ b → AreMade ending (f a) old new → AreMade ending (f b) old new
+made_of f ending old new a b same made = subst (λ x. AreMade ending (f x) old new) same made

@@ -1,7 +1,8 @@
 -- How a command may end.
 --
 -- Read first: Lines.
-use Rattle.std.specs.Prelude.{◌≡◌, ◌≢◌, ◌⊎◌, ℕ, List}
+use Rattle.std.specs.Prelude.{◌≡◌, ◌≢◌, ◌⊎◌, ℕ, List, Result, Ok, Err}
+use Rattle.gos_outside.specs.Calls.{Ending, Whole, Failed, Short}
 use Rattle.gos_lex.specs.declared.fault.LexFault.TheVariants as lex
 use Rattle.gos_syntax.specs.declared.fault.SyntaxFault.TheVariants as syntax
 use Rattle.gos_check.specs.declared.fault.CheckFault.TheVariants as check
@@ -56,3 +57,21 @@ IfStopped stop P = Unit {0}
 -- the status is this one, where its line could be printed
 abbrev pub IsSaid : Status → Status → Type 0
 IsSaid status wanted = (status ≡ wanted) ⊎ ((status ≡ statuses.SinkFailed) ⊎ (status ≡ statuses.NoMemory))
+
+-- How far a command came with its calls of the store: by how it stops, by its result, and by its status, where its line may be unsaid.
+abbrev pub stop_ending : Stop → Ending
+stop_ending stops.StoreFailed = Failed
+stop_ending stops.NoMemory = Short
+stop_ending (stops.Rejected rejection) = Short
+
+abbrev pub ending : {A : Type 0} → Result A Stop → Ending
+ending (Ok x) = Whole
+ending (Err stop) = stop_ending stop
+
+abbrev pub status_ending : Status → Ending
+status_ending statuses.Done = Whole
+status_ending statuses.Usage = Short
+status_ending (statuses.Rejected fault) = Short
+status_ending statuses.StoreFailed = Failed
+status_ending statuses.SinkFailed = Short
+status_ending statuses.NoMemory = Short

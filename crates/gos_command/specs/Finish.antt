@@ -2,7 +2,7 @@
 --
 -- Read first: Lines, Ends.
 use Rattle.std.specs.Prelude.{◌≡◌, List, ℕ, Option, Result, Ok, Err}
-use Rattle.gos_outside.specs.Written.{appended, AppendsPrefix}
+use Rattle.gos_outside.specs.Written.{appended, AppendsPrefix, one_more, AtMostOneMore}
 use Rattle.gos_command.specs.declared.report.Report.{Report}
 use Rattle.gos_command.specs.declared.status.Status.{Status}
 use Rattle.gos_command.specs.declared.status.Status.TheVariants as statuses
@@ -25,3 +25,9 @@ Finishes (Ok report) status old new = Says (report_line report) statuses.Done st
 Finishes (Err (stops.Rejected rejection)) status old new = Says rejection.line.items (statuses.Rejected rejection.fault) status old new
 Finishes (Err stops.StoreFailed) status old new = (status ≡ statuses.StoreFailed) × (new ≡ old)
 Finishes (Err stops.NoMemory) status old new = (status ≡ statuses.NoMemory) × (new ≡ old)
+
+-- The line is printed by one write: none is made where the store failed, and at most one where memory ran out.
+abbrev pub IsOneWrite : Status → Option ℕ → Option ℕ → Type 0
+IsOneWrite statuses.StoreFailed old new = new ≡ old
+IsOneWrite statuses.NoMemory old new = AtMostOneMore old new
+IsOneWrite status old new = new ≡ one_more old

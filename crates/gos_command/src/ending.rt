@@ -2,7 +2,7 @@
 
 ghost use Rattle.std.specs.Prelude.{◌≡◌, ◌≢◌};
 ghost use Rattle.gos_outside.specs.Faults.{Rose};
-ghost use Rattle.gos_command.specs.Finish.{Says, Finishes};
+ghost use Rattle.gos_command.specs.Finish.{Says, Finishes, IsOneWrite};
 ghost use Rattle.gos_command.specs.Lines.{report_line};
 
 use crate::report::{Report, report_text};
@@ -15,6 +15,7 @@ use std::alloc::Global;
 /// Prints the line of a command that ended so, and answers its status.
 pub fn finish<O: Sink>(alloc: Global, ended: Result<Report, Stop>, out: &mut O) -> Status
     ensures finishes { Finishes ended result (O.written out.old) (O.written out.new) }
+    ensures once { IsOneWrite result (O.writes out.old) (O.writes out.new) }
     ensures failed { result ≡ Status.SinkFailed → Rose (O.faults out.old) (O.faults out.new) }
     ensures same_count { result ≢ Status.SinkFailed → O.faults out.new ≡ O.faults out.old }
 {
@@ -31,6 +32,7 @@ pub fn finish<O: Sink>(alloc: Global, ended: Result<Report, Stop>, out: &mut O) 
 // Prints the line of a command that is done.
 fn report_done<O: Sink>(alloc: Global, report: Report, out: &mut O) -> Status
     ensures said { Says (report_line report) Status.Done result (O.written out.old) (O.written out.new) }
+    ensures once { IsOneWrite result (O.writes out.old) (O.writes out.new) }
     ensures failed { result ≡ Status.SinkFailed → Rose (O.faults out.old) (O.faults out.new) }
     ensures same_count { result ≢ Status.SinkFailed → O.faults out.new ≡ O.faults out.old }
 {
@@ -44,7 +46,9 @@ fn report_done<O: Sink>(alloc: Global, report: Report, out: &mut O) -> Status
 pub fn say<O: Sink>(alloc: Global, line: &[u8], status: Status, out: &mut O) -> Status
     requires sink { status ≢ Status.SinkFailed }
     requires memory { status ≢ Status.NoMemory }
+    requires store { status ≢ Status.StoreFailed }
     ensures said { Says line.now status result (O.written out.old) (O.written out.new) }
+    ensures once { IsOneWrite result (O.writes out.old) (O.writes out.new) }
     ensures failed { result ≡ Status.SinkFailed → Rose (O.faults out.old) (O.faults out.new) }
     ensures same_count { result ≢ Status.SinkFailed → O.faults out.new ≡ O.faults out.old }
 {

@@ -1,11 +1,12 @@
 // The files of a command, and how they are read and written.
 
-ghost use Rattle.std.specs.Prelude.{◌≡◌, ◌+◌, ◌≤◌, ◌<◌, ◌^◌, max, take, length, IfOk, IfErr, IfSome, OnOk, IsErrOf, Err};
+ghost use Rattle.std.specs.Prelude.{◌≡◌, ◌+◌, ◌≤◌, ◌<◌, ◌^◌, ◌∷◌, [], take, length, IfOk, IfErr, IfSome, OnOk, IsErrOf, Err};
 ghost use Rattle.gos_outside.specs.FileName.{IsFileName};
 ghost use Rattle.gos_outside.specs.Files.{bytes_at, with_file, SameBut};
 ghost use Rattle.gos_outside.specs.Faults.{ReadFault, WriteFault, Rose};
+ghost use Rattle.gos_outside.specs.Calls.{Read, Write, AreMade};
 ghost use Rattle.gos_command.specs.Files.{IsReadWhole};
-ghost use Rattle.gos_command.specs.Ends.{IfStopped};
+ghost use Rattle.gos_command.specs.Ends.{IfStopped, ending};
 
 use crate::stop::Stop;
 use gos_outside::{Store, StoreFault};
@@ -23,7 +24,7 @@ pub fn read_file<S: Store>(
     requires limit { limit < 2 ^ 32 }
     ensures read { IfOk result (λ bytes. IfSome (S.contents store.old) (λ files. IsReadWhole limit bytes.items (bytes_at files name.now))) }
     ensures one_more { IfOk result (λ bytes. length bytes.items ≤ limit + 1) }
-    ensures asked { S.asked store.new ≤ max (S.asked store.old) (limit + 1) }
+    ensures calls { AreMade (ending result) (Read name.now (limit + 1) ∷ []) (S.calls store.old) (S.calls store.new) }
     ensures rejects_nothing { IfErr result (λ stop. IfStopped stop (λ fault line. ⊥)) }
     ensures failed_only { IsErrOf result Stop.StoreFailed → Rose (S.faults store.old) (S.faults store.new) }
     ensures failed_call { IsErrOf result Stop.StoreFailed → S.last_fault store.new ≡ ReadFault name.now }
@@ -45,7 +46,7 @@ pub fn read_start<S: Store>(
     requires count { count ≤ 2 ^ 32 }
     ensures read { IfOk result (λ bytes. IfSome (S.contents store.old) (λ files. bytes.items ≡ take count (bytes_at files name.now))) }
     ensures limit { IfOk result (λ bytes. length bytes.items ≤ count) }
-    ensures asked { S.asked store.new ≤ max (S.asked store.old) count }
+    ensures calls { AreMade (ending result) (Read name.now count ∷ []) (S.calls store.old) (S.calls store.new) }
     ensures rejects_nothing { IfErr result (λ stop. IfStopped stop (λ fault line. ⊥)) }
     ensures failed_only { IsErrOf result Stop.StoreFailed → Rose (S.faults store.old) (S.faults store.new) }
     ensures failed_call { IsErrOf result Stop.StoreFailed → S.last_fault store.new ≡ ReadFault name.now }
@@ -69,6 +70,7 @@ pub fn write_file<S: Store>(
 ) -> Result<(), Stop>
     requires { IsFileName name.now }
     ensures written { OnOk result (S.contents store.new ≡ with_file name.now bytes.now (S.contents store.old)) }
+    ensures calls { AreMade (ending result) (Write name.now ∷ []) (S.calls store.old) (S.calls store.new) }
     ensures rejects_nothing { IfErr result (λ stop. IfStopped stop (λ fault line. ⊥)) }
     ensures failed_only { IsErrOf result Stop.StoreFailed → Rose (S.faults store.old) (S.faults store.new) }
     ensures failed_call { IsErrOf result Stop.StoreFailed → S.last_fault store.new ≡ WriteFault name.now }

@@ -2,3 +2,4 @@ pub mod FaultsLemmas
 pub mod FilesLemmas
 pub mod HeldFilesLemmas
 pub mod OtherFilesLemmas
+pub mod CallsLemmas

@@ -1,6 +1,8 @@
 pub mod FileName
 pub mod Files
 pub mod Faults
+pub mod Calls
+pub mod SmallCalls
 pub mod Written
 pub mod OtherFiles
 pub mod FaultLog

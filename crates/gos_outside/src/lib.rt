@@ -9,12 +9,13 @@
 // was: specs/OtherFiles and proofs/OtherFilesLemmas.
 #![tactic(auto)]
 
-ghost use Rattle.std.specs.Prelude.{◌≡◌, ℕ, ◌≤◌, max, List, take, length, Option};
+ghost use Rattle.std.specs.Prelude.{◌≡◌, ℕ, ◌≤◌, List, [], ◌∷◌, take, length, Option};
 ghost use Rattle.std.specs.Prelude.{IfOk, IfSome, OnOk, IsErrOf};
 ghost use Rattle.gos_outside.specs.FileName.{IsFileName};
 ghost use Rattle.gos_outside.specs.Files.{Files, bytes_at, with_file, SameBut};
 ghost use Rattle.gos_outside.specs.Faults.{LastFault, ReadFault, WriteFault, Rose};
-ghost use Rattle.gos_outside.specs.Written.{appended, AppendsPrefix};
+ghost use Rattle.gos_outside.specs.Calls.{Calls, Read, Write, ending, AreMade};
+ghost use Rattle.gos_outside.specs.Written.{appended, AppendsPrefix, one_more, AtMostOneMore};
 
 use std::alloc::{AllocError, AllocFailed, Global};
 use thiserror::Error;
@@ -22,6 +23,7 @@ use thiserror::Error;
 mod fault_log;
 mod file_name;
 mod held_files;
+mod laws;
 mod memory_sink;
 mod memory_store;
 mod planned_faults;
@@ -30,6 +32,7 @@ mod sure_store;
 
 pub use fault_log::{Call, FaultLog};
 pub use file_name::is_file_name;
+pub use laws::small_calls;
 pub use memory_sink::MemorySink;
 pub use memory_store::MemoryStore;
 pub use sure_sink::SureSink;
@@ -58,8 +61,8 @@ pub enum SinkFault {
 }
 
 /// Files by their names. `faults` is how many calls have failed, up to the largest `u64`;
-/// `last_fault` is the last call that did; `contents` are the files, where the store tells them;
-/// `asked` is the most bytes that one read was asked for, or less where the store doesn't keep it.
+/// `last_fault` is the last call that did; `contents` are the files, and `calls` the calls that were
+/// made, in their order, where the store tells them.
 pub trait Store {
     ghost faults: { Self → ℕ };
 
@@ -67,7 +70,7 @@ pub trait Store {
 
     ghost contents: { Self → Option Files };
 
-    ghost asked: { Self → ℕ };
+    ghost calls: { Self → Calls };
 
     /// The first `n` bytes of the file `name`, or all of it where it is shorter.
     fn read_up_to(&mut self, alloc: Global, name: &[u8], n: usize) -> Result<Vec<u8>, StoreFault>
@@ -75,7 +78,7 @@ pub trait Store {
         ensures bytes { IfOk result (λ bytes. IfSome (contents self.old) (λ files.
             bytes.items ≡ take n (bytes_at files name.now))) }
         ensures limit { IfOk result (λ bytes. length bytes.items ≤ n) }
-        ensures asked { asked self.new ≤ max (asked self.old) n }
+        ensures calls { AreMade (ending result) (Read name.now n ∷ []) (calls self.old) (calls self.new) }
 
         // A failed call is counted, and is the last fault from then on. Any other changes neither.
         ensures failed_only { IsErrOf result StoreFault.Failed →
@@ -95,6 +98,7 @@ pub trait Store {
         requires { IsFileName name.now }
         ensures written { OnOk result
             (contents self.new ≡ with_file name.now bytes.now (contents self.old)) }
+        ensures calls { AreMade (ending result) (Write name.now ∷ []) (calls self.old) (calls self.new) }
 
         // A failed call is counted, and is the last fault from then on. Any other changes neither.
         ensures failed_only { IsErrOf result StoreFault.Failed →
@@ -114,11 +118,14 @@ pub trait Store {
 }
 
 /// Where bytes go, one after another. `faults` is how many calls have failed, up to the largest
-/// `u64`; `written` are the bytes so far, where the sink tells them.
+/// `u64`; `written` are the bytes so far, and `writes` is how many calls were made, where the sink
+/// tells them.
 pub trait Sink {
     ghost faults: { Self → ℕ };
 
     ghost written: { Self → Option (List ℕ) };
+
+    ghost writes: { Self → Option ℕ };
 
     /// Appends `bytes`. Where it fails, a first part of them may have been appended.
     fn write(&mut self, alloc: Global, bytes: &[u8]) -> Result<(), SinkFault>
@@ -127,6 +134,8 @@ pub trait Sink {
             AppendsPrefix bytes.now (written self.old) (written self.new) }
         ensures no_memory { IsErrOf result SinkFault.NoMemory →
             written self.new ≡ written self.old }
+        ensures one_write { (¬ (IsErrOf result SinkFault.NoMemory)) → writes self.new ≡ one_more (writes self.old) }
+        ensures few_writes { AtMostOneMore (writes self.old) (writes self.new) }
 
         // A failed call is counted, and no other is.
         ensures failed_only { IsErrOf result SinkFault.Failed →

@@ -65,11 +65,13 @@ impl MemorySink {
 }
 
 impl Sink for MemorySink {
-    ghost use Rattle.std.specs.Prelude.{Some};
+    ghost use Rattle.std.specs.Prelude.{None, Some};
 
     ghost faults = { λ sink. sink.faults };
 
     ghost written = { λ sink. Some sink.bytes };
+
+    ghost writes = { λ _. None };
 
     fn write(&mut self, _alloc: Global, bytes: &[u8]) -> Result<(), SinkFault>
         ensures written { OnOk result (self.new ≡ appended_to bytes.now self.old) }

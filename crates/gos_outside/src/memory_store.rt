@@ -88,7 +88,7 @@ impl MemoryStore {
 }
 
 impl Store for MemoryStore {
-    ghost use Rattle.std.specs.Prelude.{Some};
+    ghost use Rattle.std.specs.Prelude.{None, Some};
 
     ghost faults = { λ store. store.faults };
 
@@ -96,7 +96,7 @@ impl Store for MemoryStore {
 
     ghost contents = { λ store. Some store.files };
 
-    ghost asked = { λ _. 0 };
+    ghost calls = { λ _. None };
 
     fn read_up_to(&mut self, alloc: Global, name: &[u8], n: usize) -> Result<Vec<u8>, StoreFault>
         requires { IsFileName name.now }

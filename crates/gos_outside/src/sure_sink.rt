@@ -38,11 +38,13 @@ impl SureSink {
 }
 
 impl Sink for SureSink {
-    ghost use Rattle.std.specs.Prelude.{Some};
+    ghost use Rattle.std.specs.Prelude.{None, Some};
 
     ghost faults = { λ _. 0 };
 
     ghost written = { λ sink. Some sink };
+
+    ghost writes = { λ _. None };
 
     fn write(&mut self, _alloc: Global, bytes: &[u8]) -> Result<(), SinkFault> {
         self.held.extend_from_slice(bytes)?;

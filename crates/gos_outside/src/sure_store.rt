@@ -45,7 +45,7 @@ impl SureStore {
 }
 
 impl Store for SureStore {
-    ghost use Rattle.std.specs.Prelude.{Some};
+    ghost use Rattle.std.specs.Prelude.{None, Some};
     ghost use Rattle.gos_outside.specs.Faults.{NoFault};
 
     ghost faults = { λ _. 0 };
@@ -54,7 +54,7 @@ impl Store for SureStore {
 
     ghost contents = { λ store. Some store };
 
-    ghost asked = { λ _. 0 };
+    ghost calls = { λ _. None };
 
     fn read_up_to(&mut self, alloc: Global, name: &[u8], n: usize) -> Result<Vec<u8>, StoreFault> {
         match self.files.get(name) {

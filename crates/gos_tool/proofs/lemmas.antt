@@ -1,4 +1,5 @@
 -- The lemmas of each folder of src. In reading order.
+pub mod StopLemmas
 pub mod objects
 pub mod circuits
 pub mod simulate

@@ -1,4 +1,6 @@
 -- In reading order: a file or chapter uses only those above it.
+pub mod Calls
+pub mod Causes
 pub mod objects
 pub mod circuits
 pub mod simulate

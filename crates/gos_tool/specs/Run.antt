@@ -2,16 +2,19 @@
 --
 -- Read first: Command; Checked and Compiled of objects; Linked of circuits; Sim of simulate; Built of build; Demo of demo; Lines
 -- of gos_command. `old` and `new` are the files of the store before and after, `written` and `printed` the bytes of the sink.
-use Rattle.std.specs.Prelude.{◌≡◌, ◌⊎◌, ℕ, List, Option, None, IfSome}
+use Rattle.std.specs.Prelude.{◌≡◌, ◌⊎◌, ℕ, List, [], ◌∷◌, Option, None, IfSome}
 use Rattle.gos_outside.specs.Files.{Files, SameBut}
 use Rattle.gos_outside.specs.OtherFiles.{OthersSame}
 use Rattle.gos_outside.specs.Faults.{LastFault, ReadFault}
+use Rattle.gos_outside.specs.Calls.{Calls, Ending, AreMade}
 use Rattle.gos_outside.specs.Written.{appended, AppendsPrefix}
 use Rattle.gos_lex.specs.Lines.{Word}
 use Rattle.gos_command.specs.Lines.{report_line}
 use Rattle.gos_command.specs.Ends.{IsTold}
 use Rattle.gos_command.specs.declared.report.Report.{Report}
 use Rattle.gos_command.specs.declared.status.Fault.{Fault}
+use Rattle.gos_tool.specs.Calls.{read_source, compile_calls, link_calls, sim_calls, build_calls, GoesByBuild}
+use Rattle.gos_tool.specs.Causes.{Kind, OfSource, OfObject, OfBuild, OfNetlist, OfPulses, IsOneOf, TellsWeight, TellsRun, TellsBoth}
 use Rattle.gos_tool.specs.objects.Checked.{IsChecked, IsSourceFault}
 use Rattle.gos_tool.specs.objects.Compiled.{IsCompiled, IsCompileCall}
 use Rattle.gos_tool.specs.circuits.Linked as linking
@@ -20,8 +23,26 @@ use Rattle.gos_tool.specs.simulate.Sim.{IsSimDone, IsSimFault, IsSimCall}
 use Rattle.gos_tool.specs.build.Built as building
 use Rattle.gos_tool.specs.build.Built.{IsBuilt, RejectsBuild, IsBuildCall, IsBuildCutShort}
 use Rattle.gos_tool.specs.demo.Demo as showing
-use Rattle.gos_tool.specs.demo.Demo.{IsDemoDone, IsDemoCall, IsDemoCutShort}
+use Rattle.gos_tool.specs.demo.Demo.{IsDemoDone, IsDemoCall, IsDemoCutShort, CallsOfDemo}
 use Rattle.gos_tool.specs.Command.{Command, Check, Compile, Link, Sim, Build, Demo, Means}
+
+-- what the command's line tells, where it is done: a weight, the numbers of a run, or both
+abbrev pub Tells : Command → Report → Type 0
+Tells (Check source) report = TellsWeight report
+Tells (Compile source object) report = TellsWeight report
+Tells (Link own) report = TellsWeight report
+Tells (Sim net pulses trace) report = TellsRun report
+Tells (Build own) report = TellsBoth report
+Tells (Demo levels) report = TellsBoth report
+
+-- the kinds of files that it may reject; `build` and `demo` read no object and no netlist
+abbrev pub kinds_of : Command → List Kind
+kinds_of (Check source) = OfSource ∷ []
+kinds_of (Compile source object) = OfSource ∷ []
+kinds_of (Link own) = OfObject ∷ OfBuild ∷ []
+kinds_of (Sim net pulses trace) = OfNetlist ∷ OfPulses ∷ []
+kinds_of (Build own) = OfSource ∷ OfBuild ∷ OfPulses ∷ []
+kinds_of (Demo levels) = OfSource ∷ OfBuild ∷ OfPulses ∷ []
 
 -- all that the command is to do is done, with this report
 abbrev pub IsDone : Command → Option Files → Option Files → Report → Type 0
@@ -71,12 +92,22 @@ KeepsOthers (Sim net pulses trace) old new = SameBut trace old new
 KeepsOthers (Build own) old new = building.KeepsUnnamed own old new
 KeepsOthers (Demo levels) old new = OthersSame (showing.written_by levels) old new
 
+-- The calls of the store that the command makes, up to where it ends.
+abbrev pub CallsOf : Command → Ending → Option Files → Calls → Calls → Type 0
+CallsOf (Check source) ending files old new = AreMade ending (read_source source ∷ []) old new
+CallsOf (Compile source object) ending files old new = AreMade ending (compile_calls source object) old new
+CallsOf (Link own) ending files old new = GoesByBuild ending [] files own link_calls old new
+CallsOf (Sim net pulses trace) ending files old new = AreMade ending (sim_calls net pulses trace) old new
+CallsOf (Build own) ending files old new = GoesByBuild ending [] files own build_calls old new
+CallsOf (Demo levels) ending files old new = CallsOfDemo ending files levels old new
+
 -- the words are a command, which is done, and the line that tells so was printed
 pub record EndsDone (words : List Word) (old new : Option Files) (written printed : Option (List ℕ)) : Type 0 where
   pub command : Command
   pub report : Report
   pub means : Means words command
   pub line : printed ≡ appended (report_line report) written
+  pub tells : Tells command report
   pub done : IsDone command old new report
 
 -- the words are a command, which rejects a file for this fault, and the line that tells so was printed
@@ -86,14 +117,16 @@ pub record EndsRejected (words : List Word) (old new : Option Files) (written pr
   pub means : Means words command
   pub told : IsTold fault text
   pub line : printed ≡ appended text written
+  pub kind : IsOneOf (kinds_of command) fault.cause
   pub rejected : IsRejected command old new fault text
 
 -- The line could not be printed, of which a first part was: that of the command that is done, or that of a file that it
 -- rejects.
 abbrev pub IsUnsaid : Command → Option Files → Option Files → Option (List ℕ) → Option (List ℕ) → Type 0
 IsUnsaid c old new written printed =
-    ((report : Report) × AppendsPrefix (report_line report) written printed × IsDone c old new report)
-    ⊎ ((fault : Fault) × (text : List ℕ) × IsTold fault text × AppendsPrefix text written printed × IsRejected c old new fault text)
+    ((report : Report) × AppendsPrefix (report_line report) written printed × Tells c report × IsDone c old new report)
+    ⊎ ((fault : Fault) × (text : List ℕ) × IsTold fault text × AppendsPrefix text written printed × IsOneOf (kinds_of c) fault.cause
+    × IsRejected c old new fault text)
 
 -- what the command leaves where memory runs out: all that it is to do is done, or a file is rejected, or it is cut short
 abbrev pub IsUntold : Command → Option Files → Option Files → Type 0

@@ -2,10 +2,11 @@
 
 ghost use Rattle.std.specs.Prelude.{◌≡◌, ◌≢◌, ◌∷◌, [], IfOk, IfErr, IsErrOf, MatchOption, codes};
 ghost use Rattle.gos_outside.specs.Faults.{Rose};
-ghost use Rattle.gos_command.specs.Ends.{IfStopped, IsTold};
+ghost use Rattle.gos_command.specs.Ends.{IfStopped, IsTold, ending};
 ghost use Rattle.gos_tool.specs.Command.{texts, Means, MeanNothing};
 ghost use Rattle.gos_tool.specs.inner.CommandSeen.{meant, HasFileNames};
-ghost use Rattle.gos_tool.specs.Run.{IsDone, IsRejected, IsCall, IsCutShort, KeepsOthers};
+ghost use Rattle.gos_tool.specs.Causes.{StopsFor};
+ghost use Rattle.gos_tool.specs.Run.{IsDone, IsRejected, IsCall, IsCutShort, KeepsOthers, CallsOf, Tells, kinds_of};
 
 use crate::build::build;
 use crate::circuits::link_build;
@@ -144,6 +145,9 @@ pub fn run_command<S: Store>(
     ensures done { IfOk result (IsDone (meant command.entry) (S.contents store.old) (S.contents store.new)) }
     ensures rejected { IfErr result (λ stop. IfStopped stop (IsRejected (meant command.entry) (S.contents store.old) (S.contents store.new))) }
     ensures told { IfErr result (λ stop. IfStopped stop IsTold) }
+    ensures tells { IfOk result (Tells (meant command.entry)) }
+    ensures kind { IfErr result (StopsFor (kinds_of (meant command.entry))) }
+    ensures calls { CallsOf (meant command.entry) (ending result) (S.contents store.old) (S.calls store.old) (S.calls store.new) }
     ensures failed_only { IsErrOf result Stop.StoreFailed → Rose (S.faults store.old) (S.faults store.new) }
     ensures failed_call { IsErrOf result Stop.StoreFailed →
         IsCall (meant command.entry) (S.contents store.old) (S.contents store.new) (S.last_fault store.new) }

@@ -5,16 +5,19 @@
 // folder: `check` and `compile` objects, `link` circuits, `sim` simulate, `build` build, `demo` demo.
 #![tactic(auto)]
 
-ghost use Rattle.std.specs.Prelude.{◌≡◌, ◌≢◌, ◌⊎◌, Some, IfSome};
+ghost use Rattle.std.specs.Prelude.{◌≡◌, ◌≢◌, ◌⊎◌, ℕ, Some, IfSome};
 ghost use Rattle.gos_outside.specs.Files.{Files};
 ghost use Rattle.gos_outside.specs.Faults.{Rose};
 ghost use Rattle.gos_outside.specs.Written.{appended, AppendsPrefix};
-ghost use Rattle.gos_command.specs.Ends.{IfRejected, IsSaid};
+ghost use Rattle.gos_command.specs.Ends.{IfRejected, IsSaid, status_ending};
+ghost use Rattle.gos_command.specs.Finish.{IsOneWrite};
 ghost use Rattle.gos_lex.specs.Lines.{Word};
 ghost use Rattle.gos_tool.specs.build.Headline.{Headline};
-ghost use Rattle.gos_tool.specs.Command.{Command as Meaning, Build, texts, Means, MeanNothing, usage_line};
+ghost use Rattle.gos_tool.specs.demo.DemoFiles.{build_file};
+ghost use Rattle.gos_tool.specs.demo.Demo.{with_demo};
+ghost use Rattle.gos_tool.specs.Command.{Command as Meaning, Build, Demo, texts, Means, MeanNothing, usage_line};
 ghost use Rattle.gos_tool.specs.Complete.{AreRight};
-ghost use Rattle.gos_tool.specs.Run.{IsCall, KeepsOthers, EndsDone, EndsRejected, IsUnsaid, IsUntold};
+ghost use Rattle.gos_tool.specs.Run.{IsCall, KeepsOthers, CallsOf, EndsDone, EndsRejected, IsUnsaid, IsUntold};
 
 pub mod build;
 pub mod circuits;
@@ -59,6 +62,10 @@ pub fn run<S: Store, O: Sink>(alloc: Global, words: &[String], store: &mut S, ou
     ensures headline { result ≡ Status.Done → (own : Word) → Means (texts words.now) (Build own)
         → IfSome (S.contents store.old) (λ old. IfSome (S.contents store.new) (λ new. Headline old new own)) }
 
+    // Of `demo` so too, with the files of the demo written over those before it.
+    ensures headline_of_demo { result ≡ Status.Done → (levels : ℕ) → Means (texts words.now) (Demo levels)
+        → IfSome (S.contents store.old) (λ old. IfSome (S.contents store.new) (λ new. Headline (with_demo levels old) new (build_file levels).name)) }
+
     // A file is rejected only for the first fault that is found, and its line is printed.
     ensures rejected { IfRejected result (EndsRejected (texts words.now) (S.contents store.old) (S.contents store.new)
         (O.written out.old) (O.written out.new)) }
@@ -90,6 +97,13 @@ pub fn run<S: Store, O: Sink>(alloc: Global, words: &[String], store: &mut S, ou
     ensures memory_line { result ≡ Status.NoMemory → O.written out.new ≡ O.written out.old }
     ensures memory_files { result ≡ Status.NoMemory → (c : Meaning) → Means (texts words.now) c
         → IsUntold c (S.contents store.old) (S.contents store.new) }
+
+    // Where the store tells its calls and the sink its writes: the calls are the command's own list, up to where it ended, each file is
+    // read by one call of its limit and one byte more, after a call that failed there is none, and the line is printed by one write.
+    ensures calls { (c : Meaning) → Means (texts words.now) c
+        → CallsOf c (status_ending result) (S.contents store.old) (S.calls store.old) (S.calls store.new) }
+    ensures no_calls { MeanNothing (texts words.now) → S.calls store.new ≡ S.calls store.old }
+    ensures one_write { IsOneWrite result (O.writes out.old) (O.writes out.new) }
 
     // No file changes but those that the command writes.
     ensures others { (c : Meaning) → Means (texts words.now) c → KeepsOthers c (S.contents store.old) (S.contents store.new) }

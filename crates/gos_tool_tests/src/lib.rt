@@ -12,6 +12,8 @@ mod demo;
 #[cfg(test)]
 mod linking;
 #[cfg(test)]
+mod recording;
+#[cfg(test)]
 mod rows;
 #[cfg(test)]
 mod running;

@@ -1,4 +1,5 @@
 pub mod ExitLemmas
+pub mod CallLemmas
 pub mod PortLemmas
 pub mod CircuitLemmas
 pub mod ObjectLemmas

@@ -21,3 +21,4 @@ pub mod PulseTextLemmas
 pub mod PulseLemmas
 pub mod RightLemmas
 pub mod EndLemmas
+pub mod CallLemmas

@@ -1,29 +1,38 @@
 use Rattle.gos_tool.specs.inner.CommandSeen.{meant}
 use Rattle.gos_tool.proofs.CompleteLemmas.{complete}
-use Rattle.gos_tool.proofs.EndLemmas.{ends_done, headline, if_rejected, kept, unsaid, untold}
+use Rattle.gos_tool.proofs.EndLemmas.{ends_done, headline, headline_of_demo, if_rejected, kept, unsaid, untold, calls}
 use Rattle.gos_tool.proofs.run.Goals as goal
 
 pub returns-in-Some-clause-done : goal.returns-in-Some-clause-done
 returns-in-Some-clause-done g c = λ done.
     ends_done _ (g.S.Store.contents c.args.store.now) (g.S.Store.contents c.run_command-ended.new.store) (g.O.Sink.written c.args.out.now) (g.O.Sink.written c.finish.new.out)
-    (meant c.in-Some.command) c.run_command-ended.result c.finish.result c.in-Some.ensures c.run_command-ended.ensures.done c.finish.ensures.finishes done
+    (meant c.in-Some.command) c.run_command-ended.result c.finish.result c.in-Some.ensures c.run_command-ended.ensures.tells c.run_command-ended.ensures.done c.finish.ensures.finishes done
 
 pub returns-in-Some-clause-headline : goal.returns-in-Some-clause-headline
 returns-in-Some-clause-headline g c = λ done own means.
     headline c.headlines.ensures _ (g.S.Store.contents c.args.store.now) (g.S.Store.contents c.run_command-ended.new.store) (g.O.Sink.written c.args.out.now) (g.O.Sink.written c.finish.new.out)
     own means
     (ends_done _ (g.S.Store.contents c.args.store.now) (g.S.Store.contents c.run_command-ended.new.store) (g.O.Sink.written c.args.out.now) (g.O.Sink.written c.finish.new.out)
-    (meant c.in-Some.command) c.run_command-ended.result c.finish.result c.in-Some.ensures c.run_command-ended.ensures.done c.finish.ensures.finishes done)
+    (meant c.in-Some.command) c.run_command-ended.result c.finish.result c.in-Some.ensures c.run_command-ended.ensures.tells c.run_command-ended.ensures.done c.finish.ensures.finishes done)
+
+pub returns-in-Some-clause-headline_of_demo : goal.returns-in-Some-clause-headline_of_demo
+returns-in-Some-clause-headline_of_demo g c = λ done levels means.
+    headline_of_demo c.headlines.ensures _ (g.S.Store.contents c.args.store.now) (g.S.Store.contents c.run_command-ended.new.store) (g.O.Sink.written c.args.out.now) (g.O.Sink.written c.finish.new.out)
+    levels means
+    (ends_done _ (g.S.Store.contents c.args.store.now) (g.S.Store.contents c.run_command-ended.new.store) (g.O.Sink.written c.args.out.now) (g.O.Sink.written c.finish.new.out)
+    (meant c.in-Some.command) c.run_command-ended.result c.finish.result c.in-Some.ensures c.run_command-ended.ensures.tells c.run_command-ended.ensures.done c.finish.ensures.finishes done)
 
 pub returns-in-Some-clause-sink_line : goal.returns-in-Some-clause-sink_line
 returns-in-Some-clause-sink_line g c = λ failed d means.
     unsaid _ (g.S.Store.contents c.args.store.now) (g.S.Store.contents c.run_command-ended.new.store) (g.O.Sink.written c.args.out.now) (g.O.Sink.written c.finish.new.out)
-    (meant c.in-Some.command) d c.run_command-ended.result c.finish.result c.in-Some.ensures means c.run_command-ended.ensures.done c.run_command-ended.ensures.rejected c.run_command-ended.ensures.told c.finish.ensures.finishes failed
+    (meant c.in-Some.command) d c.run_command-ended.result c.finish.result c.in-Some.ensures means c.run_command-ended.ensures.tells c.run_command-ended.ensures.kind c.run_command-ended.ensures.done c.run_command-ended.ensures.rejected
+    c.run_command-ended.ensures.told c.finish.ensures.finishes failed
 
 pub returns-in-Some-clause-rejected : goal.returns-in-Some-clause-rejected
 returns-in-Some-clause-rejected g c =
     if_rejected _ (g.S.Store.contents c.args.store.now) (g.S.Store.contents c.run_command-ended.new.store) (g.O.Sink.written c.args.out.now) (g.O.Sink.written c.finish.new.out)
-    (meant c.in-Some.command) c.run_command-ended.result c.finish.result c.in-Some.ensures c.run_command-ended.ensures.rejected c.run_command-ended.ensures.told c.finish.ensures.finishes
+    (meant c.in-Some.command) c.run_command-ended.result c.finish.result c.in-Some.ensures c.run_command-ended.ensures.kind c.run_command-ended.ensures.rejected
+    c.run_command-ended.ensures.told c.finish.ensures.finishes
 
 pub returns-in-Some-clause-memory_files : goal.returns-in-Some-clause-memory_files
 returns-in-Some-clause-memory_files g c = λ failed d means.
@@ -40,3 +49,9 @@ returns-in-Some-clause-complete g c = λ d means files told right no_call no_lin
     complete c.right_commands.ensures _ (g.S.Store.contents c.args.store.now) (g.S.Store.contents c.run_command-ended.new.store) (g.O.Sink.written c.args.out.now) (g.O.Sink.written c.finish.new.out)
     (meant c.in-Some.command) d c.run_command-ended.result c.finish.result files told c.in-Some.ensures means right c.run_command-ended.ensures.rejected
     (λ failed. no_call (c.run_command-ended.ensures.failed_only failed)) c.finish.ensures.finishes (λ failed. no_line (c.finish.ensures.failed failed))
+
+pub returns-in-Some-clause-calls : goal.returns-in-Some-clause-calls
+returns-in-Some-clause-calls g c = λ d means.
+    calls _ (g.O.Sink.written c.args.out.now) (g.O.Sink.written c.finish.new.out) (meant c.in-Some.command) d c.run_command-ended.result c.finish.result
+    (g.S.Store.contents c.args.store.now) (g.S.Store.calls c.args.store.now) (g.S.Store.calls c.run_command-ended.new.store) c.in-Some.ensures means c.finish.ensures.finishes
+    c.run_command-ended.ensures.calls

@@ -14,6 +14,7 @@ use Rattle.gos_model.specs.Sources.{program_of}
 use Rattle.gos_model.specs.Linking.{link_weight}
 use Rattle.gos_pace.specs.Pace.{KeepsPaceAlways}
 use Rattle.gos_plan.specs.Seen.{SeenPlan}
+use Rattle.gos_realises.specs.realises.Modules.{RealisesModule}
 use Rattle.gos_link.specs.declared.build.Build.{Build}
 use Rattle.gos_command.specs.declared.report.Counts.{Counts}
 use Rattle.gos_command.specs.declared.report.Report.{Report}
@@ -36,9 +37,9 @@ pub record IsPlansBuilt (old new : Option Files) (b : Build) (plans : List SeenP
   pub tells : report ≡ record { weight = Some weight; run = Some counts }
 
 -- The build file says a build; the source of each instance says a module that is accepted, and the object file of the instance was
--- written with the text of its plan; and all this is so for these plans. The circuit has the imports of the program of the
--- linked modules as its ports, besides the root's, which has this program's type, and keeps pace with the program. Its weight is that of the modules, and it
--- has few cells for it.
+-- written with the text of its plan; and all this is so for these plans. The linked plan realises the program of the linked modules. The
+-- circuit has the imports of this program as its ports, besides the root's, which has the program's type, and keeps pace with it. Its
+-- weight is that of the modules, and it has few cells for it.
 pub record IsBuilt (files : Files) (new : Option Files) (own : Word) (report : Report) : Type 0 where
   pub build : Build
   pub plans : List SeenPlan
@@ -46,6 +47,7 @@ pub record IsBuilt (files : Files) (new : Option Files) (own : Word) (report : R
   pub says : SaysBuild files own build
   pub compiled : AllWritten files objects build.instances.items plans
   pub built : IsPlansBuilt objects new build plans report
+  pub realises : RealisesModule built.written.whole (program_along compiled.modules built.written.linked.services built.written.linked.root).body
   pub pace : KeepsPaceAlways built.weight (program_along compiled.modules built.written.linked.services built.written.linked.root) built.net
   pub imports : built.written.whole.imports ≡ (program_along compiled.modules built.written.linked.services built.written.linked.root).imports
   pub typed : IsTyped (program_along compiled.modules built.written.linked.services built.written.linked.root) built.written.whole.outcome

@@ -14,6 +14,7 @@ use Rattle.gos_model.specs.Sources.{program_of}
 use Rattle.gos_check.specs.Accepted.{weighed}
 use Rattle.gos_plan.specs.Plans.{Plan}
 use Rattle.gos_plan.specs.Seen.{SeenPlan}
+use Rattle.gos_realises.specs.realises.Modules.{RealisesModule}
 use Rattle.gos_realises.specs.realises.Realises.{AllGround}
 use Rattle.gos_link.specs.declared.build.Build.{Build}
 use Rattle.gos_tool.specs.objects.Compiled.{IsPlanOfModule}
@@ -39,6 +40,13 @@ BuildKeepsPace =
     (files : Files) (objects old new : Option Files) (b : Build) (plans : List SeenPlan) (weight : ℕ) (net : Netlist)
     (compiled : AllWritten files objects b.instances.items plans) (done : IsPlansDone old new b plans weight net)
     → KeepsPaceAlways weight (program_along compiled.modules done.linked.services done.linked.root) net
+
+-- The linked plan realises that program.
+abbrev pub BuildRealises : Type 0
+BuildRealises =
+    (files : Files) (objects old new : Option Files) (b : Build) (plans : List SeenPlan) (weight : ℕ) (net : Netlist)
+    (compiled : AllWritten files objects b.instances.items plans) (done : IsPlansDone old new b plans weight net)
+    → RealisesModule done.whole (program_along compiled.modules done.linked.services done.linked.root).body
 
 -- The linked plan has the imports of that program, and the weight of the linked modules.
 abbrev pub BuildHasImports : Type 0

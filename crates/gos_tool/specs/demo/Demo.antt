@@ -6,9 +6,11 @@ use Rattle.std.specs.Prelude.{◌≡◌, ◌⊎◌, ◌++◌, ℕ, zero, suc, Li
 use Rattle.std.specs.FinMap.{get, insert}
 use Rattle.gos_outside.specs.Files.{Files, SameBut}
 use Rattle.gos_outside.specs.Faults.{LastFault, WriteFault}
+use Rattle.gos_outside.specs.Calls.{Calls, Ending, AreMade}
 use Rattle.gos_lex.specs.Lines.{Word}
 use Rattle.gos_command.specs.Lines.{counted}
 use Rattle.gos_command.specs.declared.report.Report.{Report}
+use Rattle.gos_tool.specs.Calls.{write_calls, build_calls, GoesByBuild}
 use Rattle.gos_tool.specs.build.Built.{IsBuilt, IsBuildCall, IsBuildCutShort}
 use Rattle.gos_tool.specs.demo.DemoFiles.{NamedText, build_file, demo_files}
 
@@ -82,3 +84,9 @@ built_by levels =
 -- the files that the command writes: those of the demo, and then those of the build
 abbrev pub written_by : ℕ → List Word
 written_by levels = names_of (demo_files levels) ++ built_by levels
+
+-- The calls: the files of the demo are written, and then `build demo.txt` makes its own. What its build file says is known where the
+-- store tells its files.
+abbrev pub CallsOfDemo : Ending → Option Files → ℕ → Calls → Calls → Type 0
+CallsOfDemo ending files levels old new =
+    GoesByBuild ending (write_calls (names_of (demo_files levels))) (with_files (demo_files levels) files) (build_file levels).name build_calls old new

@@ -5,8 +5,11 @@ ghost use Rattle.std.specs.Prelude.{◌≡◌, ◌≤◌, ◌∷◌, [], length,
 ghost use Rattle.gos_outside.specs.FileName.{IsFileName};
 ghost use Rattle.gos_outside.specs.OtherFiles.{OthersSame};
 ghost use Rattle.gos_outside.specs.Faults.{Rose};
+ghost use Rattle.gos_outside.specs.Calls.{AreMade};
 ghost use Rattle.gos_link.specs.Linked.{IsLinkable};
-ghost use Rattle.gos_command.specs.Ends.{IfStopped, IsTold};
+ghost use Rattle.gos_command.specs.Ends.{IfStopped, IsTold, ending};
+ghost use Rattle.gos_tool.specs.Causes.{OfSource, OfBuild, OfPulses, StopsFor, TellsBoth};
+ghost use Rattle.gos_tool.specs.Calls.{plans_calls, build_calls, GoesByBuild};
 ghost use Rattle.gos_tool.specs.build.Built.{IsPlansBuilt, IsBuilt, RejectsPlans, RejectsInstances, RejectsBuild};
 ghost use Rattle.gos_tool.specs.build.Built.{IsPlansBuildCall, IsInstancesCall, IsBuildCall, written_by, KeepsUnnamed};
 ghost use Rattle.gos_tool.specs.build.Built.{IsPlansBuildCutShort, IsInstancesCutShort, IsBuildCutShort};
@@ -35,6 +38,9 @@ pub fn build<S: Store>(alloc: Global, own: &[u8], store: &mut S) -> Result<Repor
     ensures rejected { IfErr result (λ stop. IfStopped stop (λ fault line.
         IfSome (S.contents store.old) (λ files. RejectsBuild files (S.contents store.new) own.now fault line))) }
     ensures told { IfErr result (λ stop. IfStopped stop IsTold) }
+    ensures tells { IfOk result TellsBoth }
+    ensures kind { IfErr result (StopsFor (OfSource ∷ OfBuild ∷ OfPulses ∷ [])) }
+    ensures calls { GoesByBuild (ending result) [] (S.contents store.old) own.now build_calls (S.calls store.old) (S.calls store.new) }
 
     // The store is blamed only for a call that failed, and that the command makes then.
     ensures failed_only { IsErrOf result Stop.StoreFailed → Rose (S.faults store.old) (S.faults store.new) }
@@ -67,6 +73,9 @@ fn build_instances<S: Store>(
     ensures rejected { IfErr result (λ stop. IfStopped stop (λ fault line.
         IfSome (S.contents store.old) (λ files. RejectsInstances files (S.contents store.new) own.now build.now fault line))) }
     ensures told { IfErr result (λ stop. IfStopped stop IsTold) }
+    ensures tells { IfOk result TellsBoth }
+    ensures kind { IfErr result (StopsFor (OfSource ∷ OfBuild ∷ OfPulses ∷ [])) }
+    ensures calls { AreMade (ending result) (build_calls build.now) (S.calls store.old) (S.calls store.new) }
     ensures failed_only { IsErrOf result Stop.StoreFailed → Rose (S.faults store.old) (S.faults store.new) }
     ensures failed_call { IsErrOf result Stop.StoreFailed → IfSome (S.contents store.old) (λ files.
         IsInstancesCall files (S.contents store.new) build.now (S.last_fault store.new)) }
@@ -93,6 +102,9 @@ fn build_plans<S: Store>(
     ensures done { IfOk result (IsPlansBuilt (S.contents store.old) (S.contents store.new) build.now plans.now) }
     ensures rejected { IfErr result (λ stop. IfStopped stop (RejectsPlans (S.contents store.old) (S.contents store.new) own.now build.now plans.now)) }
     ensures told { IfErr result (λ stop. IfStopped stop IsTold) }
+    ensures tells { IfOk result TellsBoth }
+    ensures kind { IfErr result (StopsFor (OfBuild ∷ OfPulses ∷ [])) }
+    ensures calls { AreMade (ending result) (plans_calls build.now) (S.calls store.old) (S.calls store.new) }
     ensures failed_only { IsErrOf result Stop.StoreFailed → Rose (S.faults store.old) (S.faults store.new) }
     ensures failed_call { IsErrOf result Stop.StoreFailed →
         IsPlansBuildCall (S.contents store.old) (S.contents store.new) build.now plans.now (S.last_fault store.new) }

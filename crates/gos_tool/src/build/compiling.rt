@@ -1,14 +1,17 @@
 // The sources of a build's instances are compiled, and their objects are written.
 
-ghost use Rattle.std.specs.Prelude.{◌≡◌, ◌≤◌, length, IfOk, IfErr, IfSome, IsErrOf};
+ghost use Rattle.std.specs.Prelude.{◌≡◌, ◌≤◌, ◌∷◌, [], length, IfOk, IfErr, IfSome, IsErrOf};
 ghost use Rattle.gos_outside.specs.Files.{SameBut, bytes_at, with_file};
 ghost use Rattle.gos_outside.specs.OtherFiles.{OthersSame};
 ghost use Rattle.gos_outside.specs.Faults.{Rose};
+ghost use Rattle.gos_outside.specs.Calls.{AreMade};
 ghost use Rattle.gos_syntax.specs.Modules.{SeenModule};
 ghost use Rattle.gos_plan.specs.Seen.{plan_of};
 ghost use Rattle.gos_plan.specs.ObjectText.{text_of};
 ghost use Rattle.gos_link.specs.Linked.{AllKeepLimits, KeepsLimits, plans_of};
-ghost use Rattle.gos_command.specs.Ends.{IfStopped, IsTold};
+ghost use Rattle.gos_command.specs.Ends.{IfStopped, IsTold, ending};
+ghost use Rattle.gos_tool.specs.Causes.{OfSource, StopsFor};
+ghost use Rattle.gos_tool.specs.Calls.{compile_calls, module_calls};
 ghost use Rattle.gos_tool.specs.objects.Checked.{IsSourceFault, SaysModule};
 ghost use Rattle.gos_tool.specs.build.Objects.{objects_of, AllWritten, SomeWritten, RejectsModule, IsInstanceCall, IsModuleCall};
 ghost use Rattle.gos_tool.specs.build.inner.Compiling.{AreApart, IsCompiledAs};
@@ -36,6 +39,8 @@ pub fn compile_all<S: Store>(
     ensures rejected { IfErr result (λ stop. IfStopped stop (λ fault line.
         IfSome (S.contents store.old) (λ files. RejectsModule files (S.contents store.new) instances.now fault line))) }
     ensures told { IfErr result (λ stop. IfStopped stop IsTold) }
+    ensures kind { IfErr result (StopsFor (OfSource ∷ [])) }
+    ensures calls { AreMade (ending result) (module_calls instances.now) (S.calls store.old) (S.calls store.new) }
     ensures failed_only { IsErrOf result Stop.StoreFailed → Rose (S.faults store.old) (S.faults store.new) }
     ensures failed_call { IsErrOf result Stop.StoreFailed → IfSome (S.contents store.old) (λ files.
         IsModuleCall files (S.contents store.new) instances.now (S.last_fault store.new)) }
@@ -65,6 +70,8 @@ fn compile_one<S: Store>(alloc: Global, instance: &Instance, store: &mut S) -> R
         IfSome (S.contents store.old) (λ files. IsSourceFault files instance.now.source fault line))) }
     ensures told { IfErr result (λ stop. IfStopped stop IsTold) }
     ensures rejected_files { IfErr result (λ stop. IfStopped stop (λ fault line. S.contents store.new ≡ S.contents store.old)) }
+    ensures kind { IfErr result (StopsFor (OfSource ∷ [])) }
+    ensures calls { AreMade (ending result) (compile_calls instance.now.source instance.now.object) (S.calls store.old) (S.calls store.new) }
     ensures failed_only { IsErrOf result Stop.StoreFailed → Rose (S.faults store.old) (S.faults store.new) }
     ensures failed_call { IsErrOf result Stop.StoreFailed → IsInstanceCall (S.contents store.old) (S.contents store.new) instance.now
         (IfSome (S.contents store.old) (λ files. (m : SeenModule) × SaysModule (bytes_at files instance.now.source) m)) (S.last_fault store.new) }

@@ -1,7 +1,7 @@
 // What the circuits of modules do. Each theorem is the contract of a function that does nothing.
 
 ghost use Rattle.gos_tool.specs.build.Complete.{BuildIsNotRejected, EmptyIsNotRight};
-ghost use Rattle.gos_tool.specs.build.Paced.{BuildHasImports, BuildHasWeight, BuildIsSmall, BuildIsTyped, BuildKeepsPace, HeadlineHolds, ModuleKeepsPace};
+ghost use Rattle.gos_tool.specs.build.Paced.{BuildHasImports, BuildHasWeight, BuildIsSmall, BuildIsTyped, BuildKeepsPace, BuildRealises, HeadlineHolds, ModuleKeepsPace};
 ghost use Rattle.gos_tool.specs.build.SmallPrograms.{FirstIsNot, SecondIsBound};
 
 use crate::circuits::{paced_circuits, right_links};
@@ -12,10 +12,11 @@ use gos_linked::laws::fits::slim_plans_fit;
 use gos_linked::laws::linked::linked_modules;
 
 /// The circuit of a module with ground imports keeps pace with the module's program, and that of a build's linked plan with the
-/// program of its linked modules. It has at most 128 (W + 1) cells, for their weight W.
+/// program of its linked modules, which this plan realises. It has at most 128 (W + 1) cells, for their weight W.
 pub fn paced_modules()
     ensures one { ModuleKeepsPace }
     ensures linked { BuildKeepsPace }
+    ensures realises { BuildRealises }
     ensures imports { BuildHasImports }
     ensures typed { BuildIsTyped }
     ensures weight { BuildHasWeight }

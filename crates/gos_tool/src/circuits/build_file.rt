@@ -1,11 +1,14 @@
 // The build file is read.
 
-ghost use Rattle.std.specs.Prelude.{◌≡◌, ◌≤◌, ℕ, List, length, IfOk, IfErr, IfSome, IsErrOf};
+ghost use Rattle.std.specs.Prelude.{◌≡◌, ◌≤◌, ◌∷◌, [], ℕ, List, length, IfOk, IfErr, IfSome, IsErrOf};
 ghost use Rattle.gos_outside.specs.FileName.{IsFileName};
 ghost use Rattle.gos_outside.specs.Files.{bytes_at};
 ghost use Rattle.gos_outside.specs.Faults.{Rose, ReadFault};
+ghost use Rattle.gos_outside.specs.Calls.{AreMade};
 ghost use Rattle.gos_link.specs.BuildFile.{IsBuildFile};
-ghost use Rattle.gos_command.specs.Ends.{IfStopped, IsTold};
+ghost use Rattle.gos_command.specs.Ends.{IfStopped, IsTold, ending};
+ghost use Rattle.gos_tool.specs.Causes.{OfBuild, StopsFor};
+ghost use Rattle.gos_tool.specs.Calls.{read_build_file};
 ghost use Rattle.gos_tool.specs.circuits.Plans.{IsBuildFault};
 ghost use Rattle.gos_tool.specs.circuits.Linked.{SaysBuild, IsFormCause};
 
@@ -27,6 +30,8 @@ pub fn build_in<S: Store>(alloc: Global, own: &[u8], store: &mut S) -> Result<Bu
     ensures rejected { IfErr result (λ stop. IfStopped stop (λ fault line. IfSome (S.contents store.old) (λ files.
         IsBuildFault own.now (IsFormCause (bytes_at files own.now) own.now) fault line))) }
     ensures told { IfErr result (λ stop. IfStopped stop IsTold) }
+    ensures kind { IfErr result (StopsFor (OfBuild ∷ [])) }
+    ensures calls { AreMade (ending result) (read_build_file own.now ∷ []) (S.calls store.old) (S.calls store.new) }
     ensures failed_only { IsErrOf result Stop.StoreFailed → Rose (S.faults store.old) (S.faults store.new) }
     ensures failed_call { IsErrOf result Stop.StoreFailed → S.last_fault store.new ≡ ReadFault own.now }
     ensures same_count { (¬ (IsErrOf result Stop.StoreFailed)) → S.faults store.new ≡ S.faults store.old }

@@ -4,7 +4,10 @@ ghost use Rattle.std.specs.Prelude.{◌≡◌, ◌≤◌, ◌∷◌, [], length,
 ghost use Rattle.gos_outside.specs.FileName.{IsFileName};
 ghost use Rattle.gos_outside.specs.OtherFiles.{OthersSame};
 ghost use Rattle.gos_outside.specs.Faults.{Rose};
-ghost use Rattle.gos_command.specs.Ends.{IfStopped, IsTold};
+ghost use Rattle.gos_outside.specs.Calls.{AreMade};
+ghost use Rattle.gos_command.specs.Ends.{IfStopped, IsTold, ending};
+ghost use Rattle.gos_tool.specs.Causes.{OfObject, OfBuild, StopsFor, TellsWeight};
+ghost use Rattle.gos_tool.specs.Calls.{link_calls, GoesByBuild};
 ghost use Rattle.gos_tool.specs.circuits.Linked.{IsLinkDone, RejectsWhole, RejectsLink};
 ghost use Rattle.gos_tool.specs.circuits.Linked.{IsWholeCall, IsLinkCall, IsWholeCutShort, IsLinkCutShort, KeepsUnnamed};
 ghost use Rattle.gos_tool.specs.circuits.inner.Wholes.{IsWholeDone};
@@ -30,6 +33,9 @@ pub fn link_build<S: Store>(alloc: Global, own: &[u8], store: &mut S) -> Result<
         IfSome (S.contents store.old) (λ files. RejectsLink files own.now fault line))) }
     ensures told { IfErr result (λ stop. IfStopped stop IsTold) }
     ensures rejected_files { IfErr result (λ stop. IfStopped stop (λ fault line. S.contents store.new ≡ S.contents store.old)) }
+    ensures tells { IfOk result TellsWeight }
+    ensures kind { IfErr result (StopsFor (OfObject ∷ OfBuild ∷ [])) }
+    ensures calls { GoesByBuild (ending result) [] (S.contents store.old) own.now link_calls (S.calls store.old) (S.calls store.new) }
 
     // The store is blamed only for a call that failed, and that the command makes then.
     ensures failed_only { IsErrOf result Stop.StoreFailed → Rose (S.faults store.old) (S.faults store.new) }
@@ -59,6 +65,9 @@ fn link_objects<S: Store>(
         IfSome (S.contents store.old) (λ files. RejectsWhole files own.now build.now fault line))) }
     ensures told { IfErr result (λ stop. IfStopped stop IsTold) }
     ensures rejected_files { IfErr result (λ stop. IfStopped stop (λ fault line. S.contents store.new ≡ S.contents store.old)) }
+    ensures tells { IfOk result TellsWeight }
+    ensures kind { IfErr result (StopsFor (OfObject ∷ OfBuild ∷ [])) }
+    ensures calls { AreMade (ending result) (link_calls build.now) (S.calls store.old) (S.calls store.new) }
     ensures failed_only { IsErrOf result Stop.StoreFailed → Rose (S.faults store.old) (S.faults store.new) }
     ensures failed_call { IsErrOf result Stop.StoreFailed →
         IsWholeCall (S.contents store.old) (S.contents store.new) build.now (S.last_fault store.new) }

@@ -1,13 +1,16 @@
 // The object files of instances are read.
 
-ghost use Rattle.std.specs.Prelude.{◌≡◌, ◌≤◌, length, IfOk, IfErr, IfSome, IsErrOf};
+ghost use Rattle.std.specs.Prelude.{◌≡◌, ◌≤◌, ◌∷◌, [], length, IfOk, IfErr, IfSome, IsErrOf};
 ghost use Rattle.gos_outside.specs.FileName.{IsFileName};
 ghost use Rattle.gos_outside.specs.Files.{bytes_at};
 ghost use Rattle.gos_outside.specs.Faults.{Rose, ReadFault};
+ghost use Rattle.gos_outside.specs.Calls.{AreMade};
 ghost use Rattle.gos_plan.specs.Seen.{plan_of};
 ghost use Rattle.gos_plan.specs.ObjectFaults.{IsRead};
 ghost use Rattle.gos_link.specs.Linked.{AllKeepLimits, KeepsLimits, plans_of};
-ghost use Rattle.gos_command.specs.Ends.{IfStopped, IsTold};
+ghost use Rattle.gos_command.specs.Ends.{IfStopped, IsTold, ending};
+ghost use Rattle.gos_tool.specs.Causes.{OfObject, StopsFor};
+ghost use Rattle.gos_tool.specs.Calls.{read_object as read_call, object_calls};
 ghost use Rattle.gos_tool.specs.circuits.Objects.{HoldPlans, IsObjectFault, RejectsObject, IsObjectCall};
 
 use gos_command::{Cause, Stop, read_file, reject};
@@ -31,6 +34,8 @@ pub fn plans_in<S: Store>(
     ensures rejected { IfErr result (λ stop. IfStopped stop (λ fault line.
         IfSome (S.contents store.old) (λ files. RejectsObject files instances.now fault line))) }
     ensures told { IfErr result (λ stop. IfStopped stop IsTold) }
+    ensures kind { IfErr result (StopsFor (OfObject ∷ [])) }
+    ensures calls { AreMade (ending result) (object_calls instances.now) (S.calls store.old) (S.calls store.new) }
     ensures failed_only { IsErrOf result Stop.StoreFailed → Rose (S.faults store.old) (S.faults store.new) }
     ensures failed_call { IsErrOf result Stop.StoreFailed → IsObjectCall (S.contents store.old) instances.now (S.last_fault store.new) }
     ensures same_count { (¬ (IsErrOf result Stop.StoreFailed)) → S.faults store.new ≡ S.faults store.old }
@@ -55,6 +60,8 @@ fn plan_in<S: Store>(alloc: Global, object: &[u8], store: &mut S) -> Result<Plan
     ensures rejected { IfErr result (λ stop. IfStopped stop (λ fault line.
         IfSome (S.contents store.old) (λ files. IsObjectFault files object.now fault line))) }
     ensures told { IfErr result (λ stop. IfStopped stop IsTold) }
+    ensures kind { IfErr result (StopsFor (OfObject ∷ [])) }
+    ensures calls { AreMade (ending result) (read_call object.now ∷ []) (S.calls store.old) (S.calls store.new) }
     ensures failed_only { IsErrOf result Stop.StoreFailed → Rose (S.faults store.old) (S.faults store.new) }
     ensures failed_call { IsErrOf result Stop.StoreFailed → S.last_fault store.new ≡ ReadFault object.now }
     ensures same_count { (¬ (IsErrOf result Stop.StoreFailed)) → S.faults store.new ≡ S.faults store.old }

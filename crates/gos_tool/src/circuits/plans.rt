@@ -4,10 +4,13 @@ ghost use Rattle.std.specs.Prelude.{◌≡◌, ◌≤◌, ◌∷◌, [], List, I
 ghost use Rattle.gos_outside.specs.FileName.{IsFileName};
 ghost use Rattle.gos_outside.specs.OtherFiles.{OthersSame};
 ghost use Rattle.gos_outside.specs.Faults.{Rose};
+ghost use Rattle.gos_outside.specs.Calls.{AreMade};
 ghost use Rattle.gos_plan.specs.Ranges.{AreInRange};
 ghost use Rattle.gos_plan.specs.Seen.{SeenPlan, plan_of};
 ghost use Rattle.gos_link.specs.Linked.{IsLinkable, IsLinked};
-ghost use Rattle.gos_command.specs.Ends.{IfStopped, IsTold};
+ghost use Rattle.gos_command.specs.Ends.{IfStopped, IsTold, ending};
+ghost use Rattle.gos_tool.specs.Causes.{OfBuild, StopsFor};
+ghost use Rattle.gos_tool.specs.Calls.{circuit_calls};
 ghost use Rattle.gos_tool.specs.circuits.Plans.{IsWritten, IsPlansDone, IsPlansCause, IsBuildFault, IsWriteCall, IsPlansCall, IsWriteCutShort, IsPlansCutShort};
 
 use crate::circuits::laying::circuit;
@@ -45,6 +48,8 @@ pub fn link_plans<S: Store>(
     ensures rejected { IfErr result (λ stop. IfStopped stop (IsBuildFault own.now (IsPlansCause build.now plans.now))) }
     ensures told { IfErr result (λ stop. IfStopped stop IsTold) }
     ensures rejected_files { IfErr result (λ stop. IfStopped stop (λ fault line. S.contents store.new ≡ S.contents store.old)) }
+    ensures kind { IfErr result (StopsFor (OfBuild ∷ [])) }
+    ensures calls { AreMade (ending result) (circuit_calls build.now) (S.calls store.old) (S.calls store.new) }
     ensures failed_only { IsErrOf result Stop.StoreFailed → Rose (S.faults store.old) (S.faults store.new) }
     ensures failed_call { IsErrOf result Stop.StoreFailed →
         IsPlansCall (S.contents store.old) (S.contents store.new) build.now plans.now (S.last_fault store.new) }
@@ -71,6 +76,7 @@ fn write_circuit<S: Store>(
     ensures written { IfOk result (λ linked. IsWritten (S.contents store.old) (S.contents store.new) build.now (plan_of whole.now) linked.net) }
     ensures weighs { IfOk result (λ linked. linked.weight ≡ whole.now.weight) }
     ensures rejects_nothing { IfErr result (λ stop. IfStopped stop (λ fault line. ⊥)) }
+    ensures calls { AreMade (ending result) (circuit_calls build.now) (S.calls store.old) (S.calls store.new) }
     ensures failed_only { IsErrOf result Stop.StoreFailed → Rose (S.faults store.old) (S.faults store.new) }
     ensures failed_call { IsErrOf result Stop.StoreFailed →
         IsWriteCall (S.contents store.old) (S.contents store.new) build.now (plan_of whole.now) (S.last_fault store.new) }

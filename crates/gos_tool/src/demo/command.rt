@@ -1,11 +1,12 @@
 // The command `demo N`: the files of the demo are written, and then built.
 
-ghost use Rattle.std.specs.Prelude.{◌≡◌, ◌≤◌, None, IfOk, IfErr, IfSome, IsErrOf};
+ghost use Rattle.std.specs.Prelude.{◌≡◌, ◌≤◌, ◌∷◌, [], None, IfOk, IfErr, IfSome, IsErrOf};
 ghost use Rattle.gos_outside.specs.OtherFiles.{OthersSame};
 ghost use Rattle.gos_outside.specs.Faults.{Rose};
-ghost use Rattle.gos_command.specs.Ends.{IfStopped, IsTold};
+ghost use Rattle.gos_command.specs.Ends.{IfStopped, IsTold, ending};
+ghost use Rattle.gos_tool.specs.Causes.{OfSource, OfBuild, OfPulses, StopsFor, TellsBoth};
 ghost use Rattle.gos_tool.specs.demo.DemoFiles.{IsLevelCount};
-ghost use Rattle.gos_tool.specs.demo.Demo.{IsDemoDone, IsDemoCall, IsDemoCutShort, written_by};
+ghost use Rattle.gos_tool.specs.demo.Demo.{IsDemoDone, IsDemoCall, IsDemoCutShort, CallsOfDemo, written_by};
 
 use crate::build::{build, right_builds};
 use crate::demo::files::{demo_files, write_files};
@@ -23,6 +24,9 @@ pub fn demo<S: Store>(alloc: Global, levels: u64, store: &mut S) -> Result<Repor
     // No file is rejected where the store tells its contents; where it doesn't, a file that is rejected has a cause.
     ensures never_rejected { IfErr result (λ stop. IfStopped stop (λ _ _. S.contents store.old ≡ None)) }
     ensures told { IfErr result (λ stop. IfStopped stop IsTold) }
+    ensures tells { IfOk result TellsBoth }
+    ensures kind { IfErr result (StopsFor (OfSource ∷ OfBuild ∷ OfPulses ∷ [])) }
+    ensures calls { CallsOfDemo (ending result) (S.contents store.old) levels (S.calls store.old) (S.calls store.new) }
 
     // The store is blamed only for a call that failed, and that the command makes then.
     ensures failed_only { IsErrOf result Stop.StoreFailed → Rose (S.faults store.old) (S.faults store.new) }

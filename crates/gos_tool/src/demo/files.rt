@@ -4,7 +4,9 @@ ghost use Rattle.std.specs.Prelude.{◌≡◌, ◌≤◌, ◌++◌, ◌∷◌, [
 ghost use Rattle.gos_outside.specs.FileName.{IsFileName};
 ghost use Rattle.gos_outside.specs.OtherFiles.{OthersSame};
 ghost use Rattle.gos_outside.specs.Faults.{Rose};
-ghost use Rattle.gos_command.specs.Ends.{IfStopped};
+ghost use Rattle.gos_outside.specs.Calls.{AreMade};
+ghost use Rattle.gos_command.specs.Ends.{IfStopped, ending};
+ghost use Rattle.gos_tool.specs.Calls.{write_calls};
 ghost use Rattle.gos_tool.specs.demo.DemoFiles.{IsLevelCount, sources, demo_files};
 ghost use Rattle.gos_tool.specs.demo.Demo.{with_files, IsFront, IsWriting, names_of};
 
@@ -128,6 +130,7 @@ fn add_file(
 pub fn write_files<S: Store>(alloc: Global, files: &[TextFile], store: &mut S) -> Result<(), Stop>
     ensures written { OnOk result (S.contents store.new ≡ with_files files.now (S.contents store.old)) }
     ensures rejects_nothing { IfErr result (λ stop. IfStopped stop (λ fault line. ⊥)) }
+    ensures calls { AreMade (ending result) (write_calls (names_of files.now)) (S.calls store.old) (S.calls store.new) }
     ensures failed_only { IsErrOf result Stop.StoreFailed → Rose (S.faults store.old) (S.faults store.new) }
     ensures failed_call { IsErrOf result Stop.StoreFailed →
         IsWriting files.now (S.contents store.old) (S.contents store.new) (S.last_fault store.new) }

@@ -1,11 +1,14 @@
 // The command `check`: a source file is read, scanned, parsed and checked.
 
-ghost use Rattle.std.specs.Prelude.{◌≡◌, ◌≤◌, length, IfOk, IfErr, IfSome, IsErrOf};
+ghost use Rattle.std.specs.Prelude.{◌≡◌, ◌≤◌, ◌∷◌, [], length, IfOk, IfErr, IfSome, IsErrOf};
 ghost use Rattle.gos_outside.specs.FileName.{IsFileName};
 ghost use Rattle.gos_outside.specs.Files.{bytes_at};
 ghost use Rattle.gos_outside.specs.Faults.{Rose, ReadFault};
+ghost use Rattle.gos_outside.specs.Calls.{AreMade};
 ghost use Rattle.gos_check.specs.Sizes.{IsCountableModule};
-ghost use Rattle.gos_command.specs.Ends.{IfStopped, IsRealCause, IsTold};
+ghost use Rattle.gos_command.specs.Ends.{IfStopped, IsRealCause, IsTold, ending};
+ghost use Rattle.gos_tool.specs.Causes.{OfSource, kind_of, StopsFor, TellsWeight};
+ghost use Rattle.gos_tool.specs.Calls.{read_source};
 ghost use Rattle.gos_tool.specs.objects.Checked.{IsSource, IsChecked, IsSourceCause, IsSourceFault};
 ghost use Rattle.gos_tool.specs.objects.Typed.{IsTypedAs};
 
@@ -30,6 +33,9 @@ pub fn check_source<S: Store>(alloc: Global, source: &[u8], store: &mut S) -> Re
         IfSome (S.contents store.old) (λ files. IsSourceFault files source.now fault line))) }
     ensures told { IfErr result (λ stop. IfStopped stop IsTold) }
     ensures file { IfErr result (λ stop. IfStopped stop (λ fault line. fault.file ≡ source.now)) }
+    ensures tells { IfOk result TellsWeight }
+    ensures kind { IfErr result (StopsFor (OfSource ∷ [])) }
+    ensures calls { AreMade (ending result) (read_source source.now ∷ []) (S.calls store.old) (S.calls store.new) }
     ensures failed_only { IsErrOf result Stop.StoreFailed → Rose (S.faults store.old) (S.faults store.new) }
     ensures failed_call { IsErrOf result Stop.StoreFailed → S.last_fault store.new ≡ ReadFault source.now }
     ensures same_count { (¬ (IsErrOf result Stop.StoreFailed)) → S.faults store.new ≡ S.faults store.old }
@@ -54,6 +60,8 @@ pub fn module_in<S: Store>(alloc: Global, source: &[u8], store: &mut S) -> Resul
         IfSome (S.contents store.old) (λ files. IsSourceFault files source.now fault line))) }
     ensures told { IfErr result (λ stop. IfStopped stop IsTold) }
     ensures file { IfErr result (λ stop. IfStopped stop (λ fault line. fault.file ≡ source.now)) }
+    ensures kind { IfErr result (StopsFor (OfSource ∷ [])) }
+    ensures calls { AreMade (ending result) (read_source source.now ∷ []) (S.calls store.old) (S.calls store.new) }
     ensures failed_only { IsErrOf result Stop.StoreFailed → Rose (S.faults store.old) (S.faults store.new) }
     ensures failed_call { IsErrOf result Stop.StoreFailed → S.last_fault store.new ≡ ReadFault source.now }
     ensures same_count { (¬ (IsErrOf result Stop.StoreFailed)) → S.faults store.new ≡ S.faults store.old }
@@ -70,6 +78,7 @@ pub fn module_in<S: Store>(alloc: Global, source: &[u8], store: &mut S) -> Resul
 // The checked module of a text, or why it has none.
 fn typed_module(alloc: Global, text: &[u8]) -> Result<Linear, Cause>
     ensures typed { IfOk result (IsTypedAs text.now) }
+    ensures kind { IfErr result (λ cause. kind_of cause ≡ OfSource) }
     ensures refused { IfErr result (λ cause. IsRealCause cause → IsSourceCause text.now cause) }
 {
     let module = match module_of(alloc, text) {
@@ -86,6 +95,7 @@ fn typed_module(alloc: Global, text: &[u8]) -> Result<Linear, Cause>
 fn module_of(alloc: Global, text: &[u8]) -> Result<Module, Cause>
     ensures source { IfOk result (IsSource text.now) }
     ensures countable { IfOk result IsCountableModule }
+    ensures kind { IfErr result (λ cause. kind_of cause ≡ OfSource) }
     ensures refused { IfErr result (λ cause. IsRealCause cause → IsSourceCause text.now cause) }
 {
     let tokens = match scan(alloc, text) {

@@ -1,12 +1,15 @@
 // The command `compile`: a source file is checked, and the plan of its module is written as an object file.
 
-ghost use Rattle.std.specs.Prelude.{◌≡◌, ◌≤◌, IfOk, IfErr, IfSome, IsErrOf};
+ghost use Rattle.std.specs.Prelude.{◌≡◌, ◌≤◌, ◌∷◌, [], IfOk, IfErr, IfSome, IsErrOf};
 ghost use Rattle.gos_outside.specs.FileName.{IsFileName};
 ghost use Rattle.gos_outside.specs.Files.{SameBut, with_file};
 ghost use Rattle.gos_outside.specs.Faults.{Rose, WriteFault};
+ghost use Rattle.gos_outside.specs.Calls.{Write, AreMade};
 ghost use Rattle.gos_plan.specs.ObjectText.{text_of};
 ghost use Rattle.gos_plan.specs.Seen.{plan_of};
-ghost use Rattle.gos_command.specs.Ends.{IfStopped, IsTold};
+ghost use Rattle.gos_command.specs.Ends.{IfStopped, IsTold, ending};
+ghost use Rattle.gos_tool.specs.Causes.{OfSource, StopsFor, TellsWeight};
+ghost use Rattle.gos_tool.specs.Calls.{compile_calls};
 ghost use Rattle.gos_tool.specs.objects.Checked.{IsSourceFault};
 ghost use Rattle.gos_tool.specs.objects.Compiled.{IsCompiled, IsCompileCall};
 ghost use Rattle.gos_tool.specs.objects.Typed.{IsPlanFor};
@@ -39,6 +42,9 @@ pub fn compile_source<S: Store>(
     ensures told { IfErr result (λ stop. IfStopped stop IsTold) }
     ensures file { IfErr result (λ stop. IfStopped stop (λ fault line. fault.file ≡ source.now)) }
     ensures rejected_files { IfErr result (λ stop. IfStopped stop (λ fault line. S.contents store.new ≡ S.contents store.old)) }
+    ensures tells { IfOk result TellsWeight }
+    ensures kind { IfErr result (StopsFor (OfSource ∷ [])) }
+    ensures calls { AreMade (ending result) (compile_calls source.now object.now) (S.calls store.old) (S.calls store.new) }
 
     // The store is blamed only for a call that failed, and that the command makes then.
     ensures failed_only { IsErrOf result Stop.StoreFailed → Rose (S.faults store.old) (S.faults store.new) }
@@ -68,6 +74,7 @@ pub fn write_plan<S: Store>(
     ensures made { IfOk result (λ plan. IsPlanFor linear.now (plan_of plan)) }
     ensures wrote { IfOk result (λ plan. S.contents store.new ≡ with_file object.now (text_of (plan_of plan)) (S.contents store.old)) }
     ensures rejects_nothing { IfErr result (λ stop. IfStopped stop (λ fault line. ⊥)) }
+    ensures calls { AreMade (ending result) (Write object.now ∷ []) (S.calls store.old) (S.calls store.new) }
     ensures failed_only { IsErrOf result Stop.StoreFailed → Rose (S.faults store.old) (S.faults store.new) }
     ensures failed_call { IsErrOf result Stop.StoreFailed → S.last_fault store.new ≡ WriteFault object.now }
     ensures same_count { (¬ (IsErrOf result Stop.StoreFailed)) → S.faults store.new ≡ S.faults store.old }

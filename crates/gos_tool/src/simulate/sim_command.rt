@@ -1,11 +1,14 @@
 // The command `sim NET PULSES TRACE`.
 
-ghost use Rattle.std.specs.Prelude.{◌≡◌, ◌⊎◌, ◌≤◌, length, IfOk, IfErr, IfSome, IsErrOf};
+ghost use Rattle.std.specs.Prelude.{◌≡◌, ◌⊎◌, ◌≤◌, ◌∷◌, [], length, IfOk, IfErr, IfSome, IsErrOf};
 ghost use Rattle.gos_outside.specs.FileName.{IsFileName};
 ghost use Rattle.gos_outside.specs.Files.{SameBut, bytes_at};
 ghost use Rattle.gos_outside.specs.Faults.{Rose, ReadFault};
+ghost use Rattle.gos_outside.specs.Calls.{AreMade};
 ghost use Rattle.gos_netlist.specs.NetFaults.{IsRead};
-ghost use Rattle.gos_command.specs.Ends.{IfStopped, IsTold};
+ghost use Rattle.gos_command.specs.Ends.{IfStopped, IsTold, ending};
+ghost use Rattle.gos_tool.specs.Causes.{OfNetlist, OfPulses, StopsFor, TellsRun};
+ghost use Rattle.gos_tool.specs.Calls.{read_netlist, sim_calls};
 ghost use Rattle.gos_tool.specs.simulate.Sim.{SaysNet, IsSimDone, IsNetFault, IsSimFault, IsSimCall};
 
 use crate::simulate::simulation::simulate;
@@ -35,6 +38,9 @@ pub fn sim<S: Store>(
     ensures told { IfErr result (λ stop. IfStopped stop IsTold) }
     ensures file { IfErr result (λ stop. IfStopped stop (λ fault line. (fault.file ≡ net.now) ⊎ (fault.file ≡ pulses.now))) }
     ensures rejected_files { IfErr result (λ stop. IfStopped stop (λ fault line. S.contents store.new ≡ S.contents store.old)) }
+    ensures tells { IfOk result TellsRun }
+    ensures kind { IfErr result (StopsFor (OfNetlist ∷ OfPulses ∷ [])) }
+    ensures calls { AreMade (ending result) (sim_calls net.now pulses.now trace.now) (S.calls store.old) (S.calls store.new) }
     ensures failed_only { IsErrOf result Stop.StoreFailed → Rose (S.faults store.old) (S.faults store.new) }
     ensures failed_call { IsErrOf result Stop.StoreFailed →
         IsSimCall (S.contents store.old) (S.contents store.new) net.now pulses.now trace.now (S.last_fault store.new) }
@@ -58,6 +64,8 @@ fn checked_net<S: Store>(alloc: Global, net: &[u8], store: &mut S) -> Result<Che
     ensures rejected { IfErr result (λ stop. IfStopped stop (λ fault line. IfSome (S.contents store.old) (λ files. IsNetFault files net.now fault line))) }
     ensures told { IfErr result (λ stop. IfStopped stop IsTold) }
     ensures file { IfErr result (λ stop. IfStopped stop (λ fault line. fault.file ≡ net.now)) }
+    ensures kind { IfErr result (StopsFor (OfNetlist ∷ [])) }
+    ensures calls { AreMade (ending result) (read_netlist net.now ∷ []) (S.calls store.old) (S.calls store.new) }
     ensures failed_only { IsErrOf result Stop.StoreFailed → Rose (S.faults store.old) (S.faults store.new) }
     ensures failed_call { IsErrOf result Stop.StoreFailed → S.last_fault store.new ≡ ReadFault net.now }
     ensures same_count { (¬ (IsErrOf result Stop.StoreFailed)) → S.faults store.new ≡ S.faults store.old }
@@ -79,6 +87,8 @@ fn circuit_in<S: Store>(alloc: Global, net: &[u8], store: &mut S) -> Result<Netl
     ensures rejected { IfErr result (λ stop. IfStopped stop (λ fault line. IfSome (S.contents store.old) (λ files. IsNetFault files net.now fault line))) }
     ensures told { IfErr result (λ stop. IfStopped stop IsTold) }
     ensures file { IfErr result (λ stop. IfStopped stop (λ fault line. fault.file ≡ net.now)) }
+    ensures kind { IfErr result (StopsFor (OfNetlist ∷ [])) }
+    ensures calls { AreMade (ending result) (read_netlist net.now ∷ []) (S.calls store.old) (S.calls store.new) }
     ensures failed_only { IsErrOf result Stop.StoreFailed → Rose (S.faults store.old) (S.faults store.new) }
     ensures failed_call { IsErrOf result Stop.StoreFailed → S.last_fault store.new ≡ ReadFault net.now }
     ensures same_count { (¬ (IsErrOf result Stop.StoreFailed)) → S.faults store.new ≡ S.faults store.old }

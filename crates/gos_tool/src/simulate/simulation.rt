@@ -1,14 +1,17 @@
 // An accepted netlist is run under a pulse file, and its trace is written.
 
-ghost use Rattle.std.specs.Prelude.{◌≡◌, ◌≤◌, ◌<◌, All, length, Some, IfOk, IfErr, IfSome, IsErrOf};
+ghost use Rattle.std.specs.Prelude.{◌≡◌, ◌≤◌, ◌<◌, ◌∷◌, [], All, length, Some, IfOk, IfErr, IfSome, IsErrOf};
 ghost use Rattle.gos_outside.specs.FileName.{IsFileName};
 ghost use Rattle.gos_outside.specs.Files.{SameBut, bytes_at, with_file};
 ghost use Rattle.gos_outside.specs.Faults.{Rose, WriteFault};
+ghost use Rattle.gos_outside.specs.Calls.{Write, AreMade};
 ghost use Rattle.gos_netlist.specs.Events.{events_of};
 ghost use Rattle.gos_pulse.specs.Driving.{GivesInput};
 ghost use Rattle.gos_pulse.specs.PulseFile.{IsPulseFile};
 ghost use Rattle.gos_pulse.specs.TraceText.{trace_text};
-ghost use Rattle.gos_command.specs.Ends.{IfStopped, IsTold};
+ghost use Rattle.gos_command.specs.Ends.{IfStopped, IsTold, ending};
+ghost use Rattle.gos_tool.specs.Causes.{OfPulses, StopsFor};
+ghost use Rattle.gos_tool.specs.Calls.{simulation_calls};
 ghost use Rattle.gos_tool.specs.simulate.Simulation.{LeavesTrace, RunsUnder, IsPulseFault, IsSimulationCall};
 
 use gos_command::{Cause, Counts, Stop, read_file, reject, write_file};
@@ -40,6 +43,8 @@ pub fn simulate<S: Store>(
     ensures told { IfErr result (λ stop. IfStopped stop IsTold) }
     ensures file { IfErr result (λ stop. IfStopped stop (λ fault line. fault.file ≡ pulses.now)) }
     ensures rejected_files { IfErr result (λ stop. IfStopped stop (λ fault line. S.contents store.new ≡ S.contents store.old)) }
+    ensures kind { IfErr result (StopsFor (OfPulses ∷ [])) }
+    ensures calls { AreMade (ending result) (simulation_calls pulses.now trace.now) (S.calls store.old) (S.calls store.new) }
     ensures failed_only { IsErrOf result Stop.StoreFailed → Rose (S.faults store.old) (S.faults store.new) }
     ensures failed_call { IsErrOf result Stop.StoreFailed →
         IsSimulationCall (S.contents store.old) (S.contents store.new) net pulses.now trace.now (S.last_fault store.new) }
@@ -76,6 +81,8 @@ fn run<S: Store>(
     ensures told { IfErr result (λ stop. IfStopped stop IsTold) }
     ensures file { IfErr result (λ stop. IfStopped stop (λ fault line. fault.file ≡ pulses.now)) }
     ensures rejected_files { IfErr result (λ stop. IfStopped stop (λ fault line. S.contents store.new ≡ S.contents store.old)) }
+    ensures kind { IfErr result (StopsFor (OfPulses ∷ [])) }
+    ensures calls { AreMade (ending result) (Write trace.now ∷ []) (S.calls store.old) (S.calls store.new) }
     ensures failed_only { IsErrOf result Stop.StoreFailed → Rose (S.faults store.old) (S.faults store.new) }
     ensures failed_call { IsErrOf result Stop.StoreFailed → S.last_fault store.new ≡ WriteFault trace.now }
     ensures failed_after { IsErrOf result Stop.StoreFailed → IfSome (S.contents store.old) (λ files.
@@ -109,6 +116,7 @@ fn write_trace<S: Store>(
     ensures counts { IfOk result (λ counts.
         counts ≡ record { cycles = traced.now.cycles; pulses = length traced.now.lines.items; unused = traced.now.unused }) }
     ensures rejects_nothing { IfErr result (λ stop. IfStopped stop (λ fault line. ⊥)) }
+    ensures calls { AreMade (ending result) (Write trace.now ∷ []) (S.calls store.old) (S.calls store.new) }
     ensures failed_only { IsErrOf result Stop.StoreFailed → Rose (S.faults store.old) (S.faults store.new) }
     ensures failed_call { IsErrOf result Stop.StoreFailed → S.last_fault store.new ≡ WriteFault trace.now }
     ensures same_count { (¬ (IsErrOf result Stop.StoreFailed)) → S.faults store.new ≡ S.faults store.old }

@@ -15,7 +15,7 @@ use Rattle.gos_tool.specs.circuits.Plans.{IsBuildFault}
 use Rattle.gos_tool.specs.circuits.Linked.{SaysBuild, IsFormCause}
 use Rattle.gos_tool.specs.build.Objects.{objects_of, AllWritten}
 use Rattle.gos_tool.specs.build.Built.{IsPlansBuilt, IsBuilt, RejectsPlans, RejectsInstances, RejectsBuild, IsPlansBuildCall, IsInstancesCall, IsBuildCall, IsPlansBuildCutShort, IsInstancesCutShort, IsBuildCutShort, written_by}
-use Rattle.gos_tool.specs.build.Paced.{BuildKeepsPace, BuildHasImports, BuildIsTyped, BuildHasWeight, BuildIsSmall}
+use Rattle.gos_tool.specs.build.Paced.{BuildRealises, BuildKeepsPace, BuildHasImports, BuildIsTyped, BuildHasWeight, BuildIsSmall}
 use Rattle.gos_tool.specs.build.inner.Instances.{AreInstancesBuilt}
 
 -- once the plans of all instances are there
@@ -56,10 +56,10 @@ then_the_rest b old mid new first second =
     (λ other apart. apart_back other (objects_of b.instances.items) (b.net ∷ b.verilog ∷ b.trace ∷ []) apart) second)
 
 -- once the build file is read
-pub built : BuildKeepsPace → BuildHasImports → BuildIsTyped → BuildHasWeight → BuildIsSmall → (old mid new : Option Files) (own : Word) (b : Build) (report : Report) → mid ≡ old
+pub built : BuildRealises → BuildKeepsPace → BuildHasImports → BuildIsTyped → BuildHasWeight → BuildIsSmall → (old mid new : Option Files) (own : Word) (b : Build) (report : Report) → mid ≡ old
     → IfSome old (λ files. SaysBuild files own b)
     → IfSome mid (λ files. AreInstancesBuilt files new b report) → IfSome old (λ files. IsBuilt files new own report)
-built has_pace has_imports is_typed has_weight small old mid new own b report same says done =
+built realises has_pace has_imports is_typed has_weight small old mid new own b report same says done =
     of_some_both (λ files. SaysBuild files own b) (λ files. AreInstancesBuilt files new b report) (λ files. IsBuilt files new own report) old
     (λ files said h. record {
       build = b;
@@ -68,6 +68,7 @@ built has_pace has_imports is_typed has_weight small old mid new own b report sa
       says = said;
       compiled = h.compiled;
       built = h.built;
+      realises = realises files h.objects h.objects h.built.between b h.plans h.built.weight h.built.net h.compiled h.built.written;
       pace = has_pace files h.objects h.objects h.built.between b h.plans h.built.weight h.built.net h.compiled h.built.written;
       imports = has_imports files h.objects h.objects h.built.between b h.plans h.built.weight h.built.net h.compiled h.built.written;
       typed = is_typed files h.objects h.objects h.built.between b h.plans h.built.weight h.built.net h.compiled h.built.written;

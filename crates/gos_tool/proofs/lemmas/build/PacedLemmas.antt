@@ -21,10 +21,11 @@ use Rattle.gos_link.specs.Linked.{imports_of, plans_of, IsLinked}
 use Rattle.gos_linked.specs.linked.Linked.{name_if, binds_of, linked_program}
 use Rattle.gos_linked.specs.fits.Fits.{SlimIsSmall}
 use Rattle.gos_linked.specs.linked.Modules.{AreModules, AreWeighed, LinkedIsModule, LinkedHasWeight}
+use Rattle.gos_realises.specs.realises.Modules.{RealisesModule}
 use Rattle.gos_tool.specs.circuits.Paced.{ModuleCircuitsKeepPace, LinkedCircuitsKeepPace}
 use Rattle.gos_tool.specs.build.Objects.{BeginWith, HavePlans}
 use Rattle.gos_tool.specs.build.Programs.{imports_if, bind_in, program_along, IsTyped}
-use Rattle.gos_tool.specs.build.Paced.{ModuleKeepsPace, BuildKeepsPace, BuildHasImports, BuildIsTyped, BuildHasWeight, BuildIsSmall}
+use Rattle.gos_tool.specs.build.Paced.{ModuleKeepsPace, BuildKeepsPace, BuildRealises, BuildHasImports, BuildIsTyped, BuildHasWeight, BuildIsSmall}
 
 pub module_keeps_pace : ModuleCircuitsKeepPace → ModuleKeepsPace
 module_keeps_pace law m plan root net is ground done circuit =
@@ -85,6 +86,16 @@ build_keeps_pace law files objects old new b plans weight net compiled done =
     let paced = law b plans whole (map program_of ms) b.root net l each all done.written.circuit in
     subst (λ (w : ℕ). KeepsPaceAlways w (program_along ms l.services l.root) net) (sym done.weighs)
     (subst (λ (p : Program). KeepsPaceAlways whole.weight p net) (same_program b ms plans whole l have) paced)
+
+pub build_realises : LinkedIsModule → BuildRealises
+build_realises is_module files objects old new b plans weight net compiled done =
+    let ms : List SeenModule = compiled.modules in
+    let have = compiled.written.plans in
+    let l = done.linked in
+    let all = are_modules files b.instances.items ms plans compiled.written.say have in
+    let each : length plans ≡ length b.instances.items = as_many ms plans have ∙ compiled.all in
+    subst (λ (p : Program). RealisesModule done.whole p.body) (same_program b ms plans done.whole l have)
+    (is_module b plans done.whole (map program_of ms) l each all).realises
 
 pub build_has_imports : LinkedIsModule → BuildHasImports
 build_has_imports is_module files objects old new b plans weight net compiled done =

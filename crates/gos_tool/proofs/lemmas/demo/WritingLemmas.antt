@@ -1,6 +1,7 @@
 -- Files are written one after another.
-use Rattle.std.proofs.Common.{◌≡◌, ◌≢◌, ◌<◌, ◌∙◌, ◌+◌, ℕ, zero, suc, List, [], ◌∷◌, Option, Some, None, length, take, slice_get, slice_index_or, refl, ap, sym, subst, arith}
+use Rattle.std.proofs.Common.{◌≡◌, ◌≢◌, ◌<◌, ◌∙◌, ◌+◌, ℕ, zero, suc, List, [], ◌∷◌, Option, Some, None, length, take, drop, slice_get, slice_index_or, refl, ap, sym, subst, arith}
 use Rattle.std.specs.FinMap.{insert}
+use Rattle.std.proofs.Math.Seq.{drop-cons}
 use Rattle.gos_outside.specs.Files.{Files, with_file, SameBut}
 use Rattle.gos_outside.specs.OtherFiles.{IsApart, OthersSame}
 use Rattle.gos_outside.proofs.OtherFilesLemmas.{one_more}
@@ -12,6 +13,12 @@ pub file_at : (fs : List NamedText) (k : ℕ) (f : NamedText) → k < length fs 
 file_at [] k f less e = absurd (omega (arith, less))
 file_at (g ∷ fs) zero f less e = ap (λ (x : NamedText). Some x) (sym e)
 file_at (g ∷ fs) (suc k) f less e = file_at fs k f (omega (arith, less)) e
+
+-- the files from its place on
+pub next_file : (fs : List NamedText) (k : ℕ) (f : NamedText) → k < length fs → f ≡ slice_index_or fs k f → drop k fs ≡ f ∷ drop (k + 1) fs
+next_file fs k f less is =
+    let after : suc k ≡ k + 1 = omega arith in
+    subst (λ (n : ℕ). drop k fs ≡ f ∷ drop n fs) after (drop-cons fs k f less ∙ (λ i. sym is i ∷ drop (suc k) fs))
 
 none_at : (k : ℕ) (f : NamedText) → slice_get [] k ≡ Some f → ⊥
 none_at zero f e = cc e

@@ -1,10 +1,10 @@
-use Rattle.std.proofs.Common.{List, inl, sym, subst}
+use Rattle.std.proofs.Common.{List, inl, sym, subst, ◌∷◌, []}
 use Rattle.std.specs.Prelude.{IfSome}
 use Rattle.gos_outside.specs.OtherFiles.{OthersSame}
 use Rattle.gos_plan.specs.Seen.{SeenPlan}
 use Rattle.gos_link.specs.declared.build.Instance.{Instance}
 use Rattle.gos_command.specs.declared.report.Report.{Report}
-use Rattle.gos_command.proofs.EndLemmas.{of_some, of_result, of_stop, of_stopped}
+use Rattle.gos_command.proofs.EndLemmas.{of_some, of_result, of_stop, of_stopped, early, made_of}
 use Rattle.gos_tool.proofs.lemmas.circuits.ExitLemmas.{err_is, failed_as}
 use Rattle.gos_tool.proofs.lemmas.circuits.LinkLemmas.{linkable}
 use Rattle.gos_tool.specs.build.Objects.{AllWritten, SomeWritten, RejectsModule, IsModuleCall, objects_of}
@@ -13,6 +13,11 @@ use Rattle.gos_tool.specs.build.inner.Compiling.{AreApart}
 use Rattle.gos_tool.specs.build.inner.Instances.{AreInstancesBuilt}
 use Rattle.gos_tool.proofs.lemmas.build.BuildLemmas.{instances_built, plans_rejected, plans_call, plans_cut_short, objects_alone, then_the_rest}
 use Rattle.gos_tool.proofs.build.building.build_instances.Given.{Over}
+use Rattle.gos_tool.specs.Causes.{OfBuild, OfPulses, OfSource}
+use Rattle.gos_tool.proofs.lemmas.StopLemmas.{stops_before, ends_behind}
+use Rattle.gos_outside.proofs.CallsLemmas.{goes_on}
+use Rattle.gos_outside.specs.Calls.{Whole}
+use Rattle.gos_tool.specs.Calls.{module_calls, plans_calls}
 use Rattle.gos_tool.proofs.build.building.build_instances.Goals as goal
 
 -- the plans that are linked are those of the sources
@@ -107,3 +112,21 @@ pub build_plans-requires-clause-plans : goal.build_plans-requires-clause-plans
 build_plans-requires-clause-plans g c =
     linkable c.args.build.now _ _ _ c.as_slice.ensures.value c.as_slice-2.ensures.value c.in_ok-plans.ensures.each c.in_ok-plans.ensures.limits
     c.requires.few_instances c.requires.few_binds
+
+pub returns-in_err-plans-clause-kind : goal.returns-in_err-plans-clause-kind
+returns-in_err-plans-clause-kind g c =
+    rw (err_is _ c.from_residual.ensures.1) (stops_before (OfSource ∷ []) (OfBuild ∷ OfPulses ∷ []) c.in_err-plans.field-0.0 c.in_err-plans.ensures.kind)
+
+pub returns-clause-kind : goal.returns-clause-kind
+returns-clause-kind g c =
+    ends_behind (OfSource ∷ []) (OfBuild ∷ OfPulses ∷ []) c.build_plans.result c.build_plans.ensures.kind
+
+pub returns-in_err-plans-clause-calls : goal.returns-in_err-plans-clause-calls
+returns-in_err-plans-clause-calls g c =
+    early _ _ (module_calls c.args.build.now.instances.items) (plans_calls c.args.build.now) (g.S.Store.calls c.args.store.now) (g.S.Store.calls c.compile_all.new.store) c.from_residual.ensures.1
+    (made_of module_calls _ (g.S.Store.calls c.args.store.now) (g.S.Store.calls c.compile_all.new.store) _ _ c.as_slice.ensures.value c.in_err-plans.ensures.calls)
+
+pub returns-clause-calls : goal.returns-clause-calls
+returns-clause-calls g c =
+    goes_on _ (module_calls c.args.build.now.instances.items) (plans_calls c.args.build.now) (g.S.Store.calls c.args.store.now) (g.S.Store.calls c.compile_all.new.store) (g.S.Store.calls c.build_plans.new.store)
+    (made_of module_calls Whole (g.S.Store.calls c.args.store.now) (g.S.Store.calls c.compile_all.new.store) _ _ c.as_slice.ensures.value c.in_ok-plans.ensures.calls) c.build_plans.ensures.calls

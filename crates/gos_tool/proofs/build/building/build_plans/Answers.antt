@@ -1,8 +1,14 @@
-use Rattle.std.proofs.Common.{inl, refl}
-use Rattle.gos_command.proofs.EndLemmas.{of_stopped_both}
+use Rattle.std.proofs.Common.{inl, refl, ◌∷◌, []}
+use Rattle.gos_command.proofs.EndLemmas.{of_stopped_both, early, late, made_of}
 use Rattle.gos_tool.proofs.lemmas.circuits.ExitLemmas.{err_is, failed_as}
 use Rattle.gos_tool.specs.build.Built.{RejectsPlans}
 use Rattle.gos_tool.proofs.lemmas.build.PlansLemmas.{plans_built, rejects_pulses, simulation_call, has_circuit, no_trace, with_trace}
+use Rattle.gos_outside.proofs.CallsLemmas.{goes_on}
+use Rattle.gos_tool.specs.Calls.{circuit_calls, simulation_calls}
+use Rattle.gos_outside.specs.Calls.{Whole}
+use Rattle.gos_lex.specs.Lines.{Word}
+use Rattle.gos_tool.specs.Causes.{OfBuild, OfPulses}
+use Rattle.gos_tool.proofs.lemmas.StopLemmas.{stops_before, stops_behind}
 use Rattle.gos_tool.proofs.build.building.build_plans.Goals as goal
 
 pub returns-clause-done : goal.returns-clause-done
@@ -66,3 +72,27 @@ returns-clause-others g c =
     let b = c.args.build.now in
     with_trace b.net b.verilog b.trace c.bytes-2.result.now (g.S.Store.contents c.args.store.now) (g.S.Store.contents c.link_plans.new.store)
     (g.S.Store.contents c.simulate.new.store) c.bytes-2.ensures.bytes c.in_ok-linked.ensures.others c.in_ok-counts.ensures.others
+
+pub returns-in_err-linked-clause-calls : goal.returns-in_err-linked-clause-calls
+returns-in_err-linked-clause-calls g c =
+    early _ _ (circuit_calls c.args.build.now) (simulation_calls c.args.build.now.pulses c.args.build.now.trace) (g.S.Store.calls c.args.store.now) (g.S.Store.calls c.link_plans.new.store) c.from_residual.ensures.1 c.in_err-linked.ensures.calls
+
+pub returns-in_err-counts-clause-calls : goal.returns-in_err-counts-clause-calls
+returns-in_err-counts-clause-calls g c =
+    late _ _ (circuit_calls c.args.build.now) (simulation_calls c.args.build.now.pulses c.args.build.now.trace) (g.S.Store.calls c.args.store.now) (g.S.Store.calls c.link_plans.new.store) (g.S.Store.calls c.simulate.new.store) c.from_residual-in_err-counts.ensures.1
+    c.in_ok-linked.ensures.calls (made_of (λ (p : Word). simulation_calls p c.args.build.now.trace) _ (g.S.Store.calls c.link_plans.new.store) (g.S.Store.calls c.simulate.new.store) _ _ c.bytes.ensures.bytes
+    (made_of (λ (t : Word). simulation_calls c.bytes.result.now t) _ (g.S.Store.calls c.link_plans.new.store) (g.S.Store.calls c.simulate.new.store) _ _ c.bytes-2.ensures.bytes c.in_err-counts.ensures.calls))
+
+pub returns-clause-calls : goal.returns-clause-calls
+returns-clause-calls g c =
+    goes_on Whole (circuit_calls c.args.build.now) (simulation_calls c.args.build.now.pulses c.args.build.now.trace) (g.S.Store.calls c.args.store.now) (g.S.Store.calls c.link_plans.new.store) (g.S.Store.calls c.simulate.new.store) c.in_ok-linked.ensures.calls
+    (made_of (λ (p : Word). simulation_calls p c.args.build.now.trace) Whole (g.S.Store.calls c.link_plans.new.store) (g.S.Store.calls c.simulate.new.store) _ _ c.bytes.ensures.bytes
+    (made_of (λ (t : Word). simulation_calls c.bytes.result.now t) Whole (g.S.Store.calls c.link_plans.new.store) (g.S.Store.calls c.simulate.new.store) _ _ c.bytes-2.ensures.bytes c.in_ok-counts.ensures.calls))
+
+pub returns-in_err-linked-clause-kind : goal.returns-in_err-linked-clause-kind
+returns-in_err-linked-clause-kind g c =
+    rw (err_is _ c.from_residual.ensures.1) (stops_before (OfBuild ∷ []) (OfPulses ∷ []) c.in_err-linked.field-0.0 c.in_err-linked.ensures.kind)
+
+pub returns-in_err-counts-clause-kind : goal.returns-in_err-counts-clause-kind
+returns-in_err-counts-clause-kind g c =
+    rw (err_is _ c.from_residual-in_err-counts.ensures.1) (stops_behind (OfBuild ∷ []) (OfPulses ∷ []) c.in_err-counts.field-0.0 c.in_err-counts.ensures.kind)

@@ -1,8 +1,10 @@
-use Rattle.std.proofs.Common.{ℕ, List, sym, subst}
+use Rattle.std.proofs.Common.{ℕ, List, sym, subst, ◌∷◌, []}
 use Rattle.std.specs.Prelude.{IfSome}
 use Rattle.gos_outside.specs.Files.{bytes_at}
 use Rattle.gos_command.specs.Files.{IsReadWhole}
 use Rattle.gos_tool.proofs.lemmas.circuits.LinkLemmas.{says_build}
+use Rattle.gos_command.proofs.EndLemmas.{stops_after}
+use Rattle.gos_tool.specs.Calls.{read_build_file}
 use Rattle.gos_tool.proofs.circuits.build_file.build_in.Goals as goal
 
 pub returns-in-Ok-clause-read : goal.returns-in-Ok-clause-read
@@ -15,3 +17,7 @@ returns-in-Ok-clause-says g c =
     says_build old own c.as_slice.result.now c.in-Ok.build
     (subst (λ (text : List ℕ). IfSome old (λ files. IsReadWhole 65536 text (bytes_at files own))) (sym c.as_slice.ensures.value) c.in_ok-text.ensures.read)
     c.in-Ok.ensures.read
+
+pub returns-clause-calls : goal.returns-clause-calls
+returns-clause-calls g c =
+    stops_after _ (read_build_file c.args.own.now ∷ []) ([]) (g.S.Store.calls c.args.store.now) (g.S.Store.calls c.read_file.new.store) c.reject.ensures.no_store c.in_ok-text.ensures.calls

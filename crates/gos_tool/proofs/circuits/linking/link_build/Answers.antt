@@ -9,6 +9,10 @@ use Rattle.gos_tool.specs.circuits.Linked.{IsFormCause, IsLinkDone, RejectsWhole
 use Rattle.gos_tool.specs.circuits.inner.Wholes.{IsWholeDone}
 use Rattle.gos_tool.proofs.lemmas.circuits.ExitLemmas.{err_is}
 use Rattle.gos_tool.proofs.lemmas.circuits.LinkLemmas.{rejected_later, link_done}
+use Rattle.gos_tool.proofs.lemmas.circuits.CallLemmas.{at_build_file, by_build_file}
+use Rattle.gos_tool.specs.Calls.{link_calls}
+use Rattle.gos_tool.specs.Causes.{OfObject, OfBuild}
+use Rattle.gos_tool.proofs.lemmas.StopLemmas.{stops_behind}
 use Rattle.gos_tool.proofs.circuits.linking.link_build.Goals as goal
 
 pub returns-in_err-build-clause-rejected : goal.returns-in_err-build-clause-rejected
@@ -57,3 +61,16 @@ returns-clause-others g c =
     let new = g.S.Store.contents c.link_objects.new.store in
     let b = c.in_ok-build.build in
     inr (b, c.in_ok-build.ensures.says, subst (λ (told : Option Files). OthersSame (b.net ∷ b.verilog ∷ []) told new) c.in_ok-build.ensures.same_files c.link_objects.ensures.others)
+
+pub returns-in_err-build-clause-calls : goal.returns-in_err-build-clause-calls
+returns-in_err-build-clause-calls g c =
+    at_build_file _ _ (g.S.Store.contents c.args.store.now) c.args.own.now link_calls (g.S.Store.calls c.args.store.now) (g.S.Store.calls c.build_in.new.store) c.from_residual.ensures.1 c.in_err-build.ensures.calls
+
+pub returns-clause-calls : goal.returns-clause-calls
+returns-clause-calls g c =
+    by_build_file _ (g.S.Store.contents c.args.store.now) c.args.own.now link_calls c.in_ok-build.build (g.S.Store.calls c.args.store.now) (g.S.Store.calls c.build_in.new.store) (g.S.Store.calls c.link_objects.new.store) c.in_ok-build.ensures.read c.in_ok-build.ensures.says
+    c.in_ok-build.ensures.calls c.link_objects.ensures.calls
+
+pub returns-in_err-build-clause-kind : goal.returns-in_err-build-clause-kind
+returns-in_err-build-clause-kind g c =
+    rw (err_is _ c.from_residual.ensures.1) (stops_behind (OfObject ∷ []) (OfBuild ∷ []) c.in_err-build.field-0.0 c.in_err-build.ensures.kind)

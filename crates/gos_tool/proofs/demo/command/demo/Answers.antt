@@ -1,8 +1,12 @@
 use Rattle.std.proofs.Common.{◌∙◌, ap, subst, List}
 use Rattle.gos_outside.specs.OtherFiles.{OthersSame}
-use Rattle.gos_tool.specs.demo.DemoFiles.{NamedText}
+use Rattle.gos_tool.specs.demo.DemoFiles.{NamedText, demo_files}
 use Rattle.gos_tool.specs.demo.Demo.{with_files, names_of}
 use Rattle.gos_tool.proofs.lemmas.demo.EndLemmas.{demo_done, demo_never_rejected, demo_call, demo_cut_short, all_others}
+use Rattle.gos_tool.proofs.lemmas.demo.CallLemmas.{at_files, out_of_memory, then_builds}
+use Rattle.gos_command.proofs.EndLemmas.{made_of}
+use Rattle.gos_outside.specs.Calls.{Whole}
+use Rattle.gos_tool.specs.Calls.{write_calls}
 use Rattle.gos_tool.proofs.demo.command.demo.Goals as goal
 
 pub returns-clause-done : goal.returns-clause-done
@@ -37,3 +41,18 @@ returns-clause-others g c =
     all_others c.args.levels old mid (g.S.Store.contents c.build.new.store) c.requires
     (c.in_ok-write_files.ensures.written ∙ ap (λ (fs : List NamedText). with_files fs old) (c.as_slice.ensures.value ∙ c.in_ok-files.ensures)) c.build.ensures.others
     (subst (λ (fs : List NamedText). OthersSame (names_of fs) old mid) (c.as_slice.ensures.value ∙ c.in_ok-files.ensures) c.in_ok-write_files.ensures.others)
+
+pub returns-in_err-files-clause-calls : goal.returns-in_err-files-clause-calls
+returns-in_err-files-clause-calls g c =
+    out_of_memory c.args.levels _ (g.S.Store.contents c.args.store.now) (g.S.Store.calls c.args.store.now) c.from_residual.ensures.1
+
+pub returns-in_err-write_files-clause-calls : goal.returns-in_err-write_files-clause-calls
+returns-in_err-write_files-clause-calls g c =
+    at_files c.args.levels _ _ (g.S.Store.contents c.args.store.now) (g.S.Store.calls c.args.store.now) (g.S.Store.calls c.write_files.new.store) c.from_residual-in_err-write_files.ensures.1
+    (made_of (λ (fs : List NamedText). write_calls (names_of fs)) _ (g.S.Store.calls c.args.store.now) (g.S.Store.calls c.write_files.new.store) _ _ (c.as_slice.ensures.value ∙ c.in_ok-files.ensures) c.in_err-write_files.ensures.calls)
+
+pub returns-clause-calls : goal.returns-clause-calls
+returns-clause-calls g c =
+    then_builds c.args.levels _ (g.S.Store.contents c.args.store.now) (g.S.Store.contents c.write_files.new.store) (g.S.Store.calls c.args.store.now) (g.S.Store.calls c.write_files.new.store) (g.S.Store.calls c.build.new.store)
+    (c.in_ok-write_files.ensures.written ∙ ap (λ (fs : List NamedText). with_files fs (g.S.Store.contents c.args.store.now)) (c.as_slice.ensures.value ∙ c.in_ok-files.ensures))
+    (made_of (λ (fs : List NamedText). write_calls (names_of fs)) Whole (g.S.Store.calls c.args.store.now) (g.S.Store.calls c.write_files.new.store) _ _ (c.as_slice.ensures.value ∙ c.in_ok-files.ensures) c.in_ok-write_files.ensures.calls) c.build.ensures.calls

@@ -1,8 +1,9 @@
-use Rattle.std.proofs.Common.{◌≡◌, ◌∙◌, take}
+use Rattle.std.proofs.Common.{◌≡◌, ◌∙◌, take, ◌∷◌, []}
 use Rattle.gos_outside.specs.Files.{bytes_at}
-use Rattle.gos_command.proofs.EndLemmas.{of_some}
+use Rattle.gos_command.proofs.EndLemmas.{of_some, stops_after}
 use Rattle.gos_tool.proofs.lemmas.objects.CheckedLemmas.{typed_file}
 use Rattle.gos_tool.proofs.lemmas.objects.CompiledLemmas.{few}
+use Rattle.gos_tool.specs.Calls.{read_source}
 use Rattle.gos_tool.proofs.objects.checking.module_in.Goals as goal
 
 pub returns-in-Ok-clause-typed : goal.returns-in-Ok-clause-typed
@@ -15,3 +16,7 @@ returns-in-Ok-clause-typed g c =
 
 pub returns-in-Ok-clause-few_imports : goal.returns-in-Ok-clause-few_imports
 returns-in-Ok-clause-few_imports g c = few c.as_slice.result.now c.in-Ok.linear c.in-Ok.ensures.typed
+
+pub returns-clause-calls : goal.returns-clause-calls
+returns-clause-calls g c =
+    stops_after _ (read_source c.args.source.now ∷ []) ([]) (g.S.Store.calls c.args.store.now) (g.S.Store.calls c.read_start.new.store) c.reject.ensures.no_store c.in_ok-text.ensures.calls

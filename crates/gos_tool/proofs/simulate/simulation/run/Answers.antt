@@ -1,4 +1,4 @@
-use Rattle.std.proofs.Common.{◌≡◌, ◌∙◌, length, Some, ap, subst}
+use Rattle.std.proofs.Common.{◌≡◌, ◌∙◌, length, Some, ap, subst, ◌∷◌, [], refl}
 use Rattle.std.specs.Prelude.{IfSome}
 use Rattle.gos_outside.specs.Files.{bytes_at, with_file}
 use Rattle.gos_netlist.specs.Nets.{Netlist}
@@ -7,11 +7,12 @@ use Rattle.gos_pulse.specs.Driving.{BreaksAs}
 use Rattle.gos_pulse.specs.Traced.{IsTraced}
 use Rattle.gos_pulse.specs.TraceText.{trace_text}
 use Rattle.gos_sim.specs.Cycle.{Simulator}
-use Rattle.gos_command.proofs.EndLemmas.{of_result_both, of_stopped}
+use Rattle.gos_command.proofs.EndLemmas.{of_result_both, of_stopped, stops_after}
 use Rattle.gos_command.specs.declared.report.Counts.{Counts}
 use Rattle.gos_command.specs.Lines.{fault_line}
 use Rattle.gos_tool.specs.simulate.Simulation.{LeavesTrace, IsPulseFault}
 use Rattle.gos_tool.proofs.lemmas.simulate.SimulationLemmas.{leaves_trace, broken}
+use Rattle.gos_outside.specs.Calls.{Write}
 use Rattle.gos_tool.proofs.simulate.simulation.run.Goals as goal
 
 pub returns-in-Ok-drive-clause-done : goal.returns-in-Ok-drive-clause-done
@@ -43,3 +44,7 @@ returns-clause-rejected g c =
     (subst (λ (n : Netlist). BreaksAs n c.args.read.now.0 c.args.read.now.1 c.in-Err.fault) net_is (c.in-Err.ensures.broken h.1)) h.1 h.0
     (h.2 ∙ ap (λ (n : Netlist). fault_line (Some n) fault) run_is))
     c.reject.ensures.stopped
+
+pub returns-clause-calls : goal.returns-clause-calls
+returns-clause-calls g c =
+    stops_after _ [] (Write c.args.trace.now ∷ []) (g.S.Store.calls c.args.store.now) (g.S.Store.calls c.args.store.now) c.reject.ensures.no_store refl

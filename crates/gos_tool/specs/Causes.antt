@@ -1,0 +1,48 @@
+-- For which kinds of cause a command may reject a file, and what its line tells where it is done: whatever store it has.
+use Rattle.std.specs.Prelude.{◌≡◌, ◌⊎◌, ℕ, List, [], ◌∷◌, None, Some}
+use Rattle.gos_command.specs.declared.report.Counts.{Counts}
+use Rattle.gos_command.specs.declared.report.Report.{Report}
+use Rattle.gos_command.specs.declared.status.Cause.{Cause}
+use Rattle.gos_command.specs.declared.status.Cause.TheVariants as causes
+use Rattle.gos_command.specs.declared.stop.Stop.{Stop}
+use Rattle.gos_command.specs.declared.stop.Stop.TheVariants as stops
+
+-- the kinds of files that are read
+pub data Kind : Type 0 where
+  OfSource : Kind
+  OfObject : Kind
+  OfBuild : Kind
+  OfNetlist : Kind
+  OfPulses : Kind
+
+-- of which kind of file a cause speaks
+abbrev pub kind_of : Cause → Kind
+kind_of (causes.Lex fault) = OfSource
+kind_of (causes.Syntax fault) = OfSource
+kind_of (causes.Check fault) = OfSource
+kind_of (causes.Object fault) = OfObject
+kind_of (causes.Link fault) = OfBuild
+kind_of (causes.Net fault) = OfNetlist
+kind_of (causes.Refused fault) = OfNetlist
+kind_of (causes.Pulse fault) = OfPulses
+
+-- the cause is of one of these kinds
+abbrev pub IsOneOf : List Kind → Cause → Type 0
+IsOneOf [] cause = ⊥
+IsOneOf (kind ∷ kinds) cause = (kind_of cause ≡ kind) ⊎ IsOneOf kinds cause
+
+-- where a command stops at a file, its cause is
+abbrev pub StopsFor : List Kind → Stop → Type 0
+StopsFor kinds (stops.Rejected rejection) = IsOneOf kinds rejection.fault.cause
+StopsFor kinds stops.StoreFailed = Unit {0}
+StopsFor kinds stops.NoMemory = Unit {0}
+
+-- what a line tells: a weight, the numbers of a run, or both
+abbrev pub TellsWeight : Report → Type 0
+TellsWeight report = (weight : ℕ) × (report ≡ record { weight = Some weight; run = None })
+
+abbrev pub TellsRun : Report → Type 0
+TellsRun report = (counts : Counts) × (report ≡ record { weight = None; run = Some counts })
+
+abbrev pub TellsBoth : Report → Type 0
+TellsBoth report = (weight : ℕ) × (counts : Counts) × (report ≡ record { weight = Some weight; run = Some counts })
