@@ -38,7 +38,6 @@ impl Store for RecordingStore {
 
     ghost calls = { λ store. Some store };
 
-    #[tactic(auto, using(Rattle.std.proofs.lemmas.List.map-append))]
     fn read_up_to(&mut self, alloc: Global, name: &[u8], n: usize) -> Result<Vec<u8>, StoreFault> {
         self.calls.push((name.to_vec(alloc)?, Some(n)))?;
         match self.files.read_up_to(alloc, name, n) {
@@ -47,7 +46,6 @@ impl Store for RecordingStore {
         }
     }
 
-    #[tactic(auto, using(Rattle.std.proofs.lemmas.List.map-append))]
     fn write(&mut self, alloc: Global, name: &[u8], bytes: &[u8]) -> Result<(), StoreFault> {
         self.calls.push((name.to_vec(alloc)?, None))?;
         match self.files.write(alloc, name, bytes) {
