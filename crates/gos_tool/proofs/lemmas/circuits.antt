@@ -5,6 +5,7 @@ pub mod CircuitLemmas
 pub mod ObjectLemmas
 pub mod WholeLemmas
 pub mod LinkLemmas
+pub mod WidthLemmas
 pub mod PacedLemmas
 pub mod SameBuildLemmas
 pub mod CompleteLemmas

@@ -15,7 +15,7 @@ use Rattle.gos_plan.specs.Plans.{Plan, IsRight}
 use Rattle.gos_plan.specs.Seen.{SeenPlan, plan_of}
 use Rattle.gos_realises.specs.realises.Matched.{RealisesDone, program_of}
 use Rattle.gos_realises.specs.realises.Realises.{AllGround, NamesDiffer}
-use Rattle.gos_realises.specs.realises.Modules.{HaveWidths, RealisesOpen, RealisesModule}
+use Rattle.gos_realises.specs.realises.Modules.{RealisesOpen, RealisesModule}
 use Rattle.gos_realises.specs.realises.Slim.{IsSlim}
 use Rattle.gos_expand.specs.Starts.{Keep}
 use Rattle.gos_expand.specs.Laid.{laid}
@@ -34,12 +34,10 @@ EveryChoiceKeepsPace =
     → CanBeLaid p root → (HasCycle (laid keep (plan_of p) root).cells → ⊥) → IsSlim (plan_of p) → RealisesDone (plan_of p) m
     → KeepsPaceAlways p.weight (program_of (plan_of p) m) (laid keep (plan_of p) root)
 
--- what ports a plan has: its imports have different names and ground types of numbers with widths, and its result is a command or an
--- expression
+-- what ports a plan has: its imports have different names and ground types, and its result is a command or an expression
 pub record HasOpenPorts (p : Plan) : Type 0 where
   pub names : NamesDiffer p.imports
   pub ground : AllGround p.imports
-  pub widths : HaveWidths p.imports
   pub done : IsDone p.outcome
 
 -- the circuit of a slim plan with such ports, which realises a term with any supplies

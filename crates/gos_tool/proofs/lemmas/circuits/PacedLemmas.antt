@@ -6,16 +6,17 @@ use Rattle.gos_pace.specs.Pace.{KeepsPaceAlways}
 use Rattle.gos_supplies.specs.ports.Ports.{OpenIsDone}
 use Rattle.gos_linked.specs.linked.Linked.{linked_program}
 use Rattle.gos_linked.specs.linked.Modules.{LinkedIsModule, LinkedIsDone}
+use Rattle.gos_tool.proofs.lemmas.circuits.WidthLemmas.{imports_are_wide}
 use Rattle.gos_tool.specs.circuits.Paced.{OpenCircuitsKeepPace, ModuleCircuitsKeepPace, LinkedCircuitsKeepPace}
 
 pub open_circuits : OpenIsDone → OpenCircuitsKeepPace
 open_circuits law root p m net right slim ports any circuit =
-    circuit.pace slim m (law p m right ports.ground ports.widths ports.names any ports.done).1
+    circuit.pace slim m (law p m right ports.ground (imports_are_wide root p net circuit ports.ground) ports.names any ports.done).1
 
 pub module_circuits : OpenIsDone → ModuleCircuitsKeepPace
 module_circuits law root p m net realised ground done =
-    open_circuits law root p m net realised.right realised.slim
-    (record { names = realised.names; ground = ground; widths = realised.import_widths; done = done }) realised.open_imports
+    open_circuits law root p m net realised.right realised.slim (record { names = realised.names; ground = ground; done = done })
+    realised.open_imports
 
 pub linked_circuits : LinkedIsModule → LinkedIsDone → LinkedCircuitsKeepPace
 linked_circuits is_module is_done b ps whole programs root net l each all circuit =
