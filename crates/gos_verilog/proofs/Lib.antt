@@ -11,8 +11,10 @@ pub mod SuffixLemmas
 pub mod InputLemmas
 pub mod PortLemmas
 pub mod OneTextLemmas
+pub mod BitLemmas
 pub mod MeaningLemmas
 pub mod SmallMeaningLemmas
+pub mod MeantRunLemmas
 pub mod NumberLemmas
 pub mod ListLemmas
 pub mod RestLemmas

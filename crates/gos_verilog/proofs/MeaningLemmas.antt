@@ -1,14 +1,18 @@
 -- The text of a netlist is that of a module that means the netlist.
-use Rattle.std.proofs.Common.{◌≡◌, inl, inr, ℕ, zero, suc, ◌+◌, ◌<◌, ◌↔◌, Bool, true, false, if◌then◌else◌, List, [], ◌∷◌, ◌++◌, length, map, Some, nat_eq, refl, sym, ◌∙◌, ap, subst, arith, slice_get, append_assoc, codes}
+use Rattle.std.proofs.Common.{◌≡◌, inl, inr, ℕ, zero, suc, ◌+◌, ◌<◌, ◌≤◌, ◌↔◌, Bool, true, false, if◌then◌else◌, List, [], ◌∷◌, ◌++◌, length, map, Some, nat_eq, refl, sym, ◌∙◌, ap, subst, arith, slice_get, append_assoc, codes}
 use Rattle.std.specs.List.{AllByRecursion, flat_map}
 use Rattle.std.proofs.lemmas.Grind.{flat_map-append}
 use Rattle.gos_netlist.specs.Nets.{Function, Input, Const, Not, And, Or, Xor, Mux, Add, Sub, Eq, Less, Gate, Reg, Cell, Netlist}
+use Rattle.gos_netlist.specs.Cycles.{IsRegister}
+use Rattle.gos_netcheck.specs.Accepted.{IsAccepted}
+use Rattle.gos_netcheck.specs.CellRules.{OperandsFit, widths_of}
 use Rattle.gos_netlist.specs.Settling.{Numbers, at, next_of, shown, Settling}
 use Rattle.gos_verilog.specs.PortNets.{PortNet, port_nets}
 use Rattle.gos_verilog.specs.Lines.{assignment, cell_declarations, cell_net, clock_declarations, declaration, driver_of, kind_word, output_assignment}
 use Rattle.gos_verilog.specs.VerilogText.{AreDrivers, IsFed, IsItsNet, declarations, first_name, outputs}
 use Rattle.gos_verilog.specs.Expressions.{BitAnd, BitOr, BitXor, Plus, Minus, Equal, Below, Expression, OfPort, OfCell, Literal, Turned, Signed, Choice, Plain, operands, value}
-use Rattle.gos_verilog.specs.Meaning.{Line, Drives, Clocks, Assigns, Module, DeclaredPort, DeclaredNet, net_word, nets_text, line_text, port_text, module_text, IsDeclared, ReadsInput, UsesPorts, PortValues, bits_at, MeetsLine, MeetsAll, SetsLine, SetsAll, SelectorIsBit, is_clocked, port_declared, cell_declared, GivesInput, ShowsOutput, Means, TextsMean}
+use Rattle.gos_verilog.specs.Meaning.{Line, Drives, Clocks, Assigns, Module, DeclaredPort, DeclaredNet, net_word, nets_text, line_text, port_text, module_text, IsDeclared, ReadsInput, UsesPorts, PortValues, bits_at, MeetsLine, MeetsAll, SetsLine, SetsAll, SelectorIsBit, is_clocked, port_declared, cell_declared, HoldBits, GivesInput, ShowsOutput, Means, TextsMean}
+use Rattle.gos_verilog.proofs.BitLemmas.{BigPin, GrowsBig, big_shown, pick, selectors}
 use Rattle.gos_verilog.proofs.OneTextLemmas.{get_all}
 
 -- the expression of a cell of w bits; that of an Input is the net of a port that is named `source`
@@ -70,7 +74,7 @@ wire_shows w r i source seen v (Gate s a) clocked bit gives = choice (at v s) (a
 wire_shows w r i source seen v (Reg a) clocked bit gives = absurd (cc clocked)
 
 -- a register is what it holds, and takes its pin
-register_shows : (w r i : ℕ) (v : Numbers) (f : Function) → is_clocked f ≡ true → r ≡ shown w f r i (at v)
+pub register_shows : (w r i : ℕ) (v : Numbers) (f : Function) → is_clocked f ≡ true → r ≡ shown w f r i (at v)
 register_shows w r i v (Reg a) clocked = refl
 register_shows w r i v f clocked = absurd (cc clocked)
 
@@ -161,7 +165,7 @@ wide_cell [] n c is = absurd (cc is)
 wide_cell (d ∷ cells) zero c is = let same : d ≡ c = cc is in ap (λ (x : Cell). x.width) same
 wide_cell (d ∷ cells) (suc n) c is = wide_cell cells n c is
 
-map_length : (cells : List Cell) → length (map cell_declared cells) ≡ length cells
+pub map_length : (cells : List Cell) → length (map cell_declared cells) ≡ length cells
 map_length [] = refl
 map_length (c ∷ cells) = ap suc (map_length cells)
 
@@ -245,6 +249,63 @@ module _ (nets : List DeclaredNet) (regs ins v : Numbers) (seen : PortValues) wh
       by true rest = ((λ all. ((λ no. absurd (cc no)), rest.0 all)), (λ all. rest.1 all.1))
       by false rest = ((λ all. ((λ _. all.0), rest.0 all.1)), (λ all. (all.0 refl, rest.1 all.1)))
 
+-- a line that is met, of a cell with its number
+abbrev IsMet : Numbers → Numbers → Numbers → PortValues → ℕ → Cell → Type 0
+IsMet regs ins v seen n c =
+    (source : List ℕ) × (c.gate ≡ Input → seen source ≡ at ins n) × (at v n ≡ (if is_clocked c.gate then at regs n else value c.width seen (at v) (expression_of c.width source c.gate)))
+
+module _ (nets : List DeclaredNet) (regs ins v : Numbers) (seen : PortValues) where
+  met_cell : (i w : ℕ) (source : List ℕ) (f : Function) → bits_at nets i ≡ w → MeetsLine nets regs seen v (line_of i w source f)
+      → at v i ≡ (if is_clocked f then at regs i else value w seen (at v) (expression_of w source f))
+  met_cell i w source f wide = by (is_clocked f)
+    where
+      by : (b : Bool) → MeetsLine nets regs seen v (if b then Clocks i w (expression_of w source f) else Drives i (expression_of w source f))
+          → at v i ≡ (if b then at regs i else value w seen (at v) (expression_of w source f))
+      by true e = e
+      by false e = e ∙ ap (λ (b : ℕ). value b seen (at v) (expression_of w source f)) wide
+
+  met_cells : (ns : List PortNet) (i : ℕ) (cells : List Cell) (sources : List (List ℕ)) → AllFrom (λ n c. bits_at nets n ≡ c.width) i cells → AreRead ns i cells sources
+      → AllByRecursion (GivesInput seen ins) ns → AllByRecursion (MeetsLine nets regs seen v) (driver_lines i cells sources) → AllFrom (IsMet regs ins v seen) i cells
+  met_cells ns i [] sources wide read gives all = tt
+  met_cells ns i (c ∷ cells) [] wide read gives all = absurd read
+  met_cells ns i (c ∷ cells) (source ∷ sources) wide read gives all =
+      ((source, given, met_cell i c.width source c.gate wide.0 all.0), met_cells ns (suc i) cells sources wide.1 read.1 gives all.1)
+    where
+      given : c.gate ≡ Input → seen source ≡ at ins i
+      given gate =
+          let fed = read.0 gate in
+          ap seen fed.5 ∙ (get_all PortNet (GivesInput seen ins) ns fed.0 fed.1 gives fed.2 fed.3 ∙ ap (at ins) fed.4)
+
+-- a net of one bit that shows none, by its line and by its cell
+module _ (cells : List Cell) (v : Numbers) (seen : PortValues) where
+  big_value : (f : Function) (i : ℕ) (source : List ℕ) → OperandsFit (widths_of cells) 1 f → is_clocked f ≡ false → (f ≡ Input → i < 2) → (f ≡ Input → seen source ≡ i)
+      → 2 ≤ value 1 seen (at v) (expression_of 1 source f) → BigPin cells v f
+  big_value (Mux s a b) i source fit clocked small gives h =
+      elim (pick (nat_eq (at v s) 0) (at v b) (at v a) h) [
+        | inl other ↦ record { pin = b; named = (2, omega arith, refl); wide = fit.2; big = other }
+        | inr one ↦ record { pin = a; named = (1, omega arith, refl); wide = fit.1; big = one }
+      ]
+  big_value (Gate s a) i source fit clocked small gives h =
+      elim (pick (nat_eq (at v s) 0) 0 (at v a) h) [
+        | inl other ↦ absurd (omega (arith, other))
+        | inr one ↦ record { pin = a; named = (1, omega arith, refl); wide = fit.1; big = one }
+      ]
+  big_value f i source fit clocked small gives h =
+      big_shown cells v f 0 i fit (λ other. absurd (let both : true ≡ false = sym other ∙ clocked in cc both)) small
+      (subst (λ (x : ℕ). 2 ≤ x) (wire_shows 1 0 i source seen v f clocked tt gives) h)
+
+  grows_met : (w : ℕ) (f : Function) (x r i : ℕ) (source : List ℕ) → w ≡ 1 → OperandsFit (widths_of cells) w f → (is_clocked f ≡ true → r < 2) → (f ≡ Input → i < 2) → (f ≡ Input → seen source ≡ i)
+      → x ≡ (if is_clocked f then r else value w seen (at v) (expression_of w source f)) → 2 ≤ x → (IsRegister f → ⊥) × BigPin cells v f
+  grows_met w f x r i source one fit held small gives is h = by (is_clocked f) refl is
+    where
+      by : (b : Bool) → is_clocked f ≡ b → x ≡ (if b then r else value w seen (at v) (expression_of w source f)) → (IsRegister f → ⊥) × BigPin cells v f
+      by true clocked e = absurd (omega (arith, h, e, held clocked))
+      by false clocked e = (
+        (λ register. let both : false ≡ true = sym clocked ∙ ap is_clocked register.1 in cc both),
+        big_value f i source (subst (λ (k : ℕ). OperandsFit (widths_of cells) k f) one fit) clocked small gives
+            (subst (λ (k : ℕ). 2 ≤ k) (e ∙ ap (λ (k : ℕ). value k seen (at v) (expression_of k source f)) one) h),
+      )
+
 -- the lines at a clock edge
 module _ (reset : Bool) (nets : List DeclaredNet) (seen : PortValues) (v after : Numbers) where
   -- a register of this function takes what is next
@@ -279,8 +340,20 @@ module _ (reset : Bool) (nets : List DeclaredNet) (seen : PortValues) (v after :
 
 -- the module of a netlist means it
 pub means : (net : Netlist) (sources : List (List ℕ)) → AreRead (port_nets net.ports) 0 net.cells sources → Means (module_of net sources) net
-means net sources read = record { named = refl; of_ports = refl; of_nets = refl; uses = uses; settles = settles; edge = edge }
+means net sources read = record { named = refl; of_ports = refl; of_nets = refl; uses = uses; settles = settles; selectors = bits; edge = edge }
   where
+    bits : (regs ins v : Numbers) (seen : PortValues) → IsAccepted net → HoldBits net.cells regs ins → AllByRecursion (GivesInput seen ins) (port_nets net.ports)
+        → MeetsAll (module_of net sources) regs seen v → AllByRecursion (λ c. SelectorIsBit v c.gate) net.cells
+    bits regs ins v seen accepted hold gives meets =
+        let lines = (all_both (MeetsLine (map cell_declared net.cells) regs seen v) (driver_lines 0 net.cells sources) (output_lines (port_nets net.ports))).0 meets.1 in
+        let wide = all_from (λ n c. bits_at (map cell_declared net.cells) n ≡ c.width) net.cells (wide_cell net.cells) in
+        let met = all_each (IsMet regs ins v seen) net.cells (met_cells (map cell_declared net.cells) regs ins v seen (port_nets net.ports) 0 net.cells sources wide read gives lines.0) in
+        let grows : GrowsBig net.cells v = λ n c is one big.
+        let line = met n c is in
+        let held = hold n c is one in
+        grows_met net.cells v seen c.width c.gate (at v n) (at regs n) (at ins n) line.0 one (accepted.widths n c is).2 held.0 held.1 line.1 line.2 big in
+        selectors net.cells v accepted.acyclic grows accepted.widths
+
     uses : AllByRecursion (UsesPorts (map port_declared (port_nets net.ports))) (driver_lines 0 net.cells sources ++ output_lines (port_nets net.ports))
     uses =
         (all_both (UsesPorts (map port_declared (port_nets net.ports))) (driver_lines 0 net.cells sources) (output_lines (port_nets net.ports))).1

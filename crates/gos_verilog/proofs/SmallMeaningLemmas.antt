@@ -1,9 +1,8 @@
 -- The caller's module means it, and those with outputs or inputs swapped don't.
-use Rattle.std.proofs.Common.{◌≡◌, ℕ, true, if◌then◌else◌, List, [], ◌∷◌, length, nat_eq, refl, codes}
+use Rattle.std.proofs.Common.{◌≡◌, ◌∙◌, ℕ, true, List, [], ◌∷◌, length, refl, codes}
 use Rattle.gos_netlist.specs.Settling.{Numbers, at, shown, Settling}
-use Rattle.gos_verilog.specs.Meaning.{PortValues}
 use Rattle.gos_verilog.specs.PortNets.{port_nets}
-use Rattle.gos_verilog.specs.SmallMeanings.{caller, CallerIsMeant, SwappedOutputsMeanOther, SwappedInputsMeanOther}
+use Rattle.gos_verilog.specs.SmallMeanings.{caller, only, CallerRuns, CallerWaits, CallerIsMeant, SwappedOutputsMeanOther, SwappedInputsMeanOther}
 use Rattle.gos_verilog.proofs.MeaningLemmas.{AllFrom, AreRead, all_each, means}
 
 -- what its cells read
@@ -26,26 +25,32 @@ caller_is_meant = means caller sources read
 settled : (regs ins v : Numbers) → length v ≡ 4 → AllFrom (λ n c. at v n ≡ shown c.width c.gate (at regs n) (at ins n) (at v)) 0 caller.cells → Settling caller.cells regs ins v
 settled regs ins v long all = (long, all_each (λ n c. at v n ≡ shown c.width c.gate (at regs n) (at ins n) (at v)) caller.cells all)
 
--- c is run, and nothing else
-runs : PortValues
-runs name = if nat_eq (length name) 6 then 1 else 0
-
 pub swapped_outputs : SwappedOutputsMeanOther
-unfolding runs
 swapped_outputs means =
-    let is = means.settles (0 ∷ 0 ∷ 1 ∷ 0 ∷ []) [] (0 ∷ 0 ∷ 1 ∷ 0 ∷ []) runs (tt, (tt, (tt, (tt, tt)))) ((λ _. refl), ((λ no. absurd (cc no)), ((λ no. absurd (cc no)), ((λ _. refl), tt)))) in
+    let is = means.settles (0 ∷ 0 ∷ 1 ∷ 0 ∷ []) [] (0 ∷ 0 ∷ 1 ∷ 0 ∷ []) (only (codes "c__run")) (tt, (tt, (tt, (tt, tt)))) ((λ _. refl), ((λ no. absurd (cc no)), ((λ no. absurd (cc no)), ((λ _. refl), tt)))) in
     let meets = is.1 (settled (0 ∷ 0 ∷ 1 ∷ 0 ∷ []) [] (0 ∷ 0 ∷ 1 ∷ 0 ∷ []) refl (refl, (refl, (refl, (refl, tt)))), ((λ no. absurd (cc no)), ((λ _. refl), ((λ _. refl), ((λ no. absurd (cc no)), tt))))) in
     let wrong : 0 ≡ 1 = meets.1.1.1.1.1.0 in
     cc wrong
 
--- the caller is run, and nothing else
-is_run : PortValues
-is_run name = if nat_eq (length name) 9 then 1 else 0
-
 pub swapped_inputs : SwappedInputsMeanOther
-unfolding is_run
 swapped_inputs means =
-    let is = means.settles [] (1 ∷ []) (1 ∷ 0 ∷ 0 ∷ 0 ∷ []) is_run (tt, (tt, (tt, (tt, tt)))) ((λ _. refl), ((λ no. absurd (cc no)), ((λ no. absurd (cc no)), ((λ _. refl), tt)))) in
+    let is = means.settles [] (1 ∷ []) (1 ∷ 0 ∷ 0 ∷ 0 ∷ []) (only (codes "main__run")) (tt, (tt, (tt, (tt, tt)))) ((λ _. refl), ((λ no. absurd (cc no)), ((λ no. absurd (cc no)), ((λ _. refl), tt)))) in
     let meets = is.1 (settled [] (1 ∷ []) (1 ∷ 0 ∷ 0 ∷ 0 ∷ []) refl (refl, (refl, (refl, (refl, tt)))), ((λ no. absurd (cc no)), ((λ _. refl), ((λ _. refl), ((λ no. absurd (cc no)), tt))))) in
     let wrong : 1 ≡ 0 = meets.1.0 in
+    cc wrong
+
+pub caller_runs : CallerRuns
+caller_runs = (
+  (refl, (refl, (refl, (refl, (refl, (refl, (refl, tt))))))),
+  0 ∷ 0 ∷ 1 ∷ 0 ∷ [],
+  (tt, (tt, (refl, (refl, (tt, (tt, tt)))))),
+  ((refl, (refl, (refl, (refl, (refl, (refl, (refl, tt))))))), [], (tt, (tt, (refl, (refl, (tt, (tt, tt)))))), refl),
+)
+
+pub caller_waits : CallerWaits
+caller_waits v runs =
+    let meets = runs.0 in
+    let held : at v 2 ≡ 0 = meets.1.1.1.0 in
+    let shown : 1 ≡ at v 2 = meets.1.1.1.1.1.1.0 in
+    let wrong : 1 ≡ 0 = shown ∙ held in
     cc wrong

@@ -8,5 +8,6 @@ pub mod OneText
 pub mod Place
 pub mod Expressions
 pub mod Meaning
+pub mod MeantRuns
 pub mod SmallMeanings
 pub mod inner

@@ -4,8 +4,9 @@
 -- here is made from a netlist but the right side of `Means`.
 use Rattle.std.specs.Prelude.{◌≡◌, ℕ, zero, suc, ◌<◌, ◌↔◌, ◌⊎◌, Bool, true, false, if◌then◌else◌, List, [], ◌∷◌, ◌++◌, length, map, Some, slice_get, codes}
 use Rattle.std.specs.List.{AllByRecursion, flat_map}
-use Rattle.gos_netlist.specs.Nets.{Function, Mux, Gate, Reg, Cell, Netlist}
+use Rattle.gos_netlist.specs.Nets.{Function, Input, Mux, Gate, Reg, Cell, Netlist}
 use Rattle.gos_netlist.specs.Settling.{Numbers, at, next_of, Settling}
+use Rattle.gos_netcheck.specs.Accepted.{IsAccepted}
 use Rattle.gos_verilog.specs.PortNets.{PortNet, port_nets}
 use Rattle.gos_verilog.specs.Lines.{assignment, cell_net, clock_declarations, declaration, direction_word, register}
 use Rattle.gos_verilog.specs.VerilogText.{first_name, IsVerilogOf}
@@ -114,6 +115,12 @@ abbrev pub is_clocked : Function → Bool
 is_clocked (Reg a) = true
 is_clocked f = false
 
+-- registers and inputs of one bit hold bits
+abbrev pub HoldBits : List Cell → Numbers → Numbers → Type 0
+HoldBits cells regs ins =
+    (n : ℕ) (c : Cell) → slice_get cells n ≡ Some c → c.width ≡ 1
+    → (is_clocked c.gate ≡ true → at regs n < 2) × (c.gate ≡ Input → at ins n < 2)
+
 -- the declarations of a net of a port, and of the net of a cell
 abbrev pub port_declared : PortNet → DeclaredPort
 port_declared net = record { name = net.name; input = net.input; width = net.width }
@@ -129,9 +136,10 @@ GivesInput seen ins net = net.input ≡ true → seen net.name ≡ at ins net.ce
 abbrev pub ShowsOutput : PortValues → Numbers → PortNet → Type 0
 ShowsOutput seen v net = net.input ≡ false → seen net.name ≡ at v net.cell
 
--- The module means the netlist. It declares the nets of its ports and of its cells, and uses them so. Where inputs show what Input cells get,
--- all lines are met exactly where the nets are a settling and each output shows its net. And at a clock edge registers
--- take the netlist's next registers, or 0 in reset.
+-- The module means the netlist. It declares the nets of its ports and of its cells, and uses them so. Where inputs show
+-- what Input cells get, all lines are met exactly where the nets are a settling and each output shows its net, if
+-- selectors are bits; and those of an accepted netlist are, where registers and inputs of one bit hold bits. At a clock
+-- edge registers take the netlist's next registers, or 0 in reset.
 pub record Means (m : Module) (net : Netlist) : Type 0 where
   pub named : m.name ≡ first_name net.ports
   pub of_ports : m.ports ≡ map port_declared (port_nets net.ports)
@@ -140,6 +148,8 @@ pub record Means (m : Module) (net : Netlist) : Type 0 where
   pub settles : (regs ins v : Numbers) (seen : PortValues) → AllByRecursion (λ c. SelectorIsBit v c.gate) net.cells
       → AllByRecursion (GivesInput seen ins) (port_nets net.ports)
       → MeetsAll m regs seen v ↔ (Settling net.cells regs ins v × AllByRecursion (ShowsOutput seen v) (port_nets net.ports))
+  pub selectors : (regs ins v : Numbers) (seen : PortValues) → IsAccepted net → HoldBits net.cells regs ins
+      → AllByRecursion (GivesInput seen ins) (port_nets net.ports) → MeetsAll m regs seen v → AllByRecursion (λ c. SelectorIsBit v c.gate) net.cells
   pub edge : (reset : Bool) (seen : PortValues) (v after : Numbers) → SetsAll reset m seen v after
       ↔ ((n : ℕ) (c : Cell) → slice_get net.cells n ≡ Some c → is_clocked c.gate ≡ true → at after n ≡ (if reset then 0 else next_of c.gate v))
 

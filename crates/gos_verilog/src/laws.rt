@@ -3,10 +3,11 @@ ghost use Rattle.std.specs.Prelude.{List, ℕ, codes};
 ghost use Rattle.gos_netlist.specs.Nets.{Netlist};
 ghost use Rattle.gos_netcheck.specs.Accepted.{IsAccepted};
 ghost use Rattle.gos_verilog.specs.Meaning.{TextsMean};
+ghost use Rattle.gos_verilog.specs.MeantRuns.{RunsAreMeant};
 ghost use Rattle.gos_verilog.specs.OneText.{HasOneText, IsOneNetlist, IsReadAsOne, IsReadBack};
 ghost use Rattle.gos_verilog.specs.Place.{HasHead, HasOnePlace, IsPlace, ReadIsFormed};
 ghost use Rattle.gos_verilog.specs.Readable.{IsReadable};
-ghost use Rattle.gos_verilog.specs.SmallMeanings.{CallerIsMeant, SwappedInputsMeanOther, SwappedOutputsMeanOther};
+ghost use Rattle.gos_verilog.specs.SmallMeanings.{CallerIsMeant, CallerRuns, CallerWaits, SwappedInputsMeanOther, SwappedOutputsMeanOther};
 ghost use Rattle.gos_verilog.specs.SmallTexts.{latch_text, LatchText, LongerIsNoText, UnresetIsNoText};
 
 /// The latch has its text, and neither one in which a register has no reset nor one with a blank more.
@@ -32,12 +33,15 @@ pub fn one_reading()
 
 /// Read by IEEE 1364-2005 a text of a netlist means the netlist: its head declares the nets of the ports; where inputs
 /// show what Input cells get, all lines are met exactly where the nets are a settling and each output shows the net of
-/// its cell; and registers take the netlist's next registers at a clock edge, or 0 in reset. A small module means its
-/// circuit. With its two outputs assigned from each other's nets it doesn't, and with its two inputs read by each
-/// other's cells it doesn't.
+/// its cell; and registers take the netlist's next registers at a clock edge, or 0 in reset. So the runs of a module that
+/// means an accepted netlist are the netlist's. A small module means its circuit, and runs as that does. With its two
+/// outputs assigned from each other's nets it doesn't mean it, and with its two inputs read by each other's cells neither.
 pub fn meaning()
     ensures texts { TextsMean }
+    ensures runs { RunsAreMeant }
     ensures caller { CallerIsMeant }
+    ensures caller_runs { CallerRuns }
+    ensures caller_waits { CallerWaits }
     ensures outputs { SwappedOutputsMeanOther }
     ensures inputs { SwappedInputsMeanOther }
 {}
