@@ -34,6 +34,15 @@ EveryChoiceKeepsPace =
     → CanBeLaid p root → (HasCycle (laid keep (plan_of p) root).cells → ⊥) → IsSlim (plan_of p) → RealisesDone (plan_of p) m
     → KeepsPaceAlways p.weight (program_of (plan_of p) m) (laid keep (plan_of p) root)
 
+-- So it is of a plan that realises a module, whose imports are ground and whose result is a command or an expression: each choice of
+-- the registers between its parts gives a netlist that keeps pace with the module's program, where it has no combinational cycle.
+abbrev pub EveryChoiceOfModule : Type 0
+EveryChoiceOfModule =
+    (keep : Keep) (p : SeenPlan) (root : Word) (m : Term)
+    → RealisesModule (plan_of p) m → AllGround (plan_of p).imports → IsDone (plan_of p).outcome → CanBeLaid p root
+    → (HasCycle (laid keep (plan_of p) root).cells → ⊥)
+    → KeepsPaceAlways p.weight (program_of (plan_of p) m) (laid keep (plan_of p) root)
+
 -- what ports a plan has: its imports have different names and ground types, and its result is a command or an expression
 pub record HasOpenPorts (p : Plan) : Type 0 where
   pub names : NamesDiffer p.imports

@@ -1,7 +1,7 @@
 // What the circuits of plans that realise programs do. Each theorem is the contract of a function that does nothing.
 
 ghost use Rattle.gos_tool.specs.circuits.Complete.{LinkIsNotRejected, EmptyIsNoBuild};
-ghost use Rattle.gos_tool.specs.circuits.Paced.{EveryChoiceKeepsPace, LinkedCircuitsKeepPace, ModuleCircuitsKeepPace, OpenCircuitsKeepPace};
+ghost use Rattle.gos_tool.specs.circuits.Paced.{EveryChoiceKeepsPace, EveryChoiceOfModule, LinkedCircuitsKeepPace, ModuleCircuitsKeepPace, OpenCircuitsKeepPace};
 ghost use Rattle.gos_tool.specs.circuits.SmallPaced.{CallHasPorts, FunctionHasNone};
 
 use gos_expand::cycles_are_lists;
@@ -11,12 +11,15 @@ use gos_linked::laws::linked::linked_modules;
 use gos_supplies::laws::ports::ports;
 
 /// The netlist of a slim plan keeps pace with each program that the plan realises, whichever directions of joints keep their
-/// registers, where it has no combinational cycle: so does what `expand_with` gives for any choice.
+/// registers, where it has no combinational cycle: so does what `expand_with` gives for any choice. So it is with the program
+/// of a module that the plan realises.
 pub fn every_choice()
-    ensures { EveryChoiceKeepsPace }
+    ensures done { EveryChoiceKeepsPace }
+    ensures module { EveryChoiceOfModule }
 {
     cycles_are_lists();
     keeps_pace();
+    ports();
 }
 
 /// The circuit of a slim plan keeps pace with each term that the plan realises with any supplies, where its imports have

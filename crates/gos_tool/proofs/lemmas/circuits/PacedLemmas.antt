@@ -3,11 +3,12 @@
 use Rattle.std.proofs.Common.{subst}
 use Rattle.gos_model.specs.Moves.{Program}
 use Rattle.gos_pace.specs.Pace.{KeepsPaceAlways}
+use Rattle.gos_plan.specs.Seen.{plan_of}
 use Rattle.gos_supplies.specs.ports.Ports.{OpenIsDone}
 use Rattle.gos_linked.specs.linked.Linked.{linked_program}
 use Rattle.gos_linked.specs.linked.Modules.{LinkedIsModule, LinkedIsDone}
 use Rattle.gos_tool.proofs.lemmas.circuits.WidthLemmas.{imports_are_wide}
-use Rattle.gos_tool.specs.circuits.Paced.{OpenCircuitsKeepPace, ModuleCircuitsKeepPace, LinkedCircuitsKeepPace}
+use Rattle.gos_tool.specs.circuits.Paced.{EveryChoiceKeepsPace, EveryChoiceOfModule, OpenCircuitsKeepPace, ModuleCircuitsKeepPace, LinkedCircuitsKeepPace}
 
 pub open_circuits : OpenIsDone → OpenCircuitsKeepPace
 open_circuits law root p m net right slim ports any circuit =
@@ -17,6 +18,11 @@ pub module_circuits : OpenIsDone → ModuleCircuitsKeepPace
 module_circuits law root p m net realised ground done =
     open_circuits law root p m net realised.right realised.slim (record { names = realised.names; ground = ground; done = done })
     realised.open_imports
+
+pub choices_of_module : OpenIsDone → EveryChoiceKeepsPace → EveryChoiceOfModule
+choices_of_module law every keep p root m realised ground done can acyclic =
+    every keep p root m can acyclic realised.slim
+    (law (plan_of p) m realised.right ground realised.import_widths realised.names realised.open_imports done).1
 
 pub linked_circuits : LinkedIsModule → LinkedIsDone → LinkedCircuitsKeepPace
 linked_circuits is_module is_done b ps whole programs root net l each all circuit =
