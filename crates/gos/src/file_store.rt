@@ -1,8 +1,8 @@
 // The store of the program: the files of the system.
 //
 // It tells no contents. What a file of the system holds, and what another process does to it, is not ours to say.
-ghost use Rattle.std.specs.Prelude.{◌≡◌, ◌≤◌, length, take, IfOk, IfSome};
-ghost use Rattle.std.specs.Io.KnownBytes.{Consumes};
+ghost use Rattle.std.specs.Prelude.{◌≡◌, ◌≤◌, length, take, IfOk, IfSome, OnOk};
+ghost use Rattle.std.specs.Io.KnownBytes.{Appends, Consumes};
 ghost use Rattle.gos_outside.specs.FileName.{IsFileName};
 ghost use Rattle.gos_outside.specs.Faults.{NoFault};
 
@@ -66,7 +66,7 @@ impl<'a, R: Files> Store for FileStore<'a, R> {
 
     ghost contents = { λ _. None };
 
-    ghost asked = { λ _. 0 };
+    ghost calls = { λ _. None };
 
     fn read_up_to(&mut self, alloc: Global, name: &[u8], n: usize) -> Result<Vec<u8>, StoreFault> {
         match read_file(self.rt, alloc, name, n) {
@@ -160,6 +160,14 @@ fn write_file<R: Files>(rt: &R, name: &[u8], bytes: &[u8]) -> io::Result<()>
     requires { IsFileName name.now }
 {
     let mut file = fs::create(rt, path_of(name))?;
+    write_whole(&mut file, bytes)
+}
+
+/// Writes all of these bytes to a writer, in however many pieces, and no others.
+fn write_whole<F: Write>(file: &mut F, bytes: &[u8]) -> io::Result<()>
+    // To a writer whose bytes are known.
+    ensures { OnOk result (Appends (F.contents file.old) (F.contents file.new) bytes.now) }
+{
     file.write_all(bytes)
 }
 
@@ -193,6 +201,23 @@ mod tests {
         fs::remove_file(&rt, "file_store_test.txt")?;
         assert!(rt; matches!(store.read_up_to(alloc, name, 100), Err(StoreFault::Failed)));
         assert_eq!(rt; store.faults(), 1);
+        Ok(())
+    }
+
+    #[test]
+    fn a_million_bytes_are_written_and_read_back(rt: HostRuntime) -> Result<(), Fail> {
+        let alloc = rt.alloc();
+        let mut store = FileStore::new(&rt);
+        let name = b"file_store_long.txt".as_slice();
+        assert!(rt; is_file_name(name));
+        let mut text = Vec::new(alloc);
+        for number in 0..1_000_000u32 {
+            text.push((number % 251) as u8)?;
+        }
+        store.write(alloc, name, text.as_slice())?;
+        let whole = store.read_up_to(alloc, name, 1_000_001)?;
+        assert!(rt; whole.as_slice() == text.as_slice());
+        fs::remove_file(&rt, "file_store_long.txt")?;
         Ok(())
     }
 

@@ -50,6 +50,8 @@ impl<'a, R: Print> Sink for OutSink<'a, R> {
 
     ghost written = { λ _. None };
 
+    ghost writes = { λ _. None };
+
     fn write(&mut self, _alloc: Global, bytes: &[u8]) -> Result<(), SinkFault> {
         match self.rt.write_all(bytes) {
             Ok(()) => Ok(()),

@@ -22,7 +22,7 @@ use Rattle.gos_pulse.specs.Silence.{silence, NothingIsARun, SilenceIsARun}
 use Rattle.gos_pulse.specs.inner.Board.{AreInRange}
 use Rattle.gos_pulse.specs.inner.Lines.{is_off}
 use Rattle.gos_pulse.proofs.LineLemmas.{no_labels}
-use Rattle.gos_pulse.proofs.RangeLemmas.{none_in_range}
+use Rattle.gos_pulse.proofs.RangeLemmas.{none_are_clean}
 use Rattle.gos_pulse.proofs.ShownLemmas.{inputs_are}
 
 -- no pulse of an event
@@ -133,7 +133,7 @@ keeps_silent net vs v none keeps parts flattens =
     (keeps_more (taken_by net.ports) [] (flat more.front) more.out (keeps more.front more.flattens) (outputs_ordered (outputs net v) more.out (outputs_filtered (pulses net.ports v)) more.outs))
 
 range_more : (net : Netlist) (ins : List Numbers) → InputsInRange net ins → InputsInRange net (ins ++ silence ∷ [])
-range_more net [] range = (none_in_range net, tt)
+range_more net [] range = ((none_are_clean net).0, tt)
 range_more net (i ∷ ins) range = (range.0, range_more net ins range.1)
 
 -- a run with a cycle more, and the settling of that
