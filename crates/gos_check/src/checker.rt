@@ -86,6 +86,7 @@ fn light(weight: u64) -> Result<u64, CheckFault>
     ensures same { IfOk result (λ found. found ≡ weight) }
     ensures within { IfOk result (λ found. found ≤ 8192) }
     ensures err { IfErr result (λ e. Refuses (light weight) e) }
+    ensures sure { IfErr result (λ e. e ≡ CheckFault.TooHeavy weight) }
 {
     if weight > MAX_WEIGHT {
         Err(CheckFault::TooHeavy { weight })

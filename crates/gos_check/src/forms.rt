@@ -14,7 +14,7 @@ use gos_types::{Ty, copy};
 use std::alloc::Global;
 
 /// A form of one part, of terms and of nodes. Which it is among those of `Numbered` says `one_form`, in `specs/Nodes.antt`.
-#[derive(Debug, Clone, Copy)]
+#[derive(Clone, Copy)]
 pub enum OnePart {
     /// `fst pair`
     First,
@@ -27,7 +27,7 @@ pub enum OnePart {
 }
 
 /// A form of two parts, of terms and of nodes; `two_form` says the same of these.
-#[derive(Debug, Clone, Copy)]
+#[derive(Clone, Copy)]
 pub enum TwoParts {
     /// A function, and its argument.
     Application,

@@ -9,7 +9,7 @@ use gos_lex::{Name, Span};
 use std::alloc::Global;
 
 // A name, and the place where it is used first.
-#[derive(Debug, Drop)]
+#[derive(Drop)]
 pub(crate) struct Occurrence {
     pub name: Name,
     pub span: Span,

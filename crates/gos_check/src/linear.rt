@@ -8,7 +8,7 @@ use gos_types::Ty;
 use std::marker::Model;
 
 /// Two parts of a node use one name: what has the number `of` outside has `left` in one part, and `right` in another.
-#[derive(Debug, Clone, Copy, PartialEq, Eq)]
+#[derive(Clone, Copy, PartialEq, Eq)]
 pub struct Split {
     pub of: u32,
     pub left: u32,
@@ -17,7 +17,7 @@ pub struct Split {
 
 /// A term with its type. Its splits hold in its parts, in their order.
 #[cycle(node)]
-#[derive(Debug, Drop)]
+#[derive(Drop)]
 pub struct Node {
     pub ty: Ty,
     pub splits: Vec<Split>,
@@ -27,7 +27,7 @@ pub struct Node {
 /// What a term is. Names are numbers: an import's is its place in the list of imports, and each binder, and each side of a
 /// split, has one of its own.
 #[cycle(node)]
-#[derive(Debug, Drop)]
+#[derive(Drop)]
 pub enum NodeForm {
     /// `skip`
     Skip,
@@ -76,7 +76,7 @@ pub enum NodeForm {
 }
 
 /// A module that `check` accepted. What is known of it is `IsChecked`, in `specs/Checked.antt`.
-#[derive(Debug, Drop)]
+#[derive(Drop)]
 pub struct Linear {
     pub(crate) weight: u64,
     pub(crate) imports: Vec<Import>,

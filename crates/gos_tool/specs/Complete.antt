@@ -1,4 +1,4 @@
--- Which files are right for a command. It is done then, where no call fails and memory suffices.
+-- Which files are right for a command. It is done then, where no call fails, or memory runs out.
 --
 -- Read first: Command, Run; Complete of circuits, of simulate and of build.
 use Rattle.std.specs.Prelude.{ℕ, List, Option, Some}
