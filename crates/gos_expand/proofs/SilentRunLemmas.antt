@@ -49,6 +49,7 @@ module _ (keep : Keep) (p : Plan) (root : List ℕ) (fits : IsSound p) (differ :
       pulses j h c there =
           let net = (arrives_nets keep p IsAny (any_arriving keep) fits (PartEnd j h) c there).of_pulse in
           bits_shown (laid_cells keep p) acyclic widths regs i v run.0 bits clean.0.0 (arrives keep p (PartEnd j h)).pulse net.0 net.1 net.2
+
       given : (e : End) (c : Contact) → IsPortEnd e → contact_at p e ≡ Some c → 0 < bits_put (Some c) → IsSilent v (leaves keep p e)
       given = given_silent keep p root v regs i fits run.0 clean.0.1
 

@@ -115,8 +115,13 @@ fn is_asked(
 ) -> Result<bool, AllocError> {
     let words = words_of(alloc, words)?;
     let files = SureStore::new(held(alloc, files)?);
-    let mut store = RecordingStore { files, calls: Vec::new(alloc) };
-    let mut out = CountingSink { lines: Vec::new(alloc) };
+    let mut store = RecordingStore {
+        files,
+        calls: Vec::new(alloc),
+    };
+    let mut out = CountingSink {
+        lines: Vec::new(alloc),
+    };
     let ended = run(alloc, words.as_slice(), &mut store, &mut out).code();
     let asked = calls_of(alloc, &store)?;
     Ok(ended == code && out.lines.len() == 1 && asked.as_slice() == calls.as_bytes())
@@ -124,21 +129,42 @@ fn is_asked(
 
 const SOURCE: (&[u8], &[u8]) = (b"a.gos", b"import c : com export c ; c : com\n");
 
-const BUILD: (&[u8], &[u8]) =
-    (b"b.txt", b"gosbuild 1\ninst a a.gos a.obj\nroot a\nnet a.net\nverilog a.v\npulses in.pls\ntrace out.trc\n");
+const BUILD: (&[u8], &[u8]) = (
+    b"b.txt",
+    b"gosbuild 1\ninst a a.gos a.obj\nroot a\nnet a.net\nverilog a.v\npulses in.pls\ntrace out.trc\n",
+);
 
 const PULSES: (&[u8], &[u8]) = (b"in.pls", b"cycles 9\n");
 
 #[test]
-fn each_file_is_read_by_one_call_of_its_limit_and_one_byte_more(rt: HostRuntime) -> Result<(), Fail> {
+fn each_file_is_read_by_one_call_of_its_limit_and_one_byte_more(
+    rt: HostRuntime,
+) -> Result<(), Fail> {
     let alloc = rt.alloc();
     let source = "r a.gos 65537\n";
     assert!(rt; is_asked(alloc, &["check", "a.gos"], &[SOURCE], 0, source)?);
-    let built = "r b.txt 65537\nr a.gos 65537\nw a.obj\nw a.net\nw a.v\nr in.pls 16777217\nw out.trc\n";
-    assert!(rt; is_asked(alloc, &["build", "b.txt"], &[SOURCE, BUILD, PULSES], 0, built)?);
+    let built =
+        "r b.txt 65537\nr a.gos 65537\nw a.obj\nw a.net\nw a.v\nr in.pls 16777217\nw out.trc\n";
+    assert!(rt;
+        is_asked(
+            alloc,
+            &["build", "b.txt"],
+            &[SOURCE, BUILD, PULSES],
+            0,
+            built
+        )?
+    );
     let linked = "r b.txt 65537\nr a.obj 4194305\n";
     assert!(rt; is_asked(alloc, &["link", "b.txt"], &[BUILD], 2, linked)?);
     let simulated = "r a.net 268435457\n";
-    assert!(rt; is_asked(alloc, &["sim", "a.net", "in.pls", "out.trc"], &[PULSES], 2, simulated)?);
+    assert!(rt;
+        is_asked(
+            alloc,
+            &["sim", "a.net", "in.pls", "out.trc"],
+            &[PULSES],
+            2,
+            simulated
+        )?
+    );
     Ok(())
 }

@@ -31,8 +31,11 @@ pub at_files : {T : Type 0} (levels : ℕ) (r : Result T Stop) (stop : Stop) (fi
     → AreMade (stop_ending stop) (first_calls levels) old new → CallsOfDemo (ending r) files levels old new
 at_files levels (Ok x) stop files old new same made = absurd same
 at_files levels (Err e) stop files old new same made =
-    inl (not_whole e, ends_before (stop_ending e) (first_calls levels) (read_build_file (build_file levels).name ∷ []) old new (not_whole e)
-    (subst (λ (s : Stop). AreMade (stop_ending s) (first_calls levels) old new) (sym same) made))
+    inl (
+      not_whole e,
+      ends_before (stop_ending e) (first_calls levels) (read_build_file (build_file levels).name ∷ []) old new (not_whole e)
+          (subst (λ (s : Stop). AreMade (stop_ending s) (first_calls levels) old new) (sym same) made),
+    )
 
 -- all are written
 pub then_builds : (levels : ℕ) (end : Ending) (files between : Option Files) (old mid new : Calls) → between ≡ with_files (demo_files levels) files
@@ -40,5 +43,8 @@ pub then_builds : (levels : ℕ) (end : Ending) (files between : Option Files) (
 then_builds levels end files between old mid new same made (inl (cut, read)) =
     inl (cut, goes_on end (first_calls levels) (read_build_file (build_file levels).name ∷ []) old mid new made read)
 then_builds levels end files between old mid new same made (inr (b, says, calls)) =
-    inr (b, subst (λ (told : Option Files). ReadsAs told (build_file levels).name b) same says,
-    goes_on end (first_calls levels) (read_build_file (build_file levels).name ∷ build_calls b) old mid new made calls)
+    inr (
+      b,
+      subst (λ (told : Option Files). ReadsAs told (build_file levels).name b) same says,
+      goes_on end (first_calls levels) (read_build_file (build_file levels).name ∷ build_calls b) old mid new made calls,
+    )
