@@ -1,5 +1,6 @@
 mod SaidLemmas
 mod ItemLemmas
+mod FirstLemmas
 mod NumberLemmas
 mod TopLemmas
 mod BindLemmas

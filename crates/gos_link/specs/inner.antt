@@ -5,4 +5,5 @@ pub mod Opens
 pub mod Ports
 pub mod Wired
 pub mod Judged
+pub mod Firsts
 pub mod Counts

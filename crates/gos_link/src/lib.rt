@@ -7,6 +7,7 @@
 mod build;
 mod fault;
 mod file_name;
+mod instances;
 mod joining;
 mod laws;
 mod linking;

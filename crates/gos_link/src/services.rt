@@ -2,11 +2,12 @@
 
 ghost use Rattle.std.specs.Prelude.{◌≡◌, ◌≢◌, ◌<◌, [], ℕ, List, Some, None, length, map, IfOk, IfErr};
 ghost use Rattle.gos_types.specs.Types.{type_of};
-ghost use Rattle.gos_link.specs.Services.{instance_named, import_named, Means, first_bound, first_used, IsRightBind, IsWrongBind, BindsOn};
+ghost use Rattle.gos_link.specs.Services.{import_named, Means, first_bound, first_used, IsRightBind, IsWrongBind, BindsOn};
 ghost use Rattle.gos_link.specs.inner.Tops.{AreTops, moved, top_at};
 
-use crate::build::{Bind, Instance};
+use crate::build::Bind;
 use crate::fault::LinkFault;
+use crate::instances::Instances;
 use gos_lex::Name;
 use gos_plan::{Plan, PlanImport};
 use gos_types::{NoMemory, Ty, copy, same};
@@ -19,15 +20,6 @@ pub struct Service {
     pub user: usize,
     pub import: usize,
     pub giver: usize,
-}
-
-// The number of the first instance of this name.
-pub(crate) fn instance_named(instances: &[Instance], name: &[u8]) -> Option<usize>
-    ensures { result ≡ instance_named instances.now name.now }
-{
-    instances
-        .iter()
-        .position(|instance| instance.name.bytes() == name)
 }
 
 // The number of the first import of this name.
@@ -82,7 +74,7 @@ fn type_differs(alloc: Global, line: u64, want: &Ty, got: &Ty) -> Result<LinkFau
 // What a line means.
 fn meaning(
     alloc: Global,
-    instances: &[Instance],
+    instances: &Instances,
     plans: &[Plan],
     bind: &Bind,
 ) -> Result<Service, LinkFault>
@@ -90,10 +82,10 @@ fn meaning(
     ensures means { IfOk result (Means instances.now plans.now bind.now) }
     ensures fault { IfErr result (λ fault. fault ≢ LinkFault.NoMemory → (before : List Service) → IsWrongBind instances.now plans.now before bind.now fault) }
 {
-    let Some(user) = instance_named(instances, bind.user.bytes()) else {
+    let Some(user) = instances.number(&bind.user) else {
         return Err(no_instance(alloc, bind.line, &bind.user));
     };
-    let Some(giver) = instance_named(instances, bind.giver.bytes()) else {
+    let Some(giver) = instances.number(&bind.giver) else {
         return Err(no_instance(alloc, bind.line, &bind.giver));
     };
     let imports = plans[user].imports();
@@ -140,7 +132,7 @@ pub(crate) fn first_used(services: &[Service], giver: usize) -> Option<u64>
 // What a line means, if it is right after these services.
 fn service_of(
     alloc: Global,
-    instances: &[Instance],
+    instances: &Instances,
     plans: &[Plan],
     bind: &Bind,
     before: &[Service],
@@ -203,7 +195,7 @@ fn tops_after(alloc: Global, tops: &[usize], service: Service) -> Result<Vec<usi
 /// What the lines of a build mean, if all are right, and else why the first that isn't is wrong.
 pub(crate) fn services_of(
     alloc: Global,
-    instances: &[Instance],
+    instances: &Instances,
     plans: &[Plan],
     binds: &[Bind],
 ) -> Result<Vec<Service>, LinkFault>

@@ -10,8 +10,9 @@ ghost use Rattle.gos_link.specs.inner.Ports.{port_seen, AllDiffer, IsOpenTwice};
 
 use crate::build::{Build, Instance};
 use crate::fault::LinkFault;
+use crate::instances::Instances;
 use crate::opens::Open;
-use crate::services::{Service, copy_name, first_used, instance_named, no_instance};
+use crate::services::{Service, copy_name, first_used, no_instance};
 use gos_lex::{Name, NameTable};
 use gos_plan::PlanImport;
 use gos_types::{NoMemory, Ty, is_ground};
@@ -48,12 +49,14 @@ fn first_unplaced<'a>(
 pub(crate) fn root_of(
     alloc: Global,
     build: &Build,
+    instances: &Instances,
     services: &[Service],
 ) -> Result<usize, LinkFault>
+    requires { instances.now ≡ build.now.instances.items }
     ensures placed { IfOk result (IsPlaced build.now services.now) }
     ensures fault { IfErr result (λ fault. fault ≢ LinkFault.NoMemory → (ps : List SeenPlan) → IsWrongWhole build.now ps services.now fault) }
 {
-    let Some(root) = instance_named(&build.instances, build.root.bytes()) else {
+    let Some(root) = instances.number(&build.root) else {
         return Err(no_instance(alloc, build.root_line, &build.root));
     };
     match first_unplaced(&build.instances, services, root) {

@@ -8,17 +8,17 @@ use Rattle.gos_link.proofs.linking.link.Goals as goal
 
 pub judge-requires-clause-counted : goal.judge-requires-clause-counted
 judge-requires-clause-counted c =
-    let binds = rw (c.deref.ensures.value, c.deref-2.ensures.value) at c.in_ok-services.ensures.right in
+    let binds = rw (c.in_ok-instances.ensures, c.deref.ensures.value, c.deref-2.ensures.value) at c.in_ok-services.ensures.right in
     rw c.deref-3.ensures.value (counted c.args.build.now c.args.plans.now c.in_ok-services.services.items c.requires binds)
 
 pub join-requires-clause-counted : goal.join-requires-clause-counted
 join-requires-clause-counted c =
-    let binds = rw (c.deref.ensures.value, c.deref-2.ensures.value) at c.in_ok-services.ensures.right in
+    let binds = rw (c.in_ok-instances.ensures, c.deref.ensures.value, c.deref-2.ensures.value) at c.in_ok-services.ensures.right in
     rw c.deref-4.ensures.value (counted c.args.build.now c.args.plans.now c.in_ok-services.services.items c.requires binds)
 
 pub returns-in_err-check_size-clause-fault : goal.returns-in_err-check_size-clause-fault
 returns-in_err-check_size-clause-fault c =
-    let binds = rw (c.deref.ensures.value, c.deref-2.ensures.value) at c.in_ok-services.ensures.right in
+    let binds = rw (c.in_ok-instances.ensures, c.deref.ensures.value, c.deref-2.ensures.value) at c.in_ok-services.ensures.right in
     let light = rw c.deref-3.ensures.value at c.in_ok-root.ensures.light in
     let joining = rw c.deref-4.ensures.value at c.in_ok-plan.ensures.joining in
     let p = err_from_is_err_and c.from_residual-in_err-check_size.result c.from_residual-in_err-check_size.ensures.1 in
