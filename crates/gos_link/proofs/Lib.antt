@@ -1,6 +1,7 @@
 mod SaidLemmas
 mod ItemLemmas
 mod FirstLemmas
+mod GivenLemmas
 mod NumberLemmas
 mod TopLemmas
 mod BindLemmas

@@ -6,4 +6,5 @@ pub mod Ports
 pub mod Wired
 pub mod Judged
 pub mod Firsts
+pub mod Given
 pub mod Counts

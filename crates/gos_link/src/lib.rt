@@ -10,6 +10,7 @@ mod file_name;
 mod instances;
 mod joining;
 mod laws;
+mod lines;
 mod linking;
 mod noting;
 mod opens;
