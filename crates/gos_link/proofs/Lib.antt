@@ -8,6 +8,7 @@ mod BindLemmas
 mod PortLemmas
 mod PlaceLemmas
 mod ServiceLemmas
+mod ServedLemmas
 mod PointLemmas
 mod PathLemmas
 mod WalkLemmas

@@ -8,3 +8,4 @@ pub mod Judged
 pub mod Firsts
 pub mod Given
 pub mod Counts
+pub mod Served

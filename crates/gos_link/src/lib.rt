@@ -16,6 +16,7 @@ mod noting;
 mod opens;
 mod reading;
 mod said;
+mod served;
 mod services;
 mod size;
 mod ties;

@@ -14,7 +14,8 @@ use crate::fault::LinkFault;
 use crate::instances::Instances;
 use crate::joining::{join, weight_of};
 use crate::opens::opens_of;
-use crate::services::{Service, services_of};
+use crate::served::Services;
+use crate::services::services_of;
 use crate::size::check_size;
 use crate::whole::{check_imports, check_names, check_result, check_weight, root_of};
 use gos_plan::Plan;
@@ -25,7 +26,7 @@ fn check_ports(
     alloc: Global,
     build: &Build,
     plans: &[Plan],
-    services: &[Service],
+    services: &Services,
     root: usize,
 ) -> Result<(), LinkFault>
     requires { IsJudged build.now plans.now services.now root }
@@ -44,7 +45,7 @@ fn judge(
     build: &Build,
     instances: &Instances,
     plans: &[Plan],
-    services: &[Service],
+    services: &Services,
 ) -> Result<usize, LinkFault>
     requires instances { instances.now ≡ build.now.instances.items }
     requires plans { length plans.now ≡ length build.now.instances.items }

@@ -12,7 +12,8 @@ use crate::build::{Build, Instance};
 use crate::fault::LinkFault;
 use crate::instances::Instances;
 use crate::opens::Open;
-use crate::services::{Service, copy_name, first_used, no_instance};
+use crate::served::Services;
+use crate::services::{copy_name, no_instance};
 use gos_lex::{Name, NameTable};
 use gos_plan::PlanImport;
 use gos_types::{NoMemory, Ty, is_ground};
@@ -22,16 +23,16 @@ use std::alloc::Global;
 const MAX_WEIGHT: u64 = 32_768;
 
 // Whether an instance is the root or serves an import.
-fn is_placed(root: usize, services: &[Service], number: usize) -> bool
+fn is_placed(root: usize, services: &Services, number: usize) -> bool
     ensures { result ≡ is_placed root services.now number }
 {
-    number == root || first_used(services, number).is_some()
+    number == root || services.first_used(number).is_some()
 }
 
 // The name of the first instance that isn't the root and serves no import.
 fn first_unplaced<'a>(
     instances: &'a [Instance],
-    services: &[Service],
+    services: &Services,
     root: usize,
 ) -> Option<&'a Name>
     ensures { MatchOption result (first_unplaced root services.now 0 instances.now ≡ None)
@@ -50,7 +51,7 @@ pub(crate) fn root_of(
     alloc: Global,
     build: &Build,
     instances: &Instances,
-    services: &[Service],
+    services: &Services,
 ) -> Result<usize, LinkFault>
     requires { instances.now ≡ build.now.instances.items }
     ensures placed { IfOk result (IsPlaced build.now services.now) }
