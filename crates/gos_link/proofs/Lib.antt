@@ -1,11 +1,14 @@
 mod SaidLemmas
 mod ItemLemmas
+mod FirstLemmas
+mod GivenLemmas
 mod NumberLemmas
 mod TopLemmas
 mod BindLemmas
 mod PortLemmas
 mod PlaceLemmas
 mod ServiceLemmas
+mod ServedLemmas
 mod PointLemmas
 mod PathLemmas
 mod WalkLemmas

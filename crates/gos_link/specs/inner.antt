@@ -5,4 +5,7 @@ pub mod Opens
 pub mod Ports
 pub mod Wired
 pub mod Judged
+pub mod Firsts
+pub mod Given
 pub mod Counts
+pub mod Served

@@ -10,7 +10,8 @@ ghost use Rattle.gos_link.specs.inner.Counts.{AreCounted, IsCountable};
 ghost use Rattle.gos_link.specs.inner.Wired.{AreJoinable};
 
 use crate::opens::{Open, opens_of};
-use crate::services::{Service, copy_name};
+use crate::served::Services;
+use crate::services::copy_name;
 use crate::ties::ties_of;
 use gos_plan::{Kind, Plan, PlanImport};
 use gos_ties::tied_plan;
@@ -111,7 +112,7 @@ fn outcome_of(plan: &Plan) -> &Ty
 pub(crate) fn join(
     alloc: Global,
     plans: &[Plan],
-    services: &[Service],
+    services: &Services,
     root: usize,
 ) -> Result<Plan, NoMemory>
     requires joinable { AreJoinable (map plan_of plans.now) services.now root }

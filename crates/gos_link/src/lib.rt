@@ -7,13 +7,16 @@
 mod build;
 mod fault;
 mod file_name;
+mod instances;
 mod joining;
 mod laws;
+mod lines;
 mod linking;
 mod noting;
 mod opens;
 mod reading;
 mod said;
+mod served;
 mod services;
 mod size;
 mod ties;

@@ -11,9 +11,11 @@ ghost use Rattle.gos_link.specs.inner.Wired.{AreJoinable};
 
 use crate::build::Build;
 use crate::fault::LinkFault;
+use crate::instances::Instances;
 use crate::joining::{join, weight_of};
 use crate::opens::opens_of;
-use crate::services::{Service, services_of};
+use crate::served::Services;
+use crate::services::services_of;
 use crate::size::check_size;
 use crate::whole::{check_imports, check_names, check_result, check_weight, root_of};
 use gos_plan::Plan;
@@ -24,7 +26,7 @@ fn check_ports(
     alloc: Global,
     build: &Build,
     plans: &[Plan],
-    services: &[Service],
+    services: &Services,
     root: usize,
 ) -> Result<(), LinkFault>
     requires { IsJudged build.now plans.now services.now root }
@@ -41,9 +43,11 @@ fn check_ports(
 fn judge(
     alloc: Global,
     build: &Build,
+    instances: &Instances,
     plans: &[Plan],
-    services: &[Service],
+    services: &Services,
 ) -> Result<usize, LinkFault>
+    requires instances { instances.now ≡ build.now.instances.items }
     requires plans { length plans.now ≡ length build.now.instances.items }
     requires binds { BindsOn build.now.instances.items plans.now [] build.now.binds.items services.now None }
     requires tops { (tops : List ℕ) × AreTops (length build.now.instances.items) services.now tops }
@@ -52,7 +56,7 @@ fn judge(
     ensures joinable { IfOk result (AreJoinable (map plan_of plans.now) services.now) }
     ensures fault { IfErr result (λ fault. fault ≢ LinkFault.NoMemory → IsWrongWhole build.now plans.now services.now fault) }
 {
-    let root = root_of(alloc, build, services)?;
+    let root = root_of(alloc, build, instances, services)?;
     check_ports(alloc, build, plans, services, root)?;
     check_weight(weight_of(plans))?;
     Ok(root)
@@ -69,8 +73,9 @@ pub fn link(alloc: Global, build: &Build, plans: &[Plan]) -> Result<Plan, LinkFa
     ensures linked { IfOk result (λ plan. IsLinked build.now plans.now (plan_of plan)) }
     ensures fault { IfErr result (λ fault. fault ≢ LinkFault.NoMemory → IsUnlinked build.now plans.now fault) }
 {
-    let services = services_of(alloc, &build.instances, plans, &build.binds)?;
-    let root = judge(alloc, build, plans, &services)?;
+    let instances = Instances::new(alloc, &build.instances)?;
+    let services = services_of(alloc, &instances, plans, &build.binds)?;
+    let root = judge(alloc, build, &instances, plans, &services)?;
     let plan = join(alloc, plans, &services, root)?;
     check_size(alloc, &plan)?;
     Ok(plan)

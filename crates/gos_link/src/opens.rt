@@ -1,11 +1,11 @@
 // The imports that no other instance serves.
 
-ghost use Rattle.std.specs.Prelude.{◌≡◌, ◌<◌, ◌++◌, [], All, length, map, IfOk, IfSome, OnOk};
+ghost use Rattle.std.specs.Prelude.{◌≡◌, ◌++◌, [], All, map, IfOk, OnOk};
 ghost use Rattle.gos_plan.specs.Ranges.{IsSmall};
 ghost use Rattle.gos_plan.specs.Seen.{import_of, plan_of};
-ghost use Rattle.gos_link.specs.inner.Opens.{if_open, open_seen, opens_in, opens_among, number_bound};
+ghost use Rattle.gos_link.specs.inner.Opens.{if_open, open_seen, opens_in, opens_among};
 
-use crate::services::Service;
+use crate::served::Services;
 use gos_plan::{Plan, PlanImport};
 use gos_types::NoMemory;
 use std::alloc::Global;
@@ -16,16 +16,6 @@ pub(crate) struct Open<'a> {
     pub plan: usize,
     pub number: usize,
     pub import: &'a PlanImport,
-}
-
-// The number of the first service of an import.
-pub(crate) fn number_bound(services: &[Service], user: usize, import: usize) -> Option<usize>
-    ensures number { result ≡ number_bound services.now user import }
-    ensures within { IfSome result (λ t. t < length services.now) }
-{
-    services
-        .iter()
-        .position(|service| service.user == user && service.import == import)
 }
 
 // Adds an import, unless a service has this number for it.
@@ -48,7 +38,7 @@ fn add_open<'a>(
 // Adds the imports of a plan that stay.
 fn add_opens<'a>(
     opens: &mut Vec<Open<'a>>,
-    services: &[Service],
+    services: &Services,
     plan: usize,
     imports: &'a [PlanImport],
 ) -> Result<(), NoMemory>
@@ -57,7 +47,7 @@ fn add_opens<'a>(
         → All (λ o. IsSmall o.import.now.ty) opens.new.items) }
 {
     for (number, import) in imports.iter().enumerate() {
-        let bound = number_bound(services, plan, number);
+        let bound = services.number_bound(plan, number);
         let open = Open {
             plan,
             number,
@@ -81,7 +71,7 @@ fn imports_of(plan: &Plan) -> &[PlanImport]
 pub(crate) fn opens_of<'a>(
     alloc: Global,
     plans: &'a [Plan],
-    services: &[Service],
+    services: &Services,
 ) -> Result<Vec<Open<'a>>, NoMemory>
     ensures seen { IfOk result (λ opens. map open_seen opens.items ≡ opens_among services.now 0 (map plan_of plans.now)) }
     ensures small { IfOk result (λ opens. All (λ o. IsSmall o.import.now.ty) opens.items) }

@@ -10,9 +10,6 @@ ghost use Rattle.gos_link.specs.BuildFile.{
   IsFirstWrong,
   IsRightAfter,
   ReadsOn,
-  has_instance,
-  has_source,
-  has_no_source,
   is_new,
   is_new_file,
   is_new_source,
@@ -22,6 +19,8 @@ ghost use Rattle.gos_link.specs.BuildFile.{
 
 use crate::build::Build;
 use crate::fault::LinkFault;
+use crate::file_name::FileName;
+use crate::lines::Lines;
 use crate::noting::build_of;
 use crate::said::{Item, Said, said_by};
 use gos_lex::{count_lines, next_line};
@@ -60,16 +59,16 @@ fn read_items(alloc: Global, text: &[u8], own: &[u8]) -> Result<Vec<Item>, LinkF
     ensures fault { IfErr result (λ fault. fault ≢ LinkFault.NoMemory → (line : ℕ) × (fault ≡ LinkFault.Form line)
         × IsWrongAt own.now (statements_from 1 (lines text.now)) line) }
 {
-    let mut items = Vec::new(alloc);
+    let mut lines = Lines::new(alloc);
     let mut line = 1;
     let mut rest = text;
     loop {
         match next_line(alloc, rest)? {
-            None => return Ok(items),
+            None => return Ok(lines.into_items()),
             Some(next) => {
                 line += next.skipped;
-                match read_item(alloc, next.words.as_slice(), own, &items)? {
-                    Some(said) => items.push(Item { line, said })?,
+                match read_item(alloc, next.words.as_slice(), own, &lines)? {
+                    Some(said) => lines = lines.with(alloc, Item { line, said })?,
                     None => return Err(LinkFault::Form { line }),
                 }
                 line += 1;
@@ -84,7 +83,7 @@ fn read_item(
     alloc: Global,
     words: &[&[u8]],
     own: &[u8],
-    before: &[Item],
+    before: &Lines,
 ) -> Result<Option<Said>, NoMemory>
     ensures { IfOk result (λ found. MatchOption found ((said : Said)
         → IsRightAfter own.now before.now (map (λ word. word.now) words.now) said → ⊥)
@@ -97,10 +96,10 @@ fn read_item(
 }
 
 // Whether what a line says is right after the lines before it.
-fn is_right(said: &Said, own: &[u8], before: &[Item]) -> bool
+fn is_right(said: &Said, own: &[u8], before: &Lines) -> bool
     ensures { result ≡ (may_follow (last_sort 0 before.now) (sort_of said.now) && is_new own.now before.now said.now) }
 {
-    may_follow(last_sort(before), said.sort()) && is_new(said, own, before)
+    may_follow(last_sort(before.items()), said.sort()) && is_new(said, own, before)
 }
 
 // The sort of the last of these lines.
@@ -123,7 +122,7 @@ fn may_follow(last: u64, next: u64) -> bool
 }
 
 // Whether what a line says is new after the lines before it.
-fn is_new(said: &Said, own: &[u8], before: &[Item]) -> bool
+fn is_new(said: &Said, own: &[u8], before: &Lines) -> bool
     ensures { result ≡ is_new own.now before.now said.now }
 {
     match said {
@@ -132,47 +131,26 @@ fn is_new(said: &Said, own: &[u8], before: &[Item]) -> bool
             source,
             object,
         } => {
-            !has_instance(before, name.bytes())
-                && is_new_source(source.bytes(), own, before)
-                && is_new_file(object.bytes(), own, before)
+            !before.has_instance(name)
+                && is_new_source(source, own, before)
+                && is_new_file(object, own, before)
                 && object.bytes() != source.bytes()
         }
-        Said::File { name, .. } => is_new_file(name.bytes(), own, before),
+        Said::File { name, .. } => is_new_file(name, own, before),
         _ => true,
     }
 }
 
 // Whether no line before names this file, and it isn't the build file.
-fn is_new_file(file: &[u8], own: &[u8], before: &[Item]) -> bool
+fn is_new_file(file: &FileName, own: &[u8], before: &Lines) -> bool
     ensures { result ≡ is_new_file own.now before.now file.now }
 {
-    file != own && !has_source(before, file) && !has_no_source(before, file)
+    file.bytes() != own && !before.has_source(file) && !before.has_no_source(file)
 }
 
 // Whether no line before names this file as something else than a source, and it isn't the build file.
-fn is_new_source(file: &[u8], own: &[u8], before: &[Item]) -> bool
+fn is_new_source(file: &FileName, own: &[u8], before: &Lines) -> bool
     ensures { result ≡ is_new_source own.now before.now file.now }
 {
-    file != own && !has_no_source(before, file)
-}
-
-// Whether one of the lines gives the name to an instance.
-fn has_instance(items: &[Item], name: &[u8]) -> bool
-    ensures { result ≡ has_instance items.now name.now }
-{
-    items.iter().any(|item| item.said.is_instance(name))
-}
-
-// Whether one of the lines names the file as a source.
-fn has_source(items: &[Item], file: &[u8]) -> bool
-    ensures { result ≡ has_source items.now file.now }
-{
-    items.iter().any(|item| item.said.is_source(file))
-}
-
-// Whether one of the lines names the file as something else than a source.
-fn has_no_source(items: &[Item], file: &[u8]) -> bool
-    ensures { result ≡ has_no_source items.now file.now }
-{
-    items.iter().any(|item| item.said.is_no_source(file))
+    file.bytes() != own && !before.has_no_source(file)
 }

@@ -3,7 +3,7 @@
 ghost use Rattle.std.specs.Prelude.{◌≡◌, ◌∷◌, [], IfOk, OnErr, MatchOption, map, codes};
 ghost use Rattle.gos_lex.specs.Names.{IsName};
 ghost use Rattle.gos_lex.specs.Lines.{Word};
-ghost use Rattle.gos_link.specs.BuildFile.{keyword, Says, sort_of, sort_of_file, is_instance, is_source, is_no_source};
+ghost use Rattle.gos_link.specs.BuildFile.{keyword, Says, sort_of, sort_of_file};
 
 use crate::file_name::FileName;
 use gos_lex::{Name, is_name};
@@ -261,37 +261,6 @@ impl Said {
             Said::Bind { .. } => 3,
             Said::Root { .. } => 4,
             Said::File { role, .. } => role.sort(),
-        }
-    }
-
-    /// Whether this gives the name to an instance.
-    pub fn is_instance(&self, name: &[u8]) -> bool
-        ensures { result ≡ is_instance name.now self.now }
-    {
-        match self {
-            Said::Inst { name: other, .. } => other.bytes() == name,
-            _ => false,
-        }
-    }
-
-    /// Whether this names the file as a source.
-    pub fn is_source(&self, file: &[u8]) -> bool
-        ensures { result ≡ is_source file.now self.now }
-    {
-        match self {
-            Said::Inst { source, .. } => source.bytes() == file,
-            _ => false,
-        }
-    }
-
-    /// Whether this names the file as something else than a source.
-    pub fn is_no_source(&self, file: &[u8]) -> bool
-        ensures { result ≡ is_no_source file.now self.now }
-    {
-        match self {
-            Said::Inst { object, .. } => object.bytes() == file,
-            Said::File { name, .. } => name.bytes() == file,
-            _ => false,
         }
     }
 }

@@ -2,11 +2,13 @@
 
 ghost use Rattle.std.specs.Prelude.{◌≡◌, ◌≢◌, ◌<◌, [], ℕ, List, Some, None, length, map, IfOk, IfErr};
 ghost use Rattle.gos_types.specs.Types.{type_of};
-ghost use Rattle.gos_link.specs.Services.{instance_named, import_named, Means, first_bound, first_used, IsRightBind, IsWrongBind, BindsOn};
+ghost use Rattle.gos_link.specs.Services.{import_named, Means, IsRightBind, IsWrongBind, BindsOn};
 ghost use Rattle.gos_link.specs.inner.Tops.{AreTops, moved, top_at};
 
-use crate::build::{Bind, Instance};
+use crate::build::Bind;
 use crate::fault::LinkFault;
+use crate::instances::Instances;
+use crate::served::Services;
 use gos_lex::Name;
 use gos_plan::{Plan, PlanImport};
 use gos_types::{NoMemory, Ty, copy, same};
@@ -19,15 +21,6 @@ pub struct Service {
     pub user: usize,
     pub import: usize,
     pub giver: usize,
-}
-
-// The number of the first instance of this name.
-pub(crate) fn instance_named(instances: &[Instance], name: &[u8]) -> Option<usize>
-    ensures { result ≡ instance_named instances.now name.now }
-{
-    instances
-        .iter()
-        .position(|instance| instance.name.bytes() == name)
 }
 
 // The number of the first import of this name.
@@ -82,7 +75,7 @@ fn type_differs(alloc: Global, line: u64, want: &Ty, got: &Ty) -> Result<LinkFau
 // What a line means.
 fn meaning(
     alloc: Global,
-    instances: &[Instance],
+    instances: &Instances,
     plans: &[Plan],
     bind: &Bind,
 ) -> Result<Service, LinkFault>
@@ -90,10 +83,10 @@ fn meaning(
     ensures means { IfOk result (Means instances.now plans.now bind.now) }
     ensures fault { IfErr result (λ fault. fault ≢ LinkFault.NoMemory → (before : List Service) → IsWrongBind instances.now plans.now before bind.now fault) }
 {
-    let Some(user) = instance_named(instances, bind.user.bytes()) else {
+    let Some(user) = instances.number(&bind.user) else {
         return Err(no_instance(alloc, bind.line, &bind.user));
     };
-    let Some(giver) = instance_named(instances, bind.giver.bytes()) else {
+    let Some(giver) = instances.number(&bind.giver) else {
         return Err(no_instance(alloc, bind.line, &bind.giver));
     };
     let imports = plans[user].imports();
@@ -113,37 +106,13 @@ fn meaning(
     })
 }
 
-// The line of the first service of an import.
-fn first_bound(services: &[Service], user: usize, import: usize) -> Option<u64>
-    ensures { result ≡ first_bound services.now user import }
-{
-    for service in services {
-        if service.user == user && service.import == import {
-            return Some(service.line);
-        }
-    }
-    None
-}
-
-// The line of the first service by a giver.
-pub(crate) fn first_used(services: &[Service], giver: usize) -> Option<u64>
-    ensures { result ≡ first_used services.now giver }
-{
-    for service in services {
-        if service.giver == giver {
-            return Some(service.line);
-        }
-    }
-    None
-}
-
 // What a line means, if it is right after these services.
 fn service_of(
     alloc: Global,
-    instances: &[Instance],
+    instances: &Instances,
     plans: &[Plan],
     bind: &Bind,
-    before: &[Service],
+    before: &Services,
     tops: &[usize],
 ) -> Result<Service, LinkFault>
     requires plans { length plans.now ≡ length instances.now }
@@ -153,10 +122,10 @@ fn service_of(
 {
     let service = meaning(alloc, instances, plans, bind)?;
     let second = service.line;
-    if let Some(first) = first_bound(before, service.user, service.import) {
+    if let Some(first) = before.first_bound(service.user, service.import) {
         return Err(LinkFault::BoundTwice { first, second });
     }
-    if let Some(first) = first_used(before, service.giver) {
+    if let Some(first) = before.first_used(service.giver) {
         return Err(LinkFault::UsedTwice { first, second });
     }
     if top_at(tops, service.user) == service.giver {
@@ -203,23 +172,23 @@ fn tops_after(alloc: Global, tops: &[usize], service: Service) -> Result<Vec<usi
 /// What the lines of a build mean, if all are right, and else why the first that isn't is wrong.
 pub(crate) fn services_of(
     alloc: Global,
-    instances: &[Instance],
+    instances: &Instances,
     plans: &[Plan],
     binds: &[Bind],
-) -> Result<Vec<Service>, LinkFault>
+) -> Result<Services, LinkFault>
     requires { length plans.now ≡ length instances.now }
-    ensures right { IfOk result (λ services. BindsOn instances.now plans.now [] binds.now services.items None) }
-    ensures tops { IfOk result (λ services. (tops : List ℕ) × AreTops (length instances.now) services.items tops) }
+    ensures right { IfOk result (λ services. BindsOn instances.now plans.now [] binds.now services None) }
+    ensures tops { IfOk result (λ services. (tops : List ℕ) × AreTops (length instances.now) services tops) }
     ensures fault { IfErr result (λ fault. fault ≢ LinkFault.NoMemory
         → (services : List Service) × BindsOn instances.now plans.now [] binds.now services (Some fault)) }
 {
-    let mut services = Vec::new(alloc);
+    let mut services = Services::new(alloc);
     let mut tops = own_tops(alloc, instances.len())?;
     for bind in binds {
         match service_of(alloc, instances, plans, bind, &services, &tops) {
             Ok(service) => {
                 tops = tops_after(alloc, &tops, service)?;
-                services.push(service)?;
+                services = services.with(service)?;
             }
             Err(fault) => return Err(fault),
         }

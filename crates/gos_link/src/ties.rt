@@ -2,23 +2,15 @@
 
 ghost use Rattle.std.specs.Prelude.{◌≡◌, ◌<◌, ◌≤◌, ◌++◌, ◌+◌, ◌^◌, ℕ, List, length, map, IfOk, IfSome, OnOk};
 ghost use Rattle.gos_plan.specs.Seen.{end_of, joint_of, plan_of};
+ghost use Rattle.gos_link.specs.declared.services.Service.{Service};
 ghost use Rattle.gos_link.specs.inner.Counts.{AreCounted, HasRoom, HaveRoom};
-ghost use Rattle.gos_link.specs.inner.Wired.{number_used, place_bound, place_of_result, point_in, rank, stays, ties_from, ties_in, AllRight, PlacesAre};
+ghost use Rattle.gos_link.specs.inner.Wired.{place_bound, place_of_result, point_in, rank, stays, ties_from, ties_in, AllRight, PlacesAre};
 
-use crate::opens::number_bound;
-use crate::services::Service;
+use crate::served::Services;
 use gos_plan::{End, Joint, Plan};
 use gos_ties::{Place, Point, Tie};
 use gos_types::NoMemory;
 use std::alloc::Global;
-
-// The number of the first service by a giver.
-fn number_used(services: &[Service], giver: usize) -> Option<usize>
-    ensures number { result ≡ number_used services.now giver }
-    ensures within { IfSome result (λ t. t < length services.now) }
-{
-    services.iter().position(|service| service.giver == giver)
-}
 
 // The place of an import: that of its service, or its own among the imports that stay.
 fn place_of_import(bound: Option<usize>, stay: u32) -> Place
@@ -32,7 +24,7 @@ fn place_of_import(bound: Option<usize>, stay: u32) -> Place
 }
 
 // The place of a plan's result: that of the whole, or that of the service by its instance.
-fn place_of_result(services: &[Service], root: usize, plan: usize) -> Place
+fn place_of_result(services: &Services, root: usize, plan: usize) -> Place
     requires services { length services.now < 2 ^ 32 }
     requires plan { plan < 2 ^ 32 }
     ensures { result ≡ place_of_result services.now root plan }
@@ -40,7 +32,7 @@ fn place_of_result(services: &[Service], root: usize, plan: usize) -> Place
     if plan == root {
         return Place::Result;
     }
-    match number_used(services, plan) {
+    match services.number_used(plan) {
         Some(number) => Place::Node(number as u32),
         None => Place::Number(plan as u32),
     }
@@ -69,7 +61,7 @@ struct Places {
 // The places of n imports of a plan, where so many imports of the plans before stay.
 fn places_of(
     alloc: Global,
-    services: &[Service],
+    services: &Services,
     plan: usize,
     n: usize,
     from: u32,
@@ -84,7 +76,7 @@ fn places_of(
     let mut each = Vec::new(alloc);
     let mut stay = from;
     for number in 0..n {
-        let bound = number_bound(services, plan, number);
+        let bound = services.number_bound(plan, number);
         each.push(place_of_import(bound, stay))?;
         stay += stays(bound);
     }
@@ -137,7 +129,7 @@ fn add_ties(
 pub(crate) fn ties_of(
     alloc: Global,
     plans: &[Plan],
-    services: &[Service],
+    services: &Services,
     root: usize,
 ) -> Result<Vec<Tie>, NoMemory>
     requires { AreCounted (map plan_of plans.now) services.now }

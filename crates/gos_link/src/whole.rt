@@ -10,8 +10,10 @@ ghost use Rattle.gos_link.specs.inner.Ports.{port_seen, AllDiffer, IsOpenTwice};
 
 use crate::build::{Build, Instance};
 use crate::fault::LinkFault;
+use crate::instances::Instances;
 use crate::opens::Open;
-use crate::services::{Service, copy_name, first_used, instance_named, no_instance};
+use crate::served::Services;
+use crate::services::{copy_name, no_instance};
 use gos_lex::{Name, NameTable};
 use gos_plan::PlanImport;
 use gos_types::{NoMemory, Ty, is_ground};
@@ -21,16 +23,16 @@ use std::alloc::Global;
 const MAX_WEIGHT: u64 = 32_768;
 
 // Whether an instance is the root or serves an import.
-fn is_placed(root: usize, services: &[Service], number: usize) -> bool
+fn is_placed(root: usize, services: &Services, number: usize) -> bool
     ensures { result ≡ is_placed root services.now number }
 {
-    number == root || first_used(services, number).is_some()
+    number == root || services.first_used(number).is_some()
 }
 
 // The name of the first instance that isn't the root and serves no import.
 fn first_unplaced<'a>(
     instances: &'a [Instance],
-    services: &[Service],
+    services: &Services,
     root: usize,
 ) -> Option<&'a Name>
     ensures { MatchOption result (first_unplaced root services.now 0 instances.now ≡ None)
@@ -48,12 +50,14 @@ fn first_unplaced<'a>(
 pub(crate) fn root_of(
     alloc: Global,
     build: &Build,
-    services: &[Service],
+    instances: &Instances,
+    services: &Services,
 ) -> Result<usize, LinkFault>
+    requires { instances.now ≡ build.now.instances.items }
     ensures placed { IfOk result (IsPlaced build.now services.now) }
     ensures fault { IfErr result (λ fault. fault ≢ LinkFault.NoMemory → (ps : List SeenPlan) → IsWrongWhole build.now ps services.now fault) }
 {
-    let Some(root) = instance_named(&build.instances, build.root.bytes()) else {
+    let Some(root) = instances.number(&build.root) else {
         return Err(no_instance(alloc, build.root_line, &build.root));
     };
     match first_unplaced(&build.instances, services, root) {

@@ -6,5 +6,5 @@ use Rattle.gos_link.proofs.services.services_of.Given as goal
 -- whatever the lines that are left mean, all lines mean the services so far and then that
 abbrev pub invariant-loop-bind : goal.invariant-loop-bind
 invariant-loop-bind l =
-    MeansSoFar l.instances l.plans l.binds l.services.items (drop l.bind-index l.binds)
-    × AreTops (length l.instances) l.services.items l.tops.items
+    MeansSoFar l.instances l.plans l.binds l.services (drop l.bind-index l.binds)
+    × AreTops (length l.instances) l.services l.tops.items
