@@ -3,7 +3,7 @@
 ghost use Rattle.std.specs.Prelude.{◌≡◌, ◌+◌, ◌≤◌, ◌<◌, ◌^◌, ◌∷◌, [], take, length, IfOk, IfErr, IfSome, OnOk, IsErrOf, Err};
 ghost use Rattle.gos_outside.specs.FileName.{IsFileName};
 ghost use Rattle.gos_outside.specs.Files.{bytes_at, with_file, SameBut};
-ghost use Rattle.gos_outside.specs.Faults.{ReadFault, WriteFault, Rose};
+ghost use Rattle.gos_outside.specs.Faults.{ReadFault, WriteFault, CountsFaults};
 ghost use Rattle.gos_outside.specs.Calls.{Read, Write, AreMade};
 ghost use Rattle.gos_command.specs.Files.{IsReadWhole};
 ghost use Rattle.gos_command.specs.Ends.{IfStopped, ending};
@@ -26,10 +26,8 @@ pub fn read_file<S: Store>(
     ensures one_more { IfOk result (λ bytes. length bytes.items ≤ limit + 1) }
     ensures calls { AreMade (ending result) (Read name.now (limit + 1) ∷ []) (S.calls store.old) (S.calls store.new) }
     ensures rejects_nothing { IfErr result (λ stop. IfStopped stop (λ fault line. ⊥)) }
-    ensures failed_only { IsErrOf result Stop.StoreFailed → Rose (S.faults store.old) (S.faults store.new) }
+    ensures counts { CountsFaults (IsErrOf result Stop.StoreFailed) (S.faults store.old) (S.faults store.new) }
     ensures failed_call { IsErrOf result Stop.StoreFailed → S.last_fault store.new ≡ ReadFault name.now }
-    ensures same_count { (¬ (IsErrOf result Stop.StoreFailed)) → S.faults store.new ≡ S.faults store.old }
-    ensures never_falls { S.faults store.old ≤ S.faults store.new }
     ensures same_files { S.contents store.new ≡ S.contents store.old }
 {
     read_start(alloc, store, name, limit + 1)
@@ -48,10 +46,8 @@ pub fn read_start<S: Store>(
     ensures limit { IfOk result (λ bytes. length bytes.items ≤ count) }
     ensures calls { AreMade (ending result) (Read name.now count ∷ []) (S.calls store.old) (S.calls store.new) }
     ensures rejects_nothing { IfErr result (λ stop. IfStopped stop (λ fault line. ⊥)) }
-    ensures failed_only { IsErrOf result Stop.StoreFailed → Rose (S.faults store.old) (S.faults store.new) }
+    ensures counts { CountsFaults (IsErrOf result Stop.StoreFailed) (S.faults store.old) (S.faults store.new) }
     ensures failed_call { IsErrOf result Stop.StoreFailed → S.last_fault store.new ≡ ReadFault name.now }
-    ensures same_count { (¬ (IsErrOf result Stop.StoreFailed)) → S.faults store.new ≡ S.faults store.old }
-    ensures never_falls { S.faults store.old ≤ S.faults store.new }
     ensures same_files { S.contents store.new ≡ S.contents store.old }
 {
     match store.read_up_to(alloc, name, count) {
@@ -72,10 +68,8 @@ pub fn write_file<S: Store>(
     ensures written { OnOk result (S.contents store.new ≡ with_file name.now bytes.now (S.contents store.old)) }
     ensures calls { AreMade (ending result) (Write name.now ∷ []) (S.calls store.old) (S.calls store.new) }
     ensures rejects_nothing { IfErr result (λ stop. IfStopped stop (λ fault line. ⊥)) }
-    ensures failed_only { IsErrOf result Stop.StoreFailed → Rose (S.faults store.old) (S.faults store.new) }
+    ensures counts { CountsFaults (IsErrOf result Stop.StoreFailed) (S.faults store.old) (S.faults store.new) }
     ensures failed_call { IsErrOf result Stop.StoreFailed → S.last_fault store.new ≡ WriteFault name.now }
-    ensures same_count { (¬ (IsErrOf result Stop.StoreFailed)) → S.faults store.new ≡ S.faults store.old }
-    ensures never_falls { S.faults store.old ≤ S.faults store.new }
     ensures others { SameBut name.now (S.contents store.old) (S.contents store.new) }
     ensures no_memory { IsErrOf result Stop.NoMemory → S.contents store.new ≡ S.contents store.old }
 {

@@ -13,7 +13,7 @@ ghost use Rattle.std.specs.Prelude.{◌≡◌, ℕ, ◌≤◌, List, [], ◌∷�
 ghost use Rattle.std.specs.Prelude.{IfOk, IfSome, OnOk, IsErrOf};
 ghost use Rattle.gos_outside.specs.FileName.{IsFileName};
 ghost use Rattle.gos_outside.specs.Files.{Files, bytes_at, with_file, SameBut};
-ghost use Rattle.gos_outside.specs.Faults.{LastFault, ReadFault, WriteFault, Rose};
+ghost use Rattle.gos_outside.specs.Faults.{LastFault, ReadFault, WriteFault, CountsFaults};
 ghost use Rattle.gos_outside.specs.Calls.{Calls, Read, Write, ending, AreMade};
 ghost use Rattle.gos_outside.specs.Written.{appended, AppendsPrefix, one_more, AtMostOneMore};
 
@@ -81,15 +81,11 @@ pub trait Store {
         ensures calls { AreMade (ending result) (Read name.now n ∷ []) (calls self.old) (calls self.new) }
 
         // A failed call is counted, and is the last fault from then on. Any other changes neither.
-        ensures failed_only { IsErrOf result StoreFault.Failed →
-            Rose (faults self.old) (faults self.new) }
+        ensures counts { CountsFaults (IsErrOf result StoreFault.Failed) (faults self.old) (faults self.new) }
         ensures failed_call { IsErrOf result StoreFault.Failed →
             last_fault self.new ≡ ReadFault name.now }
-        ensures same_count { (¬ (IsErrOf result StoreFault.Failed)) →
-            faults self.new ≡ faults self.old }
         ensures same_fault { (¬ (IsErrOf result StoreFault.Failed)) →
             last_fault self.new ≡ last_fault self.old }
-        ensures never_falls { faults self.old ≤ faults self.new }
 
         ensures same_files { contents self.new ≡ contents self.old };
 
@@ -101,15 +97,11 @@ pub trait Store {
         ensures calls { AreMade (ending result) (Write name.now ∷ []) (calls self.old) (calls self.new) }
 
         // A failed call is counted, and is the last fault from then on. Any other changes neither.
-        ensures failed_only { IsErrOf result StoreFault.Failed →
-            Rose (faults self.old) (faults self.new) }
+        ensures counts { CountsFaults (IsErrOf result StoreFault.Failed) (faults self.old) (faults self.new) }
         ensures failed_call { IsErrOf result StoreFault.Failed →
             last_fault self.new ≡ WriteFault name.now }
-        ensures same_count { (¬ (IsErrOf result StoreFault.Failed)) →
-            faults self.new ≡ faults self.old }
         ensures same_fault { (¬ (IsErrOf result StoreFault.Failed)) →
             last_fault self.new ≡ last_fault self.old }
-        ensures never_falls { faults self.old ≤ faults self.new }
 
         // Whatever the answer, no other file is touched.
         ensures others { SameBut name.now (contents self.old) (contents self.new) }
@@ -138,11 +130,7 @@ pub trait Sink {
         ensures few_writes { AtMostOneMore (writes self.old) (writes self.new) }
 
         // A failed call is counted, and no other is.
-        ensures failed_only { IsErrOf result SinkFault.Failed →
-            Rose (faults self.old) (faults self.new) }
-        ensures same_count { (¬ (IsErrOf result SinkFault.Failed)) →
-            faults self.new ≡ faults self.old }
-        ensures never_falls { faults self.old ≤ faults self.new };
+        ensures counts { CountsFaults (IsErrOf result SinkFault.Failed) (faults self.old) (faults self.new) };
 }
 
 impl From<AllocError> for StoreFault {

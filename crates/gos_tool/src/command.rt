@@ -1,7 +1,7 @@
 // The commands and their words.
 
 ghost use Rattle.std.specs.Prelude.{◌≡◌, ◌≢◌, ◌∷◌, [], IfOk, IfErr, IsErrOf, MatchOption, codes};
-ghost use Rattle.gos_outside.specs.Faults.{Rose};
+ghost use Rattle.gos_outside.specs.Faults.{CountsFaults};
 ghost use Rattle.gos_command.specs.Ends.{IfStopped, IsTold, ending};
 ghost use Rattle.gos_tool.specs.Command.{texts, Means, MeanNothing};
 ghost use Rattle.gos_tool.specs.inner.CommandSeen.{meant, HasFileNames};
@@ -148,10 +148,9 @@ pub fn run_command<S: Store>(
     ensures tells { IfOk result (Tells (meant command.entry)) }
     ensures kind { IfErr result (StopsFor (kinds_of (meant command.entry))) }
     ensures calls { CallsOf (meant command.entry) (ending result) (S.contents store.old) (S.calls store.old) (S.calls store.new) }
-    ensures failed_only { IsErrOf result Stop.StoreFailed → Rose (S.faults store.old) (S.faults store.new) }
+    ensures counts { CountsFaults (IsErrOf result Stop.StoreFailed) (S.faults store.old) (S.faults store.new) }
     ensures failed_call { IsErrOf result Stop.StoreFailed →
         IsCall (meant command.entry) (S.contents store.old) (S.contents store.new) (S.last_fault store.new) }
-    ensures same_count { (¬ (IsErrOf result Stop.StoreFailed)) → S.faults store.new ≡ S.faults store.old }
     ensures memory_files { IsErrOf result Stop.NoMemory → IsCutShort (meant command.entry) (S.contents store.old) (S.contents store.new) }
     ensures others { KeepsOthers (meant command.entry) (S.contents store.old) (S.contents store.new) }
 {

@@ -4,7 +4,7 @@
 ghost use Rattle.std.specs.Prelude.{◌≡◌, ◌≤◌, ◌∷◌, [], length, IfOk, IfErr, IfSome, IsErrOf};
 ghost use Rattle.gos_outside.specs.FileName.{IsFileName};
 ghost use Rattle.gos_outside.specs.OtherFiles.{OthersSame};
-ghost use Rattle.gos_outside.specs.Faults.{Rose};
+ghost use Rattle.gos_outside.specs.Faults.{CountsFaults};
 ghost use Rattle.gos_outside.specs.Calls.{AreMade};
 ghost use Rattle.gos_link.specs.Linked.{IsLinkable};
 ghost use Rattle.gos_command.specs.Ends.{IfStopped, IsTold, ending};
@@ -43,13 +43,11 @@ pub fn build<S: Store>(alloc: Global, own: &[u8], store: &mut S) -> Result<Repor
     ensures calls { GoesByBuild (ending result) [] (S.contents store.old) own.now build_calls (S.calls store.old) (S.calls store.new) }
 
     // The store is blamed only for a call that failed, and that the command makes then.
-    ensures failed_only { IsErrOf result Stop.StoreFailed → Rose (S.faults store.old) (S.faults store.new) }
+    ensures counts { CountsFaults (IsErrOf result Stop.StoreFailed) (S.faults store.old) (S.faults store.new) }
     ensures failed_call { IsErrOf result Stop.StoreFailed → IfSome (S.contents store.old) (λ files.
         IsBuildCall files (S.contents store.new) own.now (S.last_fault store.new)) }
-    ensures same_count { (¬ (IsErrOf result Stop.StoreFailed)) → S.faults store.new ≡ S.faults store.old }
     ensures memory_files { IsErrOf result Stop.NoMemory → IfSome (S.contents store.old) (λ files.
         IsBuildCutShort files (S.contents store.new) own.now) }
-    ensures never_falls { S.faults store.old ≤ S.faults store.new }
     ensures others { KeepsUnnamed own.now (S.contents store.old) (S.contents store.new) }
 {
     paced_modules();
@@ -76,13 +74,11 @@ fn build_instances<S: Store>(
     ensures tells { IfOk result TellsBoth }
     ensures kind { IfErr result (StopsFor (OfSource ∷ OfBuild ∷ OfPulses ∷ [])) }
     ensures calls { AreMade (ending result) (build_calls build.now) (S.calls store.old) (S.calls store.new) }
-    ensures failed_only { IsErrOf result Stop.StoreFailed → Rose (S.faults store.old) (S.faults store.new) }
+    ensures counts { CountsFaults (IsErrOf result Stop.StoreFailed) (S.faults store.old) (S.faults store.new) }
     ensures failed_call { IsErrOf result Stop.StoreFailed → IfSome (S.contents store.old) (λ files.
         IsInstancesCall files (S.contents store.new) build.now (S.last_fault store.new)) }
-    ensures same_count { (¬ (IsErrOf result Stop.StoreFailed)) → S.faults store.new ≡ S.faults store.old }
     ensures memory_files { IsErrOf result Stop.NoMemory → IfSome (S.contents store.old) (λ files.
         IsInstancesCutShort files (S.contents store.new) build.now) }
-    ensures never_falls { S.faults store.old ≤ S.faults store.new }
     ensures others { OthersSame (written_by build.now) (S.contents store.old) (S.contents store.new) }
 {
     let plans = compile_all(alloc, build.instances.as_slice(), store)?;
@@ -105,12 +101,10 @@ fn build_plans<S: Store>(
     ensures tells { IfOk result TellsBoth }
     ensures kind { IfErr result (StopsFor (OfBuild ∷ OfPulses ∷ [])) }
     ensures calls { AreMade (ending result) (plans_calls build.now) (S.calls store.old) (S.calls store.new) }
-    ensures failed_only { IsErrOf result Stop.StoreFailed → Rose (S.faults store.old) (S.faults store.new) }
+    ensures counts { CountsFaults (IsErrOf result Stop.StoreFailed) (S.faults store.old) (S.faults store.new) }
     ensures failed_call { IsErrOf result Stop.StoreFailed →
         IsPlansBuildCall (S.contents store.old) (S.contents store.new) build.now plans.now (S.last_fault store.new) }
-    ensures same_count { (¬ (IsErrOf result Stop.StoreFailed)) → S.faults store.new ≡ S.faults store.old }
     ensures memory_files { IsErrOf result Stop.NoMemory → IsPlansBuildCutShort (S.contents store.old) (S.contents store.new) build.now plans.now }
-    ensures never_falls { S.faults store.old ≤ S.faults store.new }
     ensures others { OthersSame (build.now.net ∷ build.now.verilog ∷ build.now.trace ∷ []) (S.contents store.old) (S.contents store.new) }
 {
     let linked = link_plans(alloc, own, build, plans, store)?;

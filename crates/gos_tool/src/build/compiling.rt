@@ -1,9 +1,9 @@
 // The sources of a build's instances are compiled, and their objects are written.
 
-ghost use Rattle.std.specs.Prelude.{◌≡◌, ◌≤◌, ◌∷◌, [], length, IfOk, IfErr, IfSome, IsErrOf};
+ghost use Rattle.std.specs.Prelude.{◌≡◌, ◌∷◌, [], length, IfOk, IfErr, IfSome, IsErrOf};
 ghost use Rattle.gos_outside.specs.Files.{SameBut, bytes_at, with_file};
 ghost use Rattle.gos_outside.specs.OtherFiles.{OthersSame};
-ghost use Rattle.gos_outside.specs.Faults.{Rose};
+ghost use Rattle.gos_outside.specs.Faults.{CountsFaults};
 ghost use Rattle.gos_outside.specs.Calls.{AreMade};
 ghost use Rattle.gos_syntax.specs.Modules.{SeenModule};
 ghost use Rattle.gos_plan.specs.Seen.{plan_of};
@@ -41,13 +41,11 @@ pub fn compile_all<S: Store>(
     ensures told { IfErr result (λ stop. IfStopped stop IsTold) }
     ensures kind { IfErr result (StopsFor (OfSource ∷ [])) }
     ensures calls { AreMade (ending result) (module_calls instances.now) (S.calls store.old) (S.calls store.new) }
-    ensures failed_only { IsErrOf result Stop.StoreFailed → Rose (S.faults store.old) (S.faults store.new) }
+    ensures counts { CountsFaults (IsErrOf result Stop.StoreFailed) (S.faults store.old) (S.faults store.new) }
     ensures failed_call { IsErrOf result Stop.StoreFailed → IfSome (S.contents store.old) (λ files.
         IsModuleCall files (S.contents store.new) instances.now (S.last_fault store.new)) }
-    ensures same_count { (¬ (IsErrOf result Stop.StoreFailed)) → S.faults store.new ≡ S.faults store.old }
     ensures memory_files { IsErrOf result Stop.NoMemory → IfSome (S.contents store.old) (λ files.
         SomeWritten files (S.contents store.new) instances.now) }
-    ensures never_falls { S.faults store.old ≤ S.faults store.new }
     ensures others { OthersSame (objects_of instances.now) (S.contents store.old) (S.contents store.new) }
 {
     let mut plans = Vec::new(alloc);
@@ -72,12 +70,10 @@ fn compile_one<S: Store>(alloc: Global, instance: &Instance, store: &mut S) -> R
     ensures rejected_files { IfErr result (λ stop. IfStopped stop (λ fault line. S.contents store.new ≡ S.contents store.old)) }
     ensures kind { IfErr result (StopsFor (OfSource ∷ [])) }
     ensures calls { AreMade (ending result) (compile_calls instance.now.source instance.now.object) (S.calls store.old) (S.calls store.new) }
-    ensures failed_only { IsErrOf result Stop.StoreFailed → Rose (S.faults store.old) (S.faults store.new) }
+    ensures counts { CountsFaults (IsErrOf result Stop.StoreFailed) (S.faults store.old) (S.faults store.new) }
     ensures failed_call { IsErrOf result Stop.StoreFailed → IsInstanceCall (S.contents store.old) (S.contents store.new) instance.now
         (IfSome (S.contents store.old) (λ files. (m : SeenModule) × SaysModule (bytes_at files instance.now.source) m)) (S.last_fault store.new) }
-    ensures same_count { (¬ (IsErrOf result Stop.StoreFailed)) → S.faults store.new ≡ S.faults store.old }
     ensures memory_files { IsErrOf result Stop.NoMemory → S.contents store.new ≡ S.contents store.old }
-    ensures never_falls { S.faults store.old ≤ S.faults store.new }
     ensures others { SameBut instance.now.object (S.contents store.old) (S.contents store.new) }
 {
     let linear = module_in(alloc, instance.source.bytes(), store)?;

@@ -3,7 +3,7 @@
 ghost use Rattle.std.specs.Prelude.{◌≡◌, ◌≤◌, ◌∷◌, [], ℕ, List, length, IfOk, IfErr, IfSome, IsErrOf};
 ghost use Rattle.gos_outside.specs.FileName.{IsFileName};
 ghost use Rattle.gos_outside.specs.Files.{bytes_at};
-ghost use Rattle.gos_outside.specs.Faults.{Rose, ReadFault};
+ghost use Rattle.gos_outside.specs.Faults.{CountsFaults, ReadFault};
 ghost use Rattle.gos_outside.specs.Calls.{AreMade};
 ghost use Rattle.gos_link.specs.BuildFile.{IsBuildFile};
 ghost use Rattle.gos_command.specs.Ends.{IfStopped, IsTold, ending};
@@ -32,10 +32,8 @@ pub fn build_in<S: Store>(alloc: Global, own: &[u8], store: &mut S) -> Result<Bu
     ensures told { IfErr result (λ stop. IfStopped stop IsTold) }
     ensures kind { IfErr result (StopsFor (OfBuild ∷ [])) }
     ensures calls { AreMade (ending result) (read_build_file own.now ∷ []) (S.calls store.old) (S.calls store.new) }
-    ensures failed_only { IsErrOf result Stop.StoreFailed → Rose (S.faults store.old) (S.faults store.new) }
+    ensures counts { CountsFaults (IsErrOf result Stop.StoreFailed) (S.faults store.old) (S.faults store.new) }
     ensures failed_call { IsErrOf result Stop.StoreFailed → S.last_fault store.new ≡ ReadFault own.now }
-    ensures same_count { (¬ (IsErrOf result Stop.StoreFailed)) → S.faults store.new ≡ S.faults store.old }
-    ensures never_falls { S.faults store.old ≤ S.faults store.new }
     ensures same_files { S.contents store.new ≡ S.contents store.old }
 {
     let text = read_file(alloc, store, own, BUILD_LIMIT)?;

@@ -3,7 +3,7 @@
 ghost use Rattle.std.specs.Prelude.{◌≡◌, ◌≤◌, ◌∷◌, [], length, IfOk, IfErr, IfSome, IsErrOf};
 ghost use Rattle.gos_outside.specs.FileName.{IsFileName};
 ghost use Rattle.gos_outside.specs.OtherFiles.{OthersSame};
-ghost use Rattle.gos_outside.specs.Faults.{Rose};
+ghost use Rattle.gos_outside.specs.Faults.{CountsFaults};
 ghost use Rattle.gos_outside.specs.Calls.{AreMade};
 ghost use Rattle.gos_command.specs.Ends.{IfStopped, IsTold, ending};
 ghost use Rattle.gos_tool.specs.Causes.{OfObject, OfBuild, StopsFor, TellsWeight};
@@ -38,12 +38,10 @@ pub fn link_build<S: Store>(alloc: Global, own: &[u8], store: &mut S) -> Result<
     ensures calls { GoesByBuild (ending result) [] (S.contents store.old) own.now link_calls (S.calls store.old) (S.calls store.new) }
 
     // The store is blamed only for a call that failed, and that the command makes then.
-    ensures failed_only { IsErrOf result Stop.StoreFailed → Rose (S.faults store.old) (S.faults store.new) }
+    ensures counts { CountsFaults (IsErrOf result Stop.StoreFailed) (S.faults store.old) (S.faults store.new) }
     ensures failed_call { IsErrOf result Stop.StoreFailed →
         IsLinkCall (S.contents store.old) (S.contents store.new) own.now (S.last_fault store.new) }
-    ensures same_count { (¬ (IsErrOf result Stop.StoreFailed)) → S.faults store.new ≡ S.faults store.old }
     ensures memory_files { IsErrOf result Stop.NoMemory → IsLinkCutShort (S.contents store.old) (S.contents store.new) own.now }
-    ensures never_falls { S.faults store.old ≤ S.faults store.new }
     ensures others { KeepsUnnamed own.now (S.contents store.old) (S.contents store.new) }
 {
     let build = build_in(alloc, own, store)?;
@@ -68,12 +66,10 @@ fn link_objects<S: Store>(
     ensures tells { IfOk result TellsWeight }
     ensures kind { IfErr result (StopsFor (OfObject ∷ OfBuild ∷ [])) }
     ensures calls { AreMade (ending result) (link_calls build.now) (S.calls store.old) (S.calls store.new) }
-    ensures failed_only { IsErrOf result Stop.StoreFailed → Rose (S.faults store.old) (S.faults store.new) }
+    ensures counts { CountsFaults (IsErrOf result Stop.StoreFailed) (S.faults store.old) (S.faults store.new) }
     ensures failed_call { IsErrOf result Stop.StoreFailed →
         IsWholeCall (S.contents store.old) (S.contents store.new) build.now (S.last_fault store.new) }
-    ensures same_count { (¬ (IsErrOf result Stop.StoreFailed)) → S.faults store.new ≡ S.faults store.old }
     ensures memory_files { IsErrOf result Stop.NoMemory → IsWholeCutShort (S.contents store.old) (S.contents store.new) build.now }
-    ensures never_falls { S.faults store.old ≤ S.faults store.new }
     ensures others { OthersSame (build.now.net ∷ build.now.verilog ∷ []) (S.contents store.old) (S.contents store.new) }
 {
     paced_circuits();

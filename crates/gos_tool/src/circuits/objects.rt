@@ -1,9 +1,9 @@
 // The object files of instances are read.
 
-ghost use Rattle.std.specs.Prelude.{◌≡◌, ◌≤◌, ◌∷◌, [], length, IfOk, IfErr, IfSome, IsErrOf};
+ghost use Rattle.std.specs.Prelude.{◌≡◌, ◌∷◌, [], length, IfOk, IfErr, IfSome, IsErrOf};
 ghost use Rattle.gos_outside.specs.FileName.{IsFileName};
 ghost use Rattle.gos_outside.specs.Files.{bytes_at};
-ghost use Rattle.gos_outside.specs.Faults.{Rose, ReadFault};
+ghost use Rattle.gos_outside.specs.Faults.{CountsFaults, ReadFault};
 ghost use Rattle.gos_outside.specs.Calls.{AreMade};
 ghost use Rattle.gos_plan.specs.Seen.{plan_of};
 ghost use Rattle.gos_plan.specs.ObjectFaults.{IsRead};
@@ -36,10 +36,8 @@ pub fn plans_in<S: Store>(
     ensures told { IfErr result (λ stop. IfStopped stop IsTold) }
     ensures kind { IfErr result (StopsFor (OfObject ∷ [])) }
     ensures calls { AreMade (ending result) (object_calls instances.now) (S.calls store.old) (S.calls store.new) }
-    ensures failed_only { IsErrOf result Stop.StoreFailed → Rose (S.faults store.old) (S.faults store.new) }
+    ensures counts { CountsFaults (IsErrOf result Stop.StoreFailed) (S.faults store.old) (S.faults store.new) }
     ensures failed_call { IsErrOf result Stop.StoreFailed → IsObjectCall (S.contents store.old) instances.now (S.last_fault store.new) }
-    ensures same_count { (¬ (IsErrOf result Stop.StoreFailed)) → S.faults store.new ≡ S.faults store.old }
-    ensures never_falls { S.faults store.old ≤ S.faults store.new }
     ensures same_files { S.contents store.new ≡ S.contents store.old }
 {
     let mut plans = Vec::new(alloc);
@@ -62,10 +60,8 @@ fn plan_in<S: Store>(alloc: Global, object: &[u8], store: &mut S) -> Result<Plan
     ensures told { IfErr result (λ stop. IfStopped stop IsTold) }
     ensures kind { IfErr result (StopsFor (OfObject ∷ [])) }
     ensures calls { AreMade (ending result) (read_call object.now ∷ []) (S.calls store.old) (S.calls store.new) }
-    ensures failed_only { IsErrOf result Stop.StoreFailed → Rose (S.faults store.old) (S.faults store.new) }
+    ensures counts { CountsFaults (IsErrOf result Stop.StoreFailed) (S.faults store.old) (S.faults store.new) }
     ensures failed_call { IsErrOf result Stop.StoreFailed → S.last_fault store.new ≡ ReadFault object.now }
-    ensures same_count { (¬ (IsErrOf result Stop.StoreFailed)) → S.faults store.new ≡ S.faults store.old }
-    ensures never_falls { S.faults store.old ≤ S.faults store.new }
     ensures same_files { S.contents store.new ≡ S.contents store.old }
 {
     let text = read_file(alloc, store, object, OBJECT_LIMIT)?;

@@ -1,9 +1,9 @@
 // The plans of a build are linked, and the circuit of the whole is written.
 
-ghost use Rattle.std.specs.Prelude.{◌≡◌, ◌≤◌, ◌∷◌, [], List, IfOk, IfErr, IsErrOf};
+ghost use Rattle.std.specs.Prelude.{◌≡◌, ◌∷◌, [], List, IfOk, IfErr, IsErrOf};
 ghost use Rattle.gos_outside.specs.FileName.{IsFileName};
 ghost use Rattle.gos_outside.specs.OtherFiles.{OthersSame};
-ghost use Rattle.gos_outside.specs.Faults.{Rose};
+ghost use Rattle.gos_outside.specs.Faults.{CountsFaults};
 ghost use Rattle.gos_outside.specs.Calls.{AreMade};
 ghost use Rattle.gos_plan.specs.Ranges.{AreInRange};
 ghost use Rattle.gos_plan.specs.Seen.{SeenPlan, plan_of};
@@ -50,13 +50,11 @@ pub fn link_plans<S: Store>(
     ensures rejected_files { IfErr result (λ stop. IfStopped stop (λ fault line. S.contents store.new ≡ S.contents store.old)) }
     ensures kind { IfErr result (StopsFor (OfBuild ∷ [])) }
     ensures calls { AreMade (ending result) (circuit_calls build.now) (S.calls store.old) (S.calls store.new) }
-    ensures failed_only { IsErrOf result Stop.StoreFailed → Rose (S.faults store.old) (S.faults store.new) }
+    ensures counts { CountsFaults (IsErrOf result Stop.StoreFailed) (S.faults store.old) (S.faults store.new) }
     ensures failed_call { IsErrOf result Stop.StoreFailed →
         IsPlansCall (S.contents store.old) (S.contents store.new) build.now plans.now (S.last_fault store.new) }
-    ensures same_count { (¬ (IsErrOf result Stop.StoreFailed)) → S.faults store.new ≡ S.faults store.old }
     ensures memory_files { IsErrOf result Stop.NoMemory →
         IsPlansCutShort (S.contents store.old) (S.contents store.new) build.now plans.now }
-    ensures never_falls { S.faults store.old ≤ S.faults store.new }
     ensures others { OthersSame (build.now.net ∷ build.now.verilog ∷ []) (S.contents store.old) (S.contents store.new) }
 {
     match link(alloc, build, plans) {
@@ -77,13 +75,11 @@ fn write_circuit<S: Store>(
     ensures weighs { IfOk result (λ linked. linked.weight ≡ whole.now.weight) }
     ensures rejects_nothing { IfErr result (λ stop. IfStopped stop (λ fault line. ⊥)) }
     ensures calls { AreMade (ending result) (circuit_calls build.now) (S.calls store.old) (S.calls store.new) }
-    ensures failed_only { IsErrOf result Stop.StoreFailed → Rose (S.faults store.old) (S.faults store.new) }
+    ensures counts { CountsFaults (IsErrOf result Stop.StoreFailed) (S.faults store.old) (S.faults store.new) }
     ensures failed_call { IsErrOf result Stop.StoreFailed →
         IsWriteCall (S.contents store.old) (S.contents store.new) build.now (plan_of whole.now) (S.last_fault store.new) }
-    ensures same_count { (¬ (IsErrOf result Stop.StoreFailed)) → S.faults store.new ≡ S.faults store.old }
     ensures memory_files { IsErrOf result Stop.NoMemory →
         IsWriteCutShort (S.contents store.old) (S.contents store.new) build.now (plan_of whole.now) }
-    ensures never_falls { S.faults store.old ≤ S.faults store.new }
     ensures others { OthersSame (build.now.net ∷ build.now.verilog ∷ []) (S.contents store.old) (S.contents store.new) }
 {
     is_in_range(whole);

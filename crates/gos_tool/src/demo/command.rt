@@ -1,8 +1,8 @@
 // The command `demo N`: the files of the demo are written, and then built.
 
-ghost use Rattle.std.specs.Prelude.{◌≡◌, ◌≤◌, ◌∷◌, [], None, IfOk, IfErr, IfSome, IsErrOf};
+ghost use Rattle.std.specs.Prelude.{◌≡◌, ◌∷◌, [], None, IfOk, IfErr, IfSome, IsErrOf};
 ghost use Rattle.gos_outside.specs.OtherFiles.{OthersSame};
-ghost use Rattle.gos_outside.specs.Faults.{Rose};
+ghost use Rattle.gos_outside.specs.Faults.{CountsFaults};
 ghost use Rattle.gos_command.specs.Ends.{IfStopped, IsTold, ending};
 ghost use Rattle.gos_tool.specs.Causes.{OfSource, OfBuild, OfPulses, StopsFor, TellsBoth};
 ghost use Rattle.gos_tool.specs.demo.DemoFiles.{IsLevelCount};
@@ -29,13 +29,11 @@ pub fn demo<S: Store>(alloc: Global, levels: u64, store: &mut S) -> Result<Repor
     ensures calls { CallsOfDemo (ending result) (S.contents store.old) levels (S.calls store.old) (S.calls store.new) }
 
     // The store is blamed only for a call that failed, and that the command makes then.
-    ensures failed_only { IsErrOf result Stop.StoreFailed → Rose (S.faults store.old) (S.faults store.new) }
+    ensures counts { CountsFaults (IsErrOf result Stop.StoreFailed) (S.faults store.old) (S.faults store.new) }
     ensures failed_call { IsErrOf result Stop.StoreFailed → IfSome (S.contents store.old) (λ files.
         IsDemoCall files (S.contents store.new) levels (S.last_fault store.new)) }
-    ensures same_count { (¬ (IsErrOf result Stop.StoreFailed)) → S.faults store.new ≡ S.faults store.old }
     ensures memory_files { IsErrOf result Stop.NoMemory → IfSome (S.contents store.old) (λ files.
         IsDemoCutShort files (S.contents store.new) levels) }
-    ensures never_falls { S.faults store.old ≤ S.faults store.new }
     ensures others { OthersSame (written_by levels) (S.contents store.old) (S.contents store.new) }
 {
     found_exactly();

@@ -1,9 +1,9 @@
 // The files of the demo, and how they are written.
 
-ghost use Rattle.std.specs.Prelude.{◌≡◌, ◌≤◌, ◌++◌, ◌∷◌, [], IfOk, IfErr, OnOk, IsErrOf};
+ghost use Rattle.std.specs.Prelude.{◌≡◌, ◌++◌, ◌∷◌, [], IfOk, IfErr, OnOk, IsErrOf};
 ghost use Rattle.gos_outside.specs.FileName.{IsFileName};
 ghost use Rattle.gos_outside.specs.OtherFiles.{OthersSame};
-ghost use Rattle.gos_outside.specs.Faults.{Rose};
+ghost use Rattle.gos_outside.specs.Faults.{CountsFaults};
 ghost use Rattle.gos_outside.specs.Calls.{AreMade};
 ghost use Rattle.gos_command.specs.Ends.{IfStopped, ending};
 ghost use Rattle.gos_tool.specs.Calls.{write_calls};
@@ -131,12 +131,10 @@ pub fn write_files<S: Store>(alloc: Global, files: &[TextFile], store: &mut S) -
     ensures written { OnOk result (S.contents store.new ≡ with_files files.now (S.contents store.old)) }
     ensures rejects_nothing { IfErr result (λ stop. IfStopped stop (λ fault line. ⊥)) }
     ensures calls { AreMade (ending result) (write_calls (names_of files.now)) (S.calls store.old) (S.calls store.new) }
-    ensures failed_only { IsErrOf result Stop.StoreFailed → Rose (S.faults store.old) (S.faults store.new) }
+    ensures counts { CountsFaults (IsErrOf result Stop.StoreFailed) (S.faults store.old) (S.faults store.new) }
     ensures failed_call { IsErrOf result Stop.StoreFailed →
         IsWriting files.now (S.contents store.old) (S.contents store.new) (S.last_fault store.new) }
-    ensures same_count { (¬ (IsErrOf result Stop.StoreFailed)) → S.faults store.new ≡ S.faults store.old }
     ensures memory_files { IsErrOf result Stop.NoMemory → IsFront files.now (S.contents store.old) (S.contents store.new) }
-    ensures never_falls { S.faults store.old ≤ S.faults store.new }
     ensures others { OthersSame (names_of files.now) (S.contents store.old) (S.contents store.new) }
 {
     for file in files {

@@ -3,7 +3,7 @@
 ghost use Rattle.std.specs.Prelude.{◌≡◌, ◌≤◌, ◌∷◌, [], length, IfOk, IfErr, IfSome, IsErrOf};
 ghost use Rattle.gos_outside.specs.FileName.{IsFileName};
 ghost use Rattle.gos_outside.specs.Files.{bytes_at};
-ghost use Rattle.gos_outside.specs.Faults.{Rose, ReadFault};
+ghost use Rattle.gos_outside.specs.Faults.{CountsFaults, ReadFault};
 ghost use Rattle.gos_outside.specs.Calls.{AreMade};
 ghost use Rattle.gos_check.specs.Sizes.{IsCountableModule};
 ghost use Rattle.gos_command.specs.Ends.{IfStopped, IsRealCause, IsTold, ending};
@@ -36,10 +36,8 @@ pub fn check_source<S: Store>(alloc: Global, source: &[u8], store: &mut S) -> Re
     ensures tells { IfOk result TellsWeight }
     ensures kind { IfErr result (StopsFor (OfSource ∷ [])) }
     ensures calls { AreMade (ending result) (read_source source.now ∷ []) (S.calls store.old) (S.calls store.new) }
-    ensures failed_only { IsErrOf result Stop.StoreFailed → Rose (S.faults store.old) (S.faults store.new) }
+    ensures counts { CountsFaults (IsErrOf result Stop.StoreFailed) (S.faults store.old) (S.faults store.new) }
     ensures failed_call { IsErrOf result Stop.StoreFailed → S.last_fault store.new ≡ ReadFault source.now }
-    ensures same_count { (¬ (IsErrOf result Stop.StoreFailed)) → S.faults store.new ≡ S.faults store.old }
-    ensures never_falls { S.faults store.old ≤ S.faults store.new }
     ensures same_files { S.contents store.new ≡ S.contents store.old }
 {
     let linear = module_in(alloc, source, store)?;
@@ -62,10 +60,8 @@ pub fn module_in<S: Store>(alloc: Global, source: &[u8], store: &mut S) -> Resul
     ensures file { IfErr result (λ stop. IfStopped stop (λ fault line. fault.file ≡ source.now)) }
     ensures kind { IfErr result (StopsFor (OfSource ∷ [])) }
     ensures calls { AreMade (ending result) (read_source source.now ∷ []) (S.calls store.old) (S.calls store.new) }
-    ensures failed_only { IsErrOf result Stop.StoreFailed → Rose (S.faults store.old) (S.faults store.new) }
+    ensures counts { CountsFaults (IsErrOf result Stop.StoreFailed) (S.faults store.old) (S.faults store.new) }
     ensures failed_call { IsErrOf result Stop.StoreFailed → S.last_fault store.new ≡ ReadFault source.now }
-    ensures same_count { (¬ (IsErrOf result Stop.StoreFailed)) → S.faults store.new ≡ S.faults store.old }
-    ensures never_falls { S.faults store.old ≤ S.faults store.new }
     ensures same_files { S.contents store.new ≡ S.contents store.old }
 {
     let text = read_start(alloc, store, source, SOURCE_LIMIT + 1)?;

@@ -1,9 +1,9 @@
 // The command `compile`: a source file is checked, and the plan of its module is written as an object file.
 
-ghost use Rattle.std.specs.Prelude.{◌≡◌, ◌≤◌, ◌∷◌, [], IfOk, IfErr, IfSome, IsErrOf};
+ghost use Rattle.std.specs.Prelude.{◌≡◌, ◌∷◌, [], IfOk, IfErr, IfSome, IsErrOf};
 ghost use Rattle.gos_outside.specs.FileName.{IsFileName};
 ghost use Rattle.gos_outside.specs.Files.{SameBut, with_file};
-ghost use Rattle.gos_outside.specs.Faults.{Rose, WriteFault};
+ghost use Rattle.gos_outside.specs.Faults.{CountsFaults, WriteFault};
 ghost use Rattle.gos_outside.specs.Calls.{Write, AreMade};
 ghost use Rattle.gos_plan.specs.ObjectText.{text_of};
 ghost use Rattle.gos_plan.specs.Seen.{plan_of};
@@ -47,12 +47,10 @@ pub fn compile_source<S: Store>(
     ensures calls { AreMade (ending result) (compile_calls source.now object.now) (S.calls store.old) (S.calls store.new) }
 
     // The store is blamed only for a call that failed, and that the command makes then.
-    ensures failed_only { IsErrOf result Stop.StoreFailed → Rose (S.faults store.old) (S.faults store.new) }
+    ensures counts { CountsFaults (IsErrOf result Stop.StoreFailed) (S.faults store.old) (S.faults store.new) }
     ensures failed_call { IsErrOf result Stop.StoreFailed →
         IsCompileCall (S.contents store.old) (S.contents store.new) source.now object.now (S.last_fault store.new) }
-    ensures same_count { (¬ (IsErrOf result Stop.StoreFailed)) → S.faults store.new ≡ S.faults store.old }
     ensures memory_files { IsErrOf result Stop.NoMemory → S.contents store.new ≡ S.contents store.old }
-    ensures never_falls { S.faults store.old ≤ S.faults store.new }
     ensures others { SameBut object.now (S.contents store.old) (S.contents store.new) }
 {
     let linear = module_in(alloc, source, store)?;
@@ -75,11 +73,9 @@ pub fn write_plan<S: Store>(
     ensures wrote { IfOk result (λ plan. S.contents store.new ≡ with_file object.now (text_of (plan_of plan)) (S.contents store.old)) }
     ensures rejects_nothing { IfErr result (λ stop. IfStopped stop (λ fault line. ⊥)) }
     ensures calls { AreMade (ending result) (Write object.now ∷ []) (S.calls store.old) (S.calls store.new) }
-    ensures failed_only { IsErrOf result Stop.StoreFailed → Rose (S.faults store.old) (S.faults store.new) }
+    ensures counts { CountsFaults (IsErrOf result Stop.StoreFailed) (S.faults store.old) (S.faults store.new) }
     ensures failed_call { IsErrOf result Stop.StoreFailed → S.last_fault store.new ≡ WriteFault object.now }
-    ensures same_count { (¬ (IsErrOf result Stop.StoreFailed)) → S.faults store.new ≡ S.faults store.old }
     ensures memory_files { IsErrOf result Stop.NoMemory → S.contents store.new ≡ S.contents store.old }
-    ensures never_falls { S.faults store.old ≤ S.faults store.new }
     ensures others { SameBut object.now (S.contents store.old) (S.contents store.new) }
 {
     let plan = plan_for(alloc, linear)?;

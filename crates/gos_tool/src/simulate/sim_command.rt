@@ -3,7 +3,7 @@
 ghost use Rattle.std.specs.Prelude.{◌≡◌, ◌⊎◌, ◌≤◌, ◌∷◌, [], length, IfOk, IfErr, IfSome, IsErrOf};
 ghost use Rattle.gos_outside.specs.FileName.{IsFileName};
 ghost use Rattle.gos_outside.specs.Files.{SameBut, bytes_at};
-ghost use Rattle.gos_outside.specs.Faults.{Rose, ReadFault};
+ghost use Rattle.gos_outside.specs.Faults.{CountsFaults, ReadFault};
 ghost use Rattle.gos_outside.specs.Calls.{AreMade};
 ghost use Rattle.gos_netlist.specs.NetFaults.{IsRead};
 ghost use Rattle.gos_command.specs.Ends.{IfStopped, IsTold, ending};
@@ -41,12 +41,10 @@ pub fn sim<S: Store>(
     ensures tells { IfOk result TellsRun }
     ensures kind { IfErr result (StopsFor (OfNetlist ∷ OfPulses ∷ [])) }
     ensures calls { AreMade (ending result) (sim_calls net.now pulses.now trace.now) (S.calls store.old) (S.calls store.new) }
-    ensures failed_only { IsErrOf result Stop.StoreFailed → Rose (S.faults store.old) (S.faults store.new) }
+    ensures counts { CountsFaults (IsErrOf result Stop.StoreFailed) (S.faults store.old) (S.faults store.new) }
     ensures failed_call { IsErrOf result Stop.StoreFailed →
         IsSimCall (S.contents store.old) (S.contents store.new) net.now pulses.now trace.now (S.last_fault store.new) }
-    ensures same_count { (¬ (IsErrOf result Stop.StoreFailed)) → S.faults store.new ≡ S.faults store.old }
     ensures memory_files { IsErrOf result Stop.NoMemory → S.contents store.new ≡ S.contents store.old }
-    ensures never_falls { S.faults store.old ≤ S.faults store.new }
     ensures others { SameBut trace.now (S.contents store.old) (S.contents store.new) }
 {
     let checked = checked_net(alloc, net, store)?;
@@ -66,10 +64,8 @@ fn checked_net<S: Store>(alloc: Global, net: &[u8], store: &mut S) -> Result<Che
     ensures file { IfErr result (λ stop. IfStopped stop (λ fault line. fault.file ≡ net.now)) }
     ensures kind { IfErr result (StopsFor (OfNetlist ∷ [])) }
     ensures calls { AreMade (ending result) (read_netlist net.now ∷ []) (S.calls store.old) (S.calls store.new) }
-    ensures failed_only { IsErrOf result Stop.StoreFailed → Rose (S.faults store.old) (S.faults store.new) }
+    ensures counts { CountsFaults (IsErrOf result Stop.StoreFailed) (S.faults store.old) (S.faults store.new) }
     ensures failed_call { IsErrOf result Stop.StoreFailed → S.last_fault store.new ≡ ReadFault net.now }
-    ensures same_count { (¬ (IsErrOf result Stop.StoreFailed)) → S.faults store.new ≡ S.faults store.old }
-    ensures never_falls { S.faults store.old ≤ S.faults store.new }
     ensures same_files { S.contents store.new ≡ S.contents store.old }
 {
     let circuit = circuit_in(alloc, net, store)?;
@@ -89,10 +85,8 @@ fn circuit_in<S: Store>(alloc: Global, net: &[u8], store: &mut S) -> Result<Netl
     ensures file { IfErr result (λ stop. IfStopped stop (λ fault line. fault.file ≡ net.now)) }
     ensures kind { IfErr result (StopsFor (OfNetlist ∷ [])) }
     ensures calls { AreMade (ending result) (read_netlist net.now ∷ []) (S.calls store.old) (S.calls store.new) }
-    ensures failed_only { IsErrOf result Stop.StoreFailed → Rose (S.faults store.old) (S.faults store.new) }
+    ensures counts { CountsFaults (IsErrOf result Stop.StoreFailed) (S.faults store.old) (S.faults store.new) }
     ensures failed_call { IsErrOf result Stop.StoreFailed → S.last_fault store.new ≡ ReadFault net.now }
-    ensures same_count { (¬ (IsErrOf result Stop.StoreFailed)) → S.faults store.new ≡ S.faults store.old }
-    ensures never_falls { S.faults store.old ≤ S.faults store.new }
     ensures same_files { S.contents store.new ≡ S.contents store.old }
 {
     let text = read_file(alloc, store, net, NET_LIMIT)?;

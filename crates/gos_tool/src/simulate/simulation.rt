@@ -1,9 +1,9 @@
 // An accepted netlist is run under a pulse file, and its trace is written.
 
-ghost use Rattle.std.specs.Prelude.{◌≡◌, ◌≤◌, ◌<◌, ◌∷◌, [], All, length, Some, IfOk, IfErr, IfSome, IsErrOf};
+ghost use Rattle.std.specs.Prelude.{◌≡◌, ◌<◌, ◌∷◌, [], All, length, Some, IfOk, IfErr, IfSome, IsErrOf};
 ghost use Rattle.gos_outside.specs.FileName.{IsFileName};
 ghost use Rattle.gos_outside.specs.Files.{SameBut, bytes_at, with_file};
-ghost use Rattle.gos_outside.specs.Faults.{Rose, WriteFault};
+ghost use Rattle.gos_outside.specs.Faults.{CountsFaults, WriteFault};
 ghost use Rattle.gos_outside.specs.Calls.{Write, AreMade};
 ghost use Rattle.gos_netlist.specs.Events.{events_of};
 ghost use Rattle.gos_pulse.specs.Driving.{GivesInput};
@@ -45,12 +45,10 @@ pub fn simulate<S: Store>(
     ensures rejected_files { IfErr result (λ stop. IfStopped stop (λ fault line. S.contents store.new ≡ S.contents store.old)) }
     ensures kind { IfErr result (StopsFor (OfPulses ∷ [])) }
     ensures calls { AreMade (ending result) (simulation_calls pulses.now trace.now) (S.calls store.old) (S.calls store.new) }
-    ensures failed_only { IsErrOf result Stop.StoreFailed → Rose (S.faults store.old) (S.faults store.new) }
+    ensures counts { CountsFaults (IsErrOf result Stop.StoreFailed) (S.faults store.old) (S.faults store.new) }
     ensures failed_call { IsErrOf result Stop.StoreFailed →
         IsSimulationCall (S.contents store.old) (S.contents store.new) net pulses.now trace.now (S.last_fault store.new) }
-    ensures same_count { (¬ (IsErrOf result Stop.StoreFailed)) → S.faults store.new ≡ S.faults store.old }
     ensures memory_files { IsErrOf result Stop.NoMemory → S.contents store.new ≡ S.contents store.old }
-    ensures never_falls { S.faults store.old ≤ S.faults store.new }
     ensures others { SameBut trace.now (S.contents store.old) (S.contents store.new) }
 {
     let text = read_file(alloc, store, pulses, PULSES_LIMIT)?;
@@ -83,13 +81,11 @@ fn run<S: Store>(
     ensures rejected_files { IfErr result (λ stop. IfStopped stop (λ fault line. S.contents store.new ≡ S.contents store.old)) }
     ensures kind { IfErr result (StopsFor (OfPulses ∷ [])) }
     ensures calls { AreMade (ending result) (Write trace.now ∷ []) (S.calls store.old) (S.calls store.new) }
-    ensures failed_only { IsErrOf result Stop.StoreFailed → Rose (S.faults store.old) (S.faults store.new) }
+    ensures counts { CountsFaults (IsErrOf result Stop.StoreFailed) (S.faults store.old) (S.faults store.new) }
     ensures failed_call { IsErrOf result Stop.StoreFailed → S.last_fault store.new ≡ WriteFault trace.now }
     ensures failed_after { IsErrOf result Stop.StoreFailed → IfSome (S.contents store.old) (λ files.
         IsPulseFile net (bytes_at files pulses.now) read.now.0 read.now.1 → RunsUnder net (bytes_at files pulses.now)) }
-    ensures same_count { (¬ (IsErrOf result Stop.StoreFailed)) → S.faults store.new ≡ S.faults store.old }
     ensures memory_files { IsErrOf result Stop.NoMemory → S.contents store.new ≡ S.contents store.old }
-    ensures never_falls { S.faults store.old ≤ S.faults store.new }
     ensures others { SameBut trace.now (S.contents store.old) (S.contents store.new) }
 {
     let Ok(mut sim) = Sim::new(alloc, net) else {
@@ -117,11 +113,9 @@ fn write_trace<S: Store>(
         counts ≡ record { cycles = traced.now.cycles; pulses = length traced.now.lines.items; unused = traced.now.unused }) }
     ensures rejects_nothing { IfErr result (λ stop. IfStopped stop (λ fault line. ⊥)) }
     ensures calls { AreMade (ending result) (Write trace.now ∷ []) (S.calls store.old) (S.calls store.new) }
-    ensures failed_only { IsErrOf result Stop.StoreFailed → Rose (S.faults store.old) (S.faults store.new) }
+    ensures counts { CountsFaults (IsErrOf result Stop.StoreFailed) (S.faults store.old) (S.faults store.new) }
     ensures failed_call { IsErrOf result Stop.StoreFailed → S.last_fault store.new ≡ WriteFault trace.now }
-    ensures same_count { (¬ (IsErrOf result Stop.StoreFailed)) → S.faults store.new ≡ S.faults store.old }
     ensures memory_files { IsErrOf result Stop.NoMemory → S.contents store.new ≡ S.contents store.old }
-    ensures never_falls { S.faults store.old ≤ S.faults store.new }
     ensures others { SameBut trace.now (S.contents store.old) (S.contents store.new) }
 {
     let text = print_trace(alloc, traced, net)?;

@@ -37,7 +37,7 @@ loop-instance-preserved g c =
           (so_far next _ p c.in_ok-plan.ensures.wrote c.in_ok-plan.ensures.made),
       omega (arith, items, joined, c.loop-instance.invariant.1),
       objects_same next _ c.in_ok-plan.ensures.others,
-      c.in_ok-plan.ensures.same_count (λ e. cc e) ∙ c.loop-instance.invariant.3,
+      c.in_ok-plan.ensures.counts.1 (λ e. cc e) ∙ c.loop-instance.invariant.3,
       limits_more plans _ p c.in-Ok.ensures.items c.loop-instance.invariant.4 c.in_ok-plan.ensures.limits,
       one_more_compiled,
     )

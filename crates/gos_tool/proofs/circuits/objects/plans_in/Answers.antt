@@ -30,7 +30,7 @@ loop-instance-preserved g c =
       subst (λ (ps : List SeenPlan). AreReadBefore old all (drop (k + 1) all) ps) (sym c.in-Ok.ensures.items) more,
       omega (arith, items, joined, c.loop-instance.invariant.1),
       c.in_ok-plan.ensures.same_files ∙ c.loop-instance.invariant.2,
-      c.in_ok-plan.ensures.same_count (λ e. cc e) ∙ c.loop-instance.invariant.3,
+      c.in_ok-plan.ensures.counts.1 (λ e. cc e) ∙ c.loop-instance.invariant.3,
       limits_more plans _ c.in_ok-plan.plan c.in-Ok.ensures.items c.loop-instance.invariant.4 c.in_ok-plan.ensures.limits,
       turn_made (object_calls all) (read_object i.object ∷ []) (object_calls (drop (k + 1) all)) (g.S.Store.calls c.args.store.now) (g.S.Store.calls c.loop-instance.store) (g.S.Store.calls c.plan_in.new.store)
           (subst (λ (rest : List Instance). IsLeft (object_calls all) (object_calls rest) (g.S.Store.calls c.args.store.now) (g.S.Store.calls c.loop-instance.store)) (next_instance all k i c.loop-instance-test.true c.instance-item.is) c.loop-instance.invariant.5)

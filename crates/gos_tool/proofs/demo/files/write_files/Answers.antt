@@ -42,7 +42,7 @@ loop-file-preserved g c =
           (c.in_ok-write_file.ensures.written ∙ (λ i. with_file (c.name.ensures.same i) (c.text.ensures i) mid)),
       files_same c.args.files.now k f old mid new at c.loop-file.invariant.1
           (subst (λ (name : List ℕ). SameBut name mid new) c.name.ensures.same c.in_ok-write_file.ensures.others),
-      c.in_ok-write_file.ensures.same_count (λ e. cc e) ∙ c.loop-file.invariant.2,
+      c.in_ok-write_file.ensures.counts.1 (λ e. cc e) ∙ c.loop-file.invariant.2,
       one_more_written,
     )
 
