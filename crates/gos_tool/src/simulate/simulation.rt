@@ -109,7 +109,7 @@ fn write_trace<S: Store>(
     requires known { All (λ pulse. pulse.event < length (events_of net.now)) traced.now.lines.items }
     ensures wrote { IfOk result (λ counts. S.contents store.new ≡ with_file trace.now
         (trace_text net.now traced.now.lines.items traced.now.cycles) (S.contents store.old)) }
-    ensures counts { IfOk result (λ counts.
+    ensures numbers { IfOk result (λ counts.
         counts ≡ record { cycles = traced.now.cycles; pulses = length traced.now.lines.items; unused = traced.now.unused }) }
     ensures rejects_nothing { IfErr result (λ stop. IfStopped stop (λ fault line. ⊥)) }
     ensures calls { AreMade (ending result) (Write trace.now ∷ []) (S.calls store.old) (S.calls store.new) }

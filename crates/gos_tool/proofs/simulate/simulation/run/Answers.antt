@@ -31,7 +31,7 @@ returns-in-Ok-drive-clause-done g c =
     (λ (counts : Counts). IfSome old (λ files. IsPulseFile net (bytes_at files c.args.pulses.now) c.args.read.now.0 c.args.read.now.1) → LeavesTrace old new net c.args.pulses.now c.args.trace.now counts)
     c.write_trace.result
     (λ counts w are says. leaves_trace old new net c.args.pulses.now c.args.trace.now c.args.read.now.1 run c.args.read.now.0 counts says traced (wrote w) are)
-    c.write_trace.ensures.wrote c.write_trace.ensures.counts
+    c.write_trace.ensures.wrote c.write_trace.ensures.numbers
 
 pub returns-clause-rejected : goal.returns-clause-rejected
 returns-clause-rejected g c =
