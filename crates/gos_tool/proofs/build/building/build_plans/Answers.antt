@@ -1,8 +1,9 @@
-use Rattle.std.proofs.Common.{inl, refl, ◌∷◌, []}
+use Rattle.std.proofs.Common.{◌∙◌, ◌≤◌, ℕ, subst, inl, refl, ◌∷◌, []}
 use Rattle.gos_command.proofs.EndLemmas.{of_stopped_both, early, late, made_of}
-use Rattle.gos_tool.proofs.lemmas.circuits.ExitLemmas.{err_is, failed_as}
+use Rattle.gos_tool.proofs.lemmas.circuits.ExitLemmas.{err_is, failed_as, call_failed_as}
 use Rattle.gos_tool.specs.build.Built.{RejectsPlans}
 use Rattle.gos_tool.proofs.lemmas.build.PlansLemmas.{plans_built, rejects_pulses, simulation_call, has_circuit, no_trace, with_trace}
+use Rattle.gos_outside.specs.Faults.{Rose}
 use Rattle.gos_outside.proofs.CallsLemmas.{goes_on}
 use Rattle.gos_tool.specs.Calls.{circuit_calls, simulation_calls}
 use Rattle.gos_outside.specs.Calls.{Whole}
@@ -96,3 +97,13 @@ returns-in_err-linked-clause-kind g c =
 pub returns-in_err-counts-clause-kind : goal.returns-in_err-counts-clause-kind
 returns-in_err-counts-clause-kind g c =
     rw (err_is _ c.from_residual-in_err-counts.ensures.1) (stops_behind (OfBuild ∷ []) (OfPulses ∷ []) c.in_err-counts.field-0.0 c.in_err-counts.ensures.kind)
+
+pub returns-in_err-counts-clause-counts : goal.returns-in_err-counts-clause-counts
+returns-in_err-counts-clause-counts g c =
+    let new = g.S.Store.faults c.simulate.new.store in
+    let same = c.in_ok-linked.ensures.counts.1 (λ e. cc e) in
+    let counts = c.in_err-counts.ensures.counts in (
+      λ failed. subst (λ (before : ℕ). Rose before new) same (counts.0 (failed_as _ c.from_residual-in_err-counts.ensures.1 failed)),
+      λ none. counts.1 (λ failed. none (call_failed_as _ c.from_residual-in_err-counts.ensures.1 failed)) ∙ same,
+      subst (λ (before : ℕ). before ≤ new) same counts.2,
+    )
