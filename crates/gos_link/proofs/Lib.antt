@@ -9,6 +9,7 @@ mod PortLemmas
 mod PlaceLemmas
 mod ServiceLemmas
 mod ServedLemmas
+mod AboveLemmas
 mod PointLemmas
 mod PathLemmas
 mod WalkLemmas

@@ -12,7 +12,7 @@ use Rattle.gos_link.specs.inner.Firsts.{or_first}
 use Rattle.gos_link.specs.inner.Opens.{number_bound}
 use Rattle.gos_link.specs.inner.Served.{same_import, AreServed}
 use Rattle.gos_link.specs.inner.Wired.{number_used}
-use Rattle.gos_link.proofs.ServiceLemmas.{bound_tells}
+use Rattle.gos_link.proofs.ServiceLemmas.{bound_tells, used_tells}
 
 -- an entry behind the others
 pub lookup_last : {K : Type 0} (test : K → Bool) (entries : List (K × ℕ)) (key : K) (n : ℕ)
@@ -39,7 +39,7 @@ last_from test n (x ∷ ss) s = by (test x) (last_from test (n + 1) ss s)
     by true rest = refl
     by false rest = rest ∙ ap (or_first (position_from test (n + 1) ss) (test s)) more
 
-position_last : (test : Service → Bool) (ss : List Service) (s : Service) → position test (ss ++ s ∷ []) ≡ or_first (position test ss) (test s) (length ss)
+pub position_last : (test : Service → Bool) (ss : List Service) (s : Service) → position test (ss ++ s ∷ []) ≡ or_first (position test ss) (test s) (length ss)
 position_last test ss s =
     let size : 0 + length ss ≡ length ss = omega arith in
     position_from-zero test (ss ++ s ∷ [])
@@ -67,6 +67,9 @@ served_more ss s imports more_imports givers more_givers known adds_import adds_
 
 bound_low : (ss : List Service) (user import t : ℕ) → number_bound ss user import ≡ Some t → t < length ss
 bound_low ss user import t e = let (s, at, one, other) = bound_tells ss user import t e in slice_get_within ss t s at
+
+pub used_low : (ss : List Service) (giver t : ℕ) → number_used ss giver ≡ Some t → t < length ss
+used_low ss giver t e = let (s, at, same) = used_tells ss giver t e in slice_get_within ss t s at
 
 pub bound_within : (ss : List Service) (user import : ℕ) (found : Option ℕ) → found ≡ number_bound ss user import → IfSome found (λ t. t < length ss)
 bound_within ss user import None e = tt

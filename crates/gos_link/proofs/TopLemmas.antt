@@ -109,7 +109,7 @@ module _ (n : ℕ) (ss : List Service) (tops : List ℕ) (known : AreTops n ss t
       closed_by t ss (top_at tops t.user) is (leads_more (t ∷ ss) ss (λ s h. inr h) t.user (top_at tops t.user) (known.leads t.user))
 
   -- the top of each number once the giver's is another
-  moved_at : (giver top : ℕ) → giver < n → (k : ℕ) → top_at (map (moved giver top) tops) k ≡ moved giver top (top_at tops k)
+  pub moved_at : (giver top : ℕ) → giver < n → (k : ℕ) → top_at (map (moved giver top) tops) k ≡ moved giver top (top_at tops k)
   moved_at giver top low k =
       number_cases k giver
       (λ e b.

@@ -1,6 +1,6 @@
 // The instances of a build by name.
 
-ghost use Rattle.std.specs.Prelude.{◌≡◌, length, IfOk, OnOk};
+ghost use Rattle.std.specs.Prelude.{◌≡◌, IfOk, OnOk};
 ghost use Rattle.std.specs.Str.{bytes_eq};
 ghost use Rattle.std.specs.Map.{lookup};
 ghost use Rattle.gos_lex.specs.Lines.{Word};
@@ -42,13 +42,6 @@ impl<'a> Instances<'a> {
     {
         let numbers = numbers_of(alloc, all)?;
         Ok(Instances { all, numbers })
-    }
-
-    /// How many instances there are.
-    pub fn len(&self) -> usize
-        ensures { result ≡ length self.now }
-    {
-        self.all.len()
     }
 
     /// The number of the first instance of this name.

@@ -3,7 +3,8 @@
 ghost use Rattle.std.specs.Prelude.{◌≡◌, ◌≢◌, ◌<◌, [], ℕ, List, Some, None, length, map, IfOk, IfErr};
 ghost use Rattle.gos_types.specs.Types.{type_of};
 ghost use Rattle.gos_link.specs.Services.{import_named, Means, IsRightBind, IsWrongBind, BindsOn};
-ghost use Rattle.gos_link.specs.inner.Tops.{AreTops, moved, top_at};
+ghost use Rattle.gos_link.specs.inner.Served.{AreAbove};
+ghost use Rattle.gos_link.specs.inner.Tops.{AreTops, top_at};
 
 use crate::build::Bind;
 use crate::fault::LinkFault;
@@ -113,10 +114,10 @@ fn service_of(
     plans: &[Plan],
     bind: &Bind,
     before: &Services,
-    tops: &[usize],
+    above: &[usize],
 ) -> Result<Service, LinkFault>
     requires plans { length plans.now ≡ length instances.now }
-    requires tops { AreTops (length instances.now) before.now tops.now }
+    requires tops { (tops : List ℕ) × AreTops (length instances.now) before.now tops × AreAbove before.now tops above.now }
     ensures right { IfOk result (IsRightBind instances.now plans.now before.now bind.now) }
     ensures fault { IfErr result (λ fault. fault ≢ LinkFault.NoMemory → IsWrongBind instances.now plans.now before.now bind.now fault) }
 {
@@ -128,45 +129,34 @@ fn service_of(
     if let Some(first) = before.first_used(service.giver) {
         return Err(LinkFault::UsedTwice { first, second });
     }
-    if top_at(tops, service.user) == service.giver {
+    if top_of(before, above, service.user) == service.giver {
         return Err(LinkFault::Loop { line: second });
     }
     Ok(service)
 }
 
-// The top of an instance.
-fn top_at(tops: &[usize], instance: usize) -> usize
-    ensures { result ≡ top_at tops.now instance }
+// The instance that is above the giver of a service.
+fn above_at(above: &[usize], number: usize) -> usize
+    ensures { result ≡ top_at above.now number }
 {
-    match tops.get(instance) {
-        Some(top) => *top,
-        None => instance,
+    match above.get(number) {
+        Some(instance) => *instance,
+        None => number,
     }
 }
 
-// Each of n instances as its own top.
-#[tactic(auto, using(gos_ties::proofs::FarLemmas::one_alone))]
-fn own_tops(alloc: Global, n: usize) -> Result<Vec<usize>, NoMemory>
-    ensures { IfOk result (λ tops. AreTops n [] tops.items) }
+// The top of an instance: of those above it the one that serves none.
+fn top_of(services: &Services, above: &[usize], instance: usize) -> usize
+    requires { (tops : List ℕ) × AreAbove services.now tops above.now }
+    ensures { (n : ℕ) (tops : List ℕ) → AreTops n services.now tops → AreAbove services.now tops above.now → result ≡ top_at tops instance }
 {
-    let mut tops = Vec::new(alloc);
-    for k in 0..n {
-        tops.push(k)?;
+    let mut at = instance;
+    loop {
+        match services.number_used(at) {
+            Some(number) => at = above_at(above, number),
+            None => return at,
+        }
     }
-    Ok(tops)
-}
-
-// The tops after one service more.
-fn tops_after(alloc: Global, tops: &[usize], service: Service) -> Result<Vec<usize>, NoMemory>
-    ensures { IfOk result (λ after. after.items ≡ map (moved service.giver (top_at tops.now service.user)) tops.now) }
-{
-    let top = top_at(tops, service.user);
-    let giver = service.giver;
-    let after = tops
-        .iter()
-        .map(|old| if *old == giver { top } else { *old })
-        .collect(alloc)?;
-    Ok(after)
 }
 
 /// What the lines of a build mean, if all are right, and else why the first that isn't is wrong.
@@ -183,11 +173,11 @@ pub(crate) fn services_of(
         → (services : List Service) × BindsOn instances.now plans.now [] binds.now services (Some fault)) }
 {
     let mut services = Services::new(alloc);
-    let mut tops = own_tops(alloc, instances.len())?;
+    let mut above = Vec::new(alloc);
     for bind in binds {
-        match service_of(alloc, instances, plans, bind, &services, &tops) {
+        match service_of(alloc, instances, plans, bind, &services, &above) {
             Ok(service) => {
-                tops = tops_after(alloc, &tops, service)?;
+                above.push(top_of(&services, &above, service.user))?;
                 services = services.with(service)?;
             }
             Err(fault) => return Err(fault),

@@ -1,4 +1,5 @@
-use Rattle.std.proofs.Common.{length, drop}
+use Rattle.std.proofs.Common.{ℕ, List, length, drop}
+use Rattle.gos_link.specs.inner.Served.{AreAbove}
 use Rattle.gos_link.specs.inner.Tops.{AreTops}
 use Rattle.gos_link.proofs.BindLemmas.{MeansSoFar}
 use Rattle.gos_link.proofs.services.services_of.Given as goal
@@ -7,4 +8,4 @@ use Rattle.gos_link.proofs.services.services_of.Given as goal
 abbrev pub invariant-loop-bind : goal.invariant-loop-bind
 invariant-loop-bind l =
     MeansSoFar l.instances l.plans l.binds l.services (drop l.bind-index l.binds)
-    × AreTops (length l.instances) l.services l.tops.items
+    × (tops : List ℕ) × AreTops (length l.instances) l.services tops × AreAbove l.services tops l.above.items
