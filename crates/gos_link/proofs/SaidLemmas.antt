@@ -1,5 +1,5 @@
 -- What lines of two and of four words don't say, and what a refusal leaves known.
-use Rattle.std.proofs.Common.{◌≡◌, [], ◌∷◌, sym, subst}
+use Rattle.std.proofs.Common.{◌≡◌, [], ◌∷◌, refl, sym, subst}
 use Rattle.std.specs.Prelude.{Result, Ok, Err, OnErr, codes}
 use Rattle.gos_outside.specs.FileName.{IsFileName}
 use Rattle.gos_lex.specs.Names.{IsName}
@@ -37,3 +37,11 @@ says_nothing words two four (says.File role name) h = two _ _ h.0
 pub on_refusal : {A E : Type 0} (P : Type 0) (r : Result A E) → P → OnErr r P
 on_refusal P (Ok a) holds = tt
 on_refusal P (Err e) holds = holds
+
+-- Names and files that are right make a line say something.
+pub bind_said : (user import giver : Word) → IsName user → IsName import → IsName giver → (said : Said) × Says (codes "bind" ∷ user ∷ import ∷ giver ∷ []) said
+bind_said user import giver user_is import_is giver_is = (says.Bind user import giver, (refl, (user_is, import_is, giver_is)))
+
+pub inst_said : (name source object : Word) → IsName name → IsFileName source → IsFileName object
+    → (said : Said) × Says (codes "inst" ∷ name ∷ source ∷ object ∷ []) said
+inst_said name source object name_is source_is object_is = (says.Inst name source object, (refl, (name_is, source_is, object_is)))
