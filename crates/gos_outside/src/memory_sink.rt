@@ -2,7 +2,8 @@
 //
 // It shows what a caller does where a write fails. Beyond what the trait promises, the clauses of
 // its calls say which of them fail, and what each leaves.
-ghost use Rattle.std.specs.Prelude.{◌≡◌, ◌≤◌, ◌↔◌, [], OnOk, IsErrOf};
+ghost use Rattle.std.specs.Prelude.{◌≡◌, ◌↔◌, [], OnOk, IsErrOf};
+ghost use Rattle.gos_outside.specs.Faults.{CountsFaults};
 ghost use Rattle.gos_outside.specs.PlannedFaults.{NextFails};
 ghost use Rattle.gos_outside.specs.MemorySink.{called, failed, appended_to};
 
@@ -80,7 +81,7 @@ impl Sink for MemorySink {
         ensures no_memory { IsErrOf result SinkFault.NoMemory → self.new ≡ called self.old }
 
         // As the trait has it.
-        ensures never_falls { self.old.faults ≤ self.new.faults }
+        ensures counts { CountsFaults (IsErrOf result SinkFault.Failed) self.old.faults self.new.faults }
     {
         if self.planned.next_fails() {
             self.faults = self.faults.saturating_add(1);

@@ -2,16 +2,16 @@
 //
 // It shows what a caller does where a read or a write fails. Beyond what the trait promises, the
 // clauses of its calls say which of them fail, and what each leaves.
-ghost use Rattle.std.specs.Prelude.{◌≡◌, ◌≤◌, ◌↔◌, ◌⊎◌, take, Some, None, IfOk, OnOk, IsErrOf};
+ghost use Rattle.std.specs.Prelude.{◌≡◌, ◌↔◌, ◌⊎◌, take, Some, None, IfOk, OnOk, IsErrOf};
 ghost use Rattle.std.specs.Option.{option_copied};
 ghost use Rattle.std.specs.FinMap.{get};
 ghost use Rattle.gos_outside.specs.FileName.{IsFileName};
 ghost use Rattle.gos_outside.specs.Files.{bytes_at, SameBut};
-ghost use Rattle.gos_outside.specs.Faults.{NoFault, ReadFault, WriteFault};
+ghost use Rattle.gos_outside.specs.Faults.{CountsFaults, NoFault, ReadFault};
 ghost use Rattle.gos_outside.specs.FaultLog.{last_fault_of};
 ghost use Rattle.gos_outside.specs.HeldFiles.{files_of};
 ghost use Rattle.gos_outside.specs.PlannedFaults.{NextFails};
-ghost use Rattle.gos_outside.specs.MemoryStore.{called, failed_by, written_to};
+ghost use Rattle.gos_outside.specs.MemoryStore.{called, failed_by, written_to, half_written_to};
 
 use crate::fault_log::{Call, FaultLog};
 use crate::held_files::{HeldFiles, first_bytes};
@@ -21,7 +21,8 @@ use std::alloc::Global;
 use std::marker::Model;
 
 /// Files in memory. A call fails where its number is among those that are to fail, and so does a
-/// read of a file that isn't held. A write that fails leaves all files as they were.
+/// read of a file that isn't held. A write that is to fail leaves the first half of the bytes in its
+/// file, rounded down; where no memory is found for these, it leaves all files as they were.
 #[derive(Drop)]
 pub struct MemoryStore {
     files: HeldFiles,
@@ -109,7 +110,7 @@ impl Store for MemoryStore {
         ensures not_failed { (¬ (IsErrOf result StoreFault.Failed)) → self.new ≡ called self.old }
 
         // As the trait has it.
-        ensures never_falls { self.old.faults ≤ self.new.faults }
+        ensures counts { CountsFaults (IsErrOf result StoreFault.Failed) self.old.faults self.new.faults }
     {
         let planned = self.planned.next_fails();
         match self.files.get(name) {
@@ -124,16 +125,18 @@ impl Store for MemoryStore {
     fn write(&mut self, alloc: Global, name: &[u8], bytes: &[u8]) -> Result<(), StoreFault>
         requires { IsFileName name.now }
         ensures written { OnOk result (self.new ≡ written_to name.now bytes.now self.old) }
-        ensures fails { IsErrOf result StoreFault.Failed ↔ NextFails self.old.calls self.old.fail }
+        ensures spared { OnOk result (¬ (NextFails self.old.calls self.old.fail)) }
+        ensures fails { IsErrOf result StoreFault.Failed → NextFails self.old.calls self.old.fail }
         ensures failed { IsErrOf result StoreFault.Failed →
-            self.new ≡ failed_by (WriteFault name.now) self.old }
+            self.new ≡ half_written_to name.now bytes.now self.old }
         ensures no_memory { IsErrOf result StoreFault.NoMemory → self.new ≡ called self.old }
 
         // As the trait has it.
-        ensures never_falls { self.old.faults ≤ self.new.faults }
+        ensures counts { CountsFaults (IsErrOf result StoreFault.Failed) self.old.faults self.new.faults }
         ensures others { SameBut name.now (Some self.old.files) (Some self.new.files) }
     {
         if self.planned.next_fails() {
+            self.files.put(alloc, name, &bytes[..bytes.len() / 2])?;
             self.log.write_failed(name);
             return Err(StoreFault::Failed);
         }
@@ -160,8 +163,9 @@ mod tests {
         assert!(rt; is_file_name(name));
         store.write(alloc, name, b"netlist")?;
         assert!(rt; store.write(alloc, name, b"later").is_err());
-        assert_eq!(rt; store.get(name).ok_or("held")?, b"netlist".as_slice());
+        assert_eq!(rt; store.get(name).ok_or("held")?, b"la".as_slice());
         assert!(rt; store.last_fault() == Some((Call::Write, name)));
+        store.write(alloc, name, b"netlist")?;
         let text = store.read_up_to(alloc, name, 3)?;
         assert_eq!(rt; text.as_slice(), b"net".as_slice());
         assert_eq!(rt; store.faults(), 1);
