@@ -8,4 +8,6 @@ mod choices;
 #[cfg(test)]
 mod layouts;
 #[cfg(test)]
+mod pools;
+#[cfg(test)]
 mod sources;

@@ -66,3 +66,4 @@ pub mod SilentRunLemmas
 pub mod PolicyLemmas
 pub mod RankedCellLemmas
 pub mod SmallChoiceLemmas
+pub mod IntoLemmas

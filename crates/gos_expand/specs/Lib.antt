@@ -11,4 +11,6 @@ pub mod Rings
 pub mod Runs
 pub mod SmallNets
 pub mod SmallChoices
+pub mod Into
+pub mod SmallPools
 pub mod inner

@@ -7,3 +7,4 @@ pub mod Numbering
 pub mod Outers
 pub mod Directions
 pub mod Choosing
+pub mod Raised

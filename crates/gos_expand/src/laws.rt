@@ -2,11 +2,13 @@
 // nothing.
 ghost use Rattle.gos_expand.specs.Acceptance.{LaidIsAccepted, AllCutCycles, LaidIsSmall};
 ghost use Rattle.gos_expand.specs.Facts.{FactsMakeLists};
+ghost use Rattle.gos_expand.specs.Into.{LaysIntoNone};
 ghost use Rattle.gos_expand.specs.Kept.{AllKeep, AllKeepPaths, AreFew};
 ghost use Rattle.gos_expand.specs.Rings.{RingsAreCycles};
 ghost use Rattle.gos_expand.specs.Runs.{LaidMakesLists, LaidStaysSilent};
 ghost use Rattle.gos_expand.specs.SmallChoices.{SkipKeepsNone, AllAreTooMany, RingKeepsOne, NoneAreTooFew};
 ghost use Rattle.gos_expand.specs.SmallNets.{SkipIsLaid, SkipIsChosen, RingIsLeft, SkipCanBeLaid};
+ghost use Rattle.gos_expand.specs.SmallPools.{SkipIsRaised, SkipIsNotTwice, PortIsNotTwice};
 
 /// The gates of each kind in range keep the laws, and what is asked of paths without registers. They are few for the
 /// handshakes of their part.
@@ -33,6 +35,15 @@ pub fn small_choices()
     ensures all { AllAreTooMany }
     ensures one { RingKeepsOne }
     ensures ring { NoneAreTooFew }
+{}
+
+/// `expand` is `expand_into` over a new pool: behind no cells the netlist of a plan is as it is. Behind its own netlist
+/// that of `skip` is raised by five nets, and names neither the first one's nets nor has its ports.
+pub fn into_pools()
+    ensures none { LaysIntoNone }
+    ensures raised { SkipIsRaised }
+    ensures cells { SkipIsNotTwice }
+    ensures ports { PortIsNotTwice }
 {}
 
 /// The netlist of a plan is accepted where it has no combinational cycle, whichever directions of joints keep their

@@ -7,12 +7,14 @@
 // joint without registers); `places.rt` lists the ends. Then `placing.rt` places the blocks in a pool that has
 // room for all of them; `leaves.rt` names the nets that go into the circuit at an end, `gates.rt` lays parts out,
 // `tokens.rt` has the cells of a pulse and its number, and `outside.rt` makes the ports. `choosing.rt` tells which
-// directions of joints keep their registers where few are wanted (`specs/Choices`).
+// directions of joints keep their registers where few are wanted (`specs/Choices`). `into.rt` lays a plan out in a pool
+// that has cells already (`specs/Into`).
 #![tactic(auto)]
 
 mod arrivals;
 mod choosing;
 mod gates;
+mod into;
 mod laws;
 mod leaves;
 mod numbering;
@@ -22,8 +24,9 @@ mod placing;
 mod tokens;
 mod whole;
 
+pub use into::expand_into;
 pub use laws::{
-    cycles_are_lists, gates_keep, laid_is_accepted, lists_of_facts, outputs_are_silent,
+    cycles_are_lists, gates_keep, into_pools, laid_is_accepted, lists_of_facts, outputs_are_silent,
     rings_are_cycles, small_choices, small_nets,
 };
 pub use whole::{Policy, expand, expand_with};
