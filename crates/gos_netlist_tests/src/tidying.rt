@@ -1,0 +1,141 @@
+// Netlists that are made tidy. The expected texts are written by hand.
+use gos_netcheck::{Checked, accept};
+use gos_netlist::{print_net, read_net};
+use gos_tidy::tidy;
+use std::alloc::Global;
+use std::process::Abort;
+use std::test::Fail;
+
+// The accepted netlist of a text.
+fn checked(alloc: Global, text: &str) -> Result<Checked, Fail> {
+    let net = read_net(alloc, text.as_bytes())?;
+    if net.cells.len() > 1_000_000 {
+        return Err("too many cells".into());
+    }
+    Ok(accept(alloc, net)?)
+}
+
+// The tidy netlist of a text, as a text.
+fn tidied(alloc: Global, text: &str) -> Result<Vec<u8>, Fail> {
+    match tidy(alloc, checked(alloc, text)?) {
+        Ok(tidy) => Ok(print_net(alloc, tidy.netlist())?),
+        Err(_) => Err("out of memory".into()),
+    }
+}
+
+// That a netlist becomes another one, which stays as it is.
+fn becomes(rt: &impl Abort, alloc: Global, text: &str, tidy: &str) -> Result<(), Fail> {
+    assert!(rt; tidied(alloc, text)?.as_slice() == tidy.as_bytes());
+    assert!(rt; tidied(alloc, tidy)?.as_slice() == tidy.as_bytes());
+    Ok(())
+}
+
+#[test]
+fn equal_registers_are_merged(rt: HostRuntime) -> Result<(), Fail> {
+    becomes(
+        &rt,
+        rt.alloc(),
+        "gosnet 1\ncells 4\ninput 1\nor 1 0 2\nreg 1 1\nreg 1 1\nports 1\ngive main com 0 3\nend\n",
+        "gosnet 1\ncells 3\ninput 1\nor 1 0 2\nreg 1 1\nports 1\ngive main com 0 2\nend\n",
+    )
+}
+
+#[test]
+fn a_gate_of_constants_opens_another(rt: HostRuntime) -> Result<(), Fail> {
+    becomes(
+        &rt,
+        rt.alloc(),
+        "gosnet 1\ncells 6\ninput 1\nconst 1 1\nand 1 1 1\ngate 1 2 0\nreg 1 3\nreg 1 0\nports 1\ngive main com 0 4\nend\n",
+        "gosnet 1\ncells 2\ninput 1\nreg 1 0\nports 1\ngive main com 0 1\nend\n",
+    )
+}
+
+// The first of two equal cells leads nowhere, and stays all the same, at its place before the register.
+#[test]
+fn the_earlier_of_equal_cells_stays(rt: HostRuntime) -> Result<(), Fail> {
+    becomes(
+        &rt,
+        rt.alloc(),
+        "gosnet 1\ncells 4\ninput 1\nand 1 0 2\nreg 1 3\nand 1 0 2\nports 1\ngive main com 0 2\nend\n",
+        "gosnet 1\ncells 3\ninput 1\nand 1 0 2\nreg 1 1\nports 1\ngive main com 0 2\nend\n",
+    )
+}
+
+// The gate becomes the constant in its own place, before the register, and the equal one behind it goes.
+#[test]
+fn a_later_constant_goes(rt: HostRuntime) -> Result<(), Fail> {
+    becomes(
+        &rt,
+        rt.alloc(),
+        "gosnet 1\ncells 8\ninput 1\nconst 1 0\nnot 1 1\nreg 1 2\nconst 1 1\nreg 1 4\nxor 1 3 5\nreg 1 6\nports 1\ngive main com 0 7\nend\n",
+        "gosnet 1\ncells 5\ninput 1\nconst 1 1\nreg 1 1\nxor 1 2 2\nreg 1 3\nports 1\ngive main com 0 4\nend\n",
+    )
+}
+
+#[test]
+fn shift_registers_are_merged_stage_by_stage(rt: HostRuntime) -> Result<(), Fail> {
+    becomes(
+        &rt,
+        rt.alloc(),
+        "gosnet 1\ncells 9\ninput 1\nreg 1 0\nreg 1 0\nreg 1 1\nreg 1 2\nreg 1 3\nreg 1 4\nxor 1 5 6\nreg 1 7\nports 1\ngive main com 0 8\nend\n",
+        "gosnet 1\ncells 6\ninput 1\nreg 1 0\nreg 1 1\nreg 1 2\nxor 1 3 3\nreg 1 4\nports 1\ngive main com 0 5\nend\n",
+    )
+}
+
+#[test]
+fn an_unread_input_and_a_register_of_a_constant_stay(rt: HostRuntime) -> Result<(), Fail> {
+    becomes(
+        &rt,
+        rt.alloc(),
+        "gosnet 1\ncells 3\ninput 1\nconst 1 1\nreg 1 1\nports 1\ngive main com 0 2\nend\n",
+        "gosnet 1\ncells 3\ninput 1\nconst 1 1\nreg 1 1\nports 1\ngive main com 0 2\nend\n",
+    )
+}
+
+// A Mux, a gate, a complement twice, and equal pins.
+#[test]
+fn short_gates_go(rt: HostRuntime) -> Result<(), Fail> {
+    becomes(
+        &rt,
+        rt.alloc(),
+        "gosnet 1\ncells 12\ninput 1\nconst 1 0\nconst 1 1\nmux 1 1 2 0\ngate 1 2 3\nnot 1 4\nnot 1 5\nor 1 6 6\nand 1 7 7\nmux 1 2 8 1\ngate 1 1 9\nreg 1 9\nports 1\ngive main com 0 11\nend\n",
+        "gosnet 1\ncells 2\ninput 1\nreg 1 0\nports 1\ngive main com 0 1\nend\n",
+    )?;
+    becomes(
+        &rt,
+        rt.alloc(),
+        "gosnet 1\ncells 5\ninput 1\nconst 1 0\ngate 1 1 0\nxor 1 0 2\nreg 1 3\nports 1\ngive main com 0 4\nend\n",
+        "gosnet 1\ncells 4\ninput 1\nconst 1 0\nxor 1 0 1\nreg 1 2\nports 1\ngive main com 0 3\nend\n",
+    )?;
+    becomes(
+        &rt,
+        rt.alloc(),
+        "gosnet 1\ncells 5\ninput 1\nconst 1 1\nnot 1 1\ngate 1 2 0\nreg 1 3\nports 1\ngive main com 0 4\nend\n",
+        "gosnet 1\ncells 3\ninput 1\nconst 1 0\nreg 1 1\nports 1\ngive main com 0 2\nend\n",
+    )
+}
+
+// The cells of two constants and a gate that folds, whose number is shown by an Exp port of so many bits.
+fn folds(rt: &impl Abort, alloc: Global, gate: &str, shown: &str) -> Result<(), Fail> {
+    let text = format!(in alloc;
+        "gosnet 1\ncells 8\ninput 1\nconst 32 4294967295\nconst 32 2\n{gate}\nreg 32 3\nreg 1 0\nconst 1 1\nconst 1 0\nports 1\ngive main exp 32 0 5 4\nend\n"
+    )?;
+    let tidy = format!(in alloc;
+        "gosnet 1\ncells 4\ninput 1\n{shown}\nreg 32 1\nreg 1 0\nports 1\ngive main exp 32 0 3 2\nend\n"
+    )?;
+    becomes(rt, alloc, text.as_str(), tidy.as_str())
+}
+
+#[test]
+fn each_kind_folds(rt: HostRuntime) -> Result<(), Fail> {
+    let alloc = rt.alloc();
+    folds(&rt, alloc, "not 32 2", "const 32 4294967293")?;
+    folds(&rt, alloc, "and 32 1 2", "const 32 2")?;
+    folds(&rt, alloc, "or 32 1 2", "const 32 4294967295")?;
+    folds(&rt, alloc, "xor 32 1 2", "const 32 4294967293")?;
+    folds(&rt, alloc, "add 32 1 2", "const 32 1")?;
+    folds(&rt, alloc, "sub 32 2 1", "const 32 3")?;
+    folds(&rt, alloc, "mux 32 6 1 2", "const 32 4294967295")?;
+    folds(&rt, alloc, "gate 32 6 2", "const 32 2")?;
+    folds(&rt, alloc, "gate 32 7 2", "const 32 0")
+}

@@ -1,0 +1,56 @@
+-- Cells that show what other cells show, by a map of nets.
+--
+-- Read first: Nets and Settling of gos_netlist. Each cell stands for the cell that its net is mapped to, by one of the
+-- single changes. No order of the cells is spoken of: what is demanded of a cell is about its own pins alone.
+use Rattle.std.specs.Prelude.{◌≡◌, ◌≢◌, ◌⊎◌, ℕ, List, Some, slice_get, Contains}
+use Rattle.gos_netlist.specs.Nets.{Function, Input, Const, Not, And, Or, Xor, Mux, Add, Sub, Eq, Less, Gate, Reg, Cell, pins}
+use Rattle.gos_netlist.specs.Settling.{shown}
+
+-- the function with other nets in the place of its own
+abbrev pub renamed : (ℕ → ℕ) → Function → Function
+renamed f Input = Input
+renamed f (Const k) = Const k
+renamed f (Not a) = Not (f a)
+renamed f (And a b) = And (f a) (f b)
+renamed f (Or a b) = Or (f a) (f b)
+renamed f (Xor a b) = Xor (f a) (f b)
+renamed f (Mux s a b) = Mux (f s) (f a) (f b)
+renamed f (Add a b) = Add (f a) (f b)
+renamed f (Sub a b) = Sub (f a) (f b)
+renamed f (Eq a b) = Eq (f a) (f b)
+renamed f (Less a b) = Less (f a) (f b)
+renamed f (Gate s a) = Gate (f s) (f a)
+renamed f (Reg a) = Reg (f a)
+
+-- net n is a constant cell, of number k
+abbrev pub IsConst : List Cell → ℕ → ℕ → Type 0
+IsConst cells n k = (w : ℕ) × (slice_get cells n ≡ Some (record { width = w; gate = Const k }))
+
+-- the cell is there, with its nets renamed
+abbrev pub IsKept : List Cell → (ℕ → ℕ) → ℕ → Cell → Type 0
+IsKept others f n c = slice_get others (f n) ≡ Some (record { width = c.width; gate = renamed f c.gate })
+
+-- all nets that a gate names are constants, and the constant that it shows then is there
+abbrev pub IsFolded : List Cell → (ℕ → ℕ) → ℕ → Cell → Type 0
+IsFolded others f n c =
+    (v : ℕ → ℕ) × ((a : ℕ) → Contains (pins c.gate) a → IsConst others (f a) (v a))
+    × ((r i : ℕ) → IsConst others (f n) (shown c.width c.gate r i v))
+
+-- The gate shows what one of its nets shows, or 0: a selector is constant, a Not is read by a Not, or both nets are one.
+abbrev pub IsShort : List Cell → (ℕ → ℕ) → ℕ → ℕ → Function → Type 0
+IsShort others f n w (Not a) = slice_get others (f a) ≡ Some (record { width = w; gate = Not (f n) })
+IsShort others f n w (And a b) = (f a ≡ f b) × (f n ≡ f a)
+IsShort others f n w (Or a b) = (f a ≡ f b) × (f n ≡ f a)
+IsShort others f n w (Mux s a b) =
+    (IsConst others (f s) 1 × (f n ≡ f a)) ⊎ ((k : ℕ) × (k ≢ 1) × IsConst others (f s) k × (f n ≡ f b))
+IsShort others f n w (Gate s a) =
+    (IsConst others (f s) 1 × (f n ≡ f a)) ⊎ ((k : ℕ) × (k ≢ 1) × IsConst others (f s) k × IsConst others (f n) 0)
+IsShort others f n w g = ⊥
+
+-- the cell of net n stands for that of net f n
+abbrev pub Stands : List Cell → (ℕ → ℕ) → ℕ → Cell → Type 0
+Stands others f n c = IsKept others f n c ⊎ (IsFolded others f n c ⊎ IsShort others f n c.width c.gate)
+
+-- all cells do
+abbrev pub Mapped : List Cell → List Cell → (ℕ → ℕ) → Type 0
+Mapped cells others f = (n : ℕ) (c : Cell) → slice_get cells n ≡ Some c → Stands others f n c

@@ -1,0 +1,158 @@
+// Classes of nets that show the same, and cells as they are read by classes. Nothing here is trusted: what comes of it is
+// checked (`merge.rt`).
+use crate::constants::{operands, value};
+use crate::renaming::{entry, renamed_cell};
+use gos_netlist::{Cell, Gate, NetId};
+use gos_types::NoMemory;
+use std::alloc::Global;
+
+// What is known of the nets of a class.
+#[derive(Debug, Clone, Copy)]
+pub(crate) enum Known {
+    Nothing,
+    // They show this number for ever.
+    Number(u64),
+    // They show the complement of this class.
+    Complement(NetId),
+}
+
+// What a cell is, read by classes.
+#[derive(Debug, Clone, Copy)]
+pub(crate) enum Form {
+    // It shows what this class shows.
+    Short(NetId),
+    // It is this cell, whose nets are classes.
+    Whole(Cell),
+}
+
+// The classes of the nets of a netlist. A class goes by one of its nets.
+#[derive(Debug, Drop)]
+pub(crate) struct Classes {
+    // The class of each net.
+    pub(crate) class: Vec<u32>,
+    // What is known of each class.
+    pub(crate) known: Vec<Known>,
+}
+
+impl Classes {
+    // Of so many nets, each in a class of its own.
+    pub(crate) fn new(alloc: Global, count: usize) -> Result<Classes, NoMemory> {
+        let mut class = Vec::with_capacity(alloc, count)?;
+        let mut next = 0u32;
+        for _ in 0..count {
+            class.push(next)?;
+            next = next.wrapping_add(1);
+        }
+        let known = vec![in alloc; Known::Nothing; count]?;
+        Ok(Classes { class, known })
+    }
+
+    // The class of a net.
+    pub(crate) fn of(&self, net: u32) -> u32 {
+        entry(&self.class, net)
+    }
+
+    // What is known of a class.
+    pub(crate) fn known_of(&self, class: NetId) -> Known {
+        match self.known.get(class.0 as usize) {
+            Some(known) => *known,
+            None => Known::Nothing,
+        }
+    }
+
+    // The number that a class shows for ever.
+    fn number(&self, class: NetId) -> Option<u64> {
+        match self.known_of(class) {
+            Known::Number(k) => Some(k),
+            _ => None,
+        }
+    }
+
+    // What a gate of classes shows, where all its nets are constants.
+    fn folded(&self, width: u32, gate: Gate) -> Option<u64> {
+        if width > 32 {
+            return None;
+        }
+        let (first, second, third) = operands(gate)?;
+        let a = self.number(first)?;
+        let b = self.number(second)?;
+        let c = self.number(third)?;
+        Some(value(width, gate, a, b, c))
+    }
+
+    // What a cell is, read by classes.
+    pub(crate) fn form(&self, cell: &Cell) -> Form {
+        let width = cell.width;
+        let whole = renamed_cell(&self.class, cell);
+        if let Some(k) = self.folded(width, whole.gate) {
+            return Form::Whole(Cell {
+                width,
+                gate: Gate::Const(k),
+            });
+        }
+        match whole.gate {
+            Gate::Not(a) => match self.known_of(a) {
+                Known::Complement(b) => Form::Short(NetId(self.of(b.0))),
+                _ => Form::Whole(whole),
+            },
+            Gate::And(a, b) | Gate::Or(a, b) if a.0 == b.0 => Form::Short(a),
+            Gate::Mux(s, a, b) => match self.number(s) {
+                Some(1) => Form::Short(a),
+                Some(_) => Form::Short(b),
+                None => Form::Whole(whole),
+            },
+            Gate::Gate(s, a) => match self.number(s) {
+                Some(1) => Form::Short(a),
+                Some(_) => Form::Whole(Cell {
+                    width,
+                    gate: Gate::Const(0),
+                }),
+                None => Form::Whole(whole),
+            },
+            _ => Form::Whole(whole),
+        }
+    }
+
+    // Whether it says more of a class than what is known of it.
+    pub(crate) fn is_news(&self, class: u32, known: Known) -> bool {
+        match (self.known_of(NetId(class)), known) {
+            (Known::Nothing, Known::Number(_) | Known::Complement(_)) => true,
+            (Known::Complement(_), Known::Number(_)) => true,
+            _ => false,
+        }
+    }
+
+    // Notes what is known of a class.
+    pub(crate) fn know(&mut self, class: u32, known: Known) {
+        if (class as usize) < self.known.len() {
+            self.known[class as usize] = known;
+        }
+    }
+
+    // Notes what the class of a net is known for, whose cell this is.
+    pub(crate) fn learn_cell(&mut self, net: u32, cell: &Cell) {
+        if let Form::Whole(whole) = self.form(cell) {
+            let class = self.of(net);
+            let _ = self.learn(class, whole);
+        }
+    }
+
+    // Notes what a class is known for, where one of its nets is this cell. Says whether that is new.
+    pub(crate) fn learn(&mut self, class: u32, whole: Cell) -> bool {
+        let known = known_by(whole.gate);
+        let news = self.is_news(class, known);
+        if news {
+            self.know(class, known);
+        }
+        news
+    }
+}
+
+// What is known of a net whose cell has this gate.
+fn known_by(gate: Gate) -> Known {
+    match gate {
+        Gate::Const(k) => Known::Number(k),
+        Gate::Not(a) => Known::Complement(a),
+        _ => Known::Nothing,
+    }
+}

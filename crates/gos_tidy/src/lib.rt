@@ -1,0 +1,49 @@
+// Netlists with fewer cells.
+//
+// `specs` says what that means, in the order of `specs/Lib.antt`: `Mapped` has the single changes, as what a cell may be
+// merged to; `Reduced` a netlist whose cells are merged and then left out where nothing names them; `Tidy` when no such
+// change is left; and `Alike` that nobody outside can tell two netlists apart. `laws.rt` has the theorems.
+#![tactic(auto)]
+
+mod classes;
+mod constants;
+mod drop;
+mod guess;
+mod laws;
+mod marking;
+mod merge;
+mod quotient;
+mod renaming;
+mod rounds;
+mod shape;
+mod slots;
+mod users;
+
+ghost use Rattle.std.specs.Prelude.{◌≡◌, IfOk, IfErr};
+ghost use Rattle.gos_tidy.specs.Laws.{IsStill};
+ghost use Rattle.gos_tidy.specs.Ends.{all_outputs};
+ghost use Rattle.gos_tidy.specs.Tidy.{AllLead};
+
+use crate::rounds::rounds;
+use gos_netcheck::{Checked, NetFault, accept};
+use gos_types::NoMemory;
+pub use laws::{mapped_cells, reduced_netlists, small_netlists, unlike_netlists};
+use std::alloc::Global;
+
+/// The netlist with fewer cells: nobody outside can tell them apart. `Err` is want of memory alone, and hands the netlist back.
+pub fn tidy(alloc: Global, net: Checked) -> Result<Checked, Checked>
+    ensures still { IfOk result (λ other. IsStill net other) }
+    ensures lead { IfOk result (λ other. AllLead other.cells (all_outputs other.ports)) }
+    ensures back { IfErr result (λ same. same ≡ net) }
+{
+    match rounds(alloc, &net) {
+        Ok(other) => match accept(alloc, other) {
+            Ok(checked) => Ok(checked),
+            Err(refused) => match refused.fault {
+                NetFault::NoMemory => Err(net),
+                _ => unreachable!(),
+            },
+        },
+        Err(NoMemory) => Err(net),
+    }
+}

@@ -1,0 +1,85 @@
+// A table of nets, by what their cells are read as. Cells stay where they are.
+use crate::shape::Shape;
+use gos_types::NoMemory;
+use std::alloc::Global;
+
+// A place of the table.
+#[derive(Debug, Clone, Copy)]
+pub(crate) enum Slot {
+    Free,
+    // A net, and some bits of what its cell was read as.
+    Taken { net: u32, tag: u32 },
+}
+
+// The table.
+#[derive(Debug, Drop)]
+pub(crate) struct Slots {
+    slots: Vec<Slot>,
+}
+
+// Mixes a number into others.
+fn mixed(so_far: u64, number: u64) -> u64 {
+    let turned = (so_far ^ number).wrapping_mul(0x9E37_79B9_7F4A_7C15);
+    turned ^ (turned >> 29)
+}
+
+// A number that spreads shapes over the table.
+pub(crate) fn spread(shape: &Shape) -> u64 {
+    let head = (u64::from(shape.width) << 32) | (shape.kind as u64);
+    let nets = (u64::from(shape.first) << 32) | u64::from(shape.second);
+    let tail = mixed(
+        mixed(mixed(head, nets), u64::from(shape.third)),
+        shape.number,
+    );
+    tail.wrapping_mul(0x94D0_49BB_1331_11EB) ^ (tail >> 31)
+}
+
+// The bits of a spread number that stand in the table.
+pub(crate) fn tag_of(spread: u64) -> u32 {
+    (spread >> 32) as u32
+}
+
+impl Slots {
+    // A table with room for so many nets.
+    pub(crate) fn new(alloc: Global, count: usize) -> Result<Slots, NoMemory> {
+        let room = count.saturating_mul(2).saturating_add(1);
+        Ok(Slots {
+            slots: vec![in alloc; Slot::Free; room]?,
+        })
+    }
+
+    // The place at which the search for a shape begins.
+    pub(crate) fn first_place(&self, spread: u64) -> usize {
+        let room = self.slots.len();
+        if room == 0 {
+            return 0;
+        }
+        ((u128::from(spread) * (room as u128)) >> 64) as usize
+    }
+
+    // The place behind a place; the first one behind the last.
+    pub(crate) fn next_place(&self, place: usize) -> usize {
+        let next = place.saturating_add(1);
+        if next < self.slots.len() { next } else { 0 }
+    }
+
+    // How many places there are.
+    pub(crate) fn len(&self) -> usize {
+        self.slots.len()
+    }
+
+    // What stands at a place.
+    pub(crate) fn at(&self, place: usize) -> Slot {
+        match self.slots.get(place) {
+            Some(slot) => *slot,
+            None => Slot::Free,
+        }
+    }
+
+    // Puts a net at a place.
+    pub(crate) fn put(&mut self, place: usize, net: u32, tag: u32) {
+        if place < self.slots.len() {
+            self.slots[place] = Slot::Taken { net, tag };
+        }
+    }
+}
