@@ -1,11 +1,13 @@
-// Tests of netlists, of their texts and Verilog texts, of lines, and of simulation, pulse files and traces by public calls
-// alone.
+// Tests of netlists, of their texts and Verilog texts, of circuits of gates and their texts, of lines, and of simulation,
+// pulse files and traces by public calls alone.
 //
 // A crate with tests is proved twice, so crates that others wait for have none: theirs stand here, one file a subject.
 #![tactic(auto)]
 
 #[cfg(test)]
 mod acceptance;
+#[cfg(test)]
+mod aiger;
 #[cfg(test)]
 mod bench;
 #[cfg(test)]
@@ -24,5 +26,7 @@ mod pulse_files;
 mod samples;
 #[cfg(test)]
 mod simulating;
+#[cfg(test)]
+mod tidying;
 #[cfg(test)]
 mod verilog;

@@ -1,0 +1,7 @@
+mod PrintLemmas
+pub mod ShapeLemmas
+mod WholeLemmas
+mod LawLemmas
+mod ReadLemmas
+mod SmallLemmas
+mod FaultLemmas

@@ -1,0 +1,6 @@
+-- In reading order: a file uses only files above it.
+pub mod Gates
+pub mod AagText
+pub mod AagFaults
+pub mod SmallCircuits
+pub mod inner
