@@ -128,4 +128,24 @@ mod tests {
         assert_eq!(rt; sink.faults(), 1);
         Ok(())
     }
+
+    #[test]
+    fn long_line_comes_out_whole(rt: HostRuntime) -> Result<(), Fail> {
+        let alloc = rt.alloc();
+        let mut line = Vec::new(alloc);
+        for number in 0..1_000_000u32 {
+            line.push((number % 251) as u8)?;
+        }
+        let open = blank_screen(alloc, false);
+        {
+            let mut sink = OutSink::new(&open);
+            sink.write(alloc, line.as_slice())?;
+        }
+        let Screen {
+            shown,
+            is_closed: _,
+        } = open;
+        assert!(rt; shown.into_inner().as_slice() == line.as_slice());
+        Ok(())
+    }
 }

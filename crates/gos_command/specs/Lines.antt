@@ -35,6 +35,7 @@ use Rattle.gos_command.specs.declared.status.Cause.TheVariants as causes
 use Rattle.gos_command.specs.declared.status.Fault.{Fault}
 use Rattle.gos_command.specs.declared.report.Counts.{Counts}
 use Rattle.gos_command.specs.declared.report.Report.{Report}
+use Rattle.gos_command.specs.declared.report.Report.TheVariants as reports
 
 -- a word and a number
 abbrev pub counted : List ℕ → ℕ → List ℕ
@@ -160,15 +161,17 @@ fault_line of fault = fault.file ++ codes ": " ++ cause_text of fault.cause ++ 1
 abbrev pub IsLineOf : Fault → List ℕ → Type 0
 IsLineOf fault line = (of : Option Netlist) × (line ≡ fault_line of fault)
 
-abbrev pub weight_text : Option ℕ → List ℕ
-weight_text None = []
-weight_text (Some weight) = counted (codes " weight ") weight
-
-abbrev pub run_text : Option Counts → List ℕ
-run_text None = []
-run_text (Some run) =
+abbrev pub run_text : Counts → List ℕ
+run_text run =
     counted (codes " cycles ") run.cycles ++ counted (codes " pulses ") run.pulses ++ counted (codes " unused ") run.unused
 
--- the line of a command that is done
+-- what a command that is done tells
+abbrev pub report_text : Report → List ℕ
+report_text (reports.Weight weight) = counted (codes "ok weight ") weight
+report_text (reports.Run run) = codes "ok" ++ run_text run
+report_text (reports.Build weight run) = counted (codes "ok weight ") weight ++ run_text run
+report_text (reports.Cells before after) = counted (codes "ok cells ") before ++ counted (codes " to ") after
+
+-- its line
 abbrev pub report_line : Report → List ℕ
-report_line report = codes "ok" ++ weight_text report.weight ++ run_text report.run ++ 10 ∷ []
+report_line report = report_text report ++ 10 ∷ []

@@ -1,7 +1,7 @@
 // The end of a command: its one line, and its status.
 
 ghost use Rattle.std.specs.Prelude.{◌≡◌, ◌≢◌};
-ghost use Rattle.gos_outside.specs.Faults.{Rose};
+ghost use Rattle.gos_outside.specs.Faults.{CountsFaults};
 ghost use Rattle.gos_command.specs.Finish.{Says, Finishes, IsOneWrite};
 ghost use Rattle.gos_command.specs.Lines.{report_line};
 
@@ -16,8 +16,7 @@ use std::alloc::Global;
 pub fn finish<O: Sink>(alloc: Global, ended: Result<Report, Stop>, out: &mut O) -> Status
     ensures finishes { Finishes ended result (O.written out.old) (O.written out.new) }
     ensures once { IsOneWrite result (O.writes out.old) (O.writes out.new) }
-    ensures failed { result ≡ Status.SinkFailed → Rose (O.faults out.old) (O.faults out.new) }
-    ensures same_count { result ≢ Status.SinkFailed → O.faults out.new ≡ O.faults out.old }
+    ensures counts { CountsFaults (result ≡ Status.SinkFailed) (O.faults out.old) (O.faults out.new) }
 {
     match ended {
         Ok(report) => report_done(alloc, report, out),
@@ -33,8 +32,7 @@ pub fn finish<O: Sink>(alloc: Global, ended: Result<Report, Stop>, out: &mut O) 
 fn report_done<O: Sink>(alloc: Global, report: Report, out: &mut O) -> Status
     ensures said { Says (report_line report) Status.Done result (O.written out.old) (O.written out.new) }
     ensures once { IsOneWrite result (O.writes out.old) (O.writes out.new) }
-    ensures failed { result ≡ Status.SinkFailed → Rose (O.faults out.old) (O.faults out.new) }
-    ensures same_count { result ≢ Status.SinkFailed → O.faults out.new ≡ O.faults out.old }
+    ensures counts { CountsFaults (result ≡ Status.SinkFailed) (O.faults out.old) (O.faults out.new) }
 {
     match report_text(alloc, report) {
         Ok(line) => say(alloc, line.as_slice(), Status::Done, out),
@@ -49,8 +47,7 @@ pub fn say<O: Sink>(alloc: Global, line: &[u8], status: Status, out: &mut O) -> 
     requires store { status ≢ Status.StoreFailed }
     ensures said { Says line.now status result (O.written out.old) (O.written out.new) }
     ensures once { IsOneWrite result (O.writes out.old) (O.writes out.new) }
-    ensures failed { result ≡ Status.SinkFailed → Rose (O.faults out.old) (O.faults out.new) }
-    ensures same_count { result ≢ Status.SinkFailed → O.faults out.new ≡ O.faults out.old }
+    ensures counts { CountsFaults (result ≡ Status.SinkFailed) (O.faults out.old) (O.faults out.new) }
 {
     match out.write(alloc, line) {
         Ok(()) => status,

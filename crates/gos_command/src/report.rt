@@ -1,9 +1,10 @@
 // What a command tells when it is done.
 
 ghost use Rattle.std.specs.Prelude.{◌≡◌, ◌++◌, IfOk, OnOk};
-ghost use Rattle.gos_command.specs.Lines.{weight_text, run_text, report_line};
+ghost use Rattle.gos_command.specs.Lines.{run_text, report_text, report_line};
+ghost use Rattle.gos_command.specs.declared.report.Report.TheVariants as reports;
 
-use crate::fault_text::add_count;
+use crate::fault_text::{add_count, counted};
 use gos_types::NoMemory;
 use std::alloc::Global;
 
@@ -20,40 +21,57 @@ pub struct Counts {
 
 /// What a command tells when it is done.
 #[derive(Debug, Clone, Copy, PartialEq, Eq)]
-pub struct Report {
-    /// The weight of the module, where there is one.
-    pub weight: Option<u64>,
-    /// The numbers of the run, where there is one.
-    pub run: Option<Counts>,
+pub enum Report {
+    /// The weight of a module, or of all modules of a circuit.
+    Weight(u64),
+    /// The numbers of a run.
+    Run(Counts),
+    /// The weight of all modules of a circuit, and the numbers of its run.
+    Build { weight: u64, run: Counts },
+    /// How many cells a netlist had, and how many are left of it.
+    Cells { before: u64, after: u64 },
 }
 
 /// The line of a command that is done.
 pub fn report_text(alloc: Global, report: Report) -> Result<Vec<u8>, NoMemory>
     ensures { IfOk result (λ text. text.items ≡ report_line report) }
 {
-    let mut text = b"ok".to_vec(alloc)?;
-    add_weight(alloc, &mut text, report.weight)?;
-    add_run(alloc, &mut text, report.run)?;
+    let mut text = told_text(alloc, report)?;
     text.push(b'\n')?;
     Ok(text)
 }
 
-fn add_weight(alloc: Global, text: &mut Vec<u8>, weight: Option<u64>) -> Result<(), NoMemory>
-    ensures { OnOk result (text.new.items ≡ text.old.items ++ weight_text weight) }
+// What the line tells, without its line feed.
+fn told_text(alloc: Global, report: Report) -> Result<Vec<u8>, NoMemory>
+    ensures { IfOk result (λ text. text.items ≡ report_text report) }
 {
-    match weight {
-        None => Ok(()),
-        Some(weight) => add_count(alloc, text, b" weight ", weight),
+    match report {
+        Report::Weight(weight) => counted(alloc, b"ok weight ", weight),
+        Report::Run(run) => run_text(alloc, b"ok".to_vec(alloc)?, run),
+        Report::Build { weight, run } => run_text(
+            alloc,
+            counted(alloc, b"ok weight ", weight)?,
+            run,
+        ),
+        Report::Cells { before, after } => cells_text(alloc, before, after),
     }
 }
 
-fn add_run(alloc: Global, text: &mut Vec<u8>, run: Option<Counts>) -> Result<(), NoMemory>
-    ensures { OnOk result (text.new.items ≡ text.old.items ++ run_text run) }
+// A beginning, and the numbers of a run behind it.
+fn run_text(alloc: Global, beginning: Vec<u8>, run: Counts) -> Result<Vec<u8>, NoMemory>
+    ensures { IfOk result (λ text. text.items ≡ beginning.items ++ run_text run) }
 {
-    if let Some(counts) = run {
-        add_count(alloc, text, b" cycles ", counts.cycles)?;
-        add_count(alloc, text, b" pulses ", counts.pulses)?;
-        add_count(alloc, text, b" unused ", counts.unused)?;
-    }
-    Ok(())
+    let mut text = beginning;
+    add_count(alloc, &mut text, b" cycles ", run.cycles)?;
+    add_count(alloc, &mut text, b" pulses ", run.pulses)?;
+    add_count(alloc, &mut text, b" unused ", run.unused)?;
+    Ok(text)
+}
+
+fn cells_text(alloc: Global, before: u64, after: u64) -> Result<Vec<u8>, NoMemory>
+    ensures { IfOk result (λ text. text.items ≡ report_text (reports.Cells before after)) }
+{
+    let mut text = counted(alloc, b"ok cells ", before)?;
+    add_count(alloc, &mut text, b" to ", after)?;
+    Ok(text)
 }

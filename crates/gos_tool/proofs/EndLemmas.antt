@@ -14,15 +14,16 @@ use Rattle.gos_command.specs.declared.status.Status.{Status}
 use Rattle.gos_command.specs.declared.status.Status.TheVariants as statuses
 use Rattle.gos_command.specs.declared.stop.Stop.{Stop}
 use Rattle.gos_command.specs.declared.stop.Stop.TheVariants as stops
-use Rattle.gos_tool.specs.Calls.{read_source, read_build_file, compile_calls, link_calls, sim_calls, build_calls, write_calls, GoesByBuild}
+use Rattle.gos_tool.specs.Calls.{read_source, read_build_file, compile_calls, link_calls, sim_calls, build_calls, rewrite_calls, write_calls, GoesByBuild}
 use Rattle.gos_tool.specs.objects.Checked.{IsSourceFault}
 use Rattle.gos_tool.specs.circuits.Linked.{RejectsLink}
+use Rattle.gos_tool.specs.netlists.Netlist.{IsNetFault}
 use Rattle.gos_tool.specs.simulate.Sim.{IsSimFault}
 use Rattle.gos_tool.specs.build.Headline.{Headline}
 use Rattle.gos_tool.specs.build.Paced.{HeadlineHolds}
 use Rattle.gos_tool.specs.demo.DemoFiles.{build_file, demo_files}
 use Rattle.gos_tool.specs.demo.Demo.{with_demo, with_files, names_of}
-use Rattle.gos_tool.specs.Command.{Command, Check, Compile, Link, Sim, Build, Demo, Means}
+use Rattle.gos_tool.specs.Command.{Command, Check, Compile, Link, Sim, Build, Demo, Tidy, Means}
 use Rattle.gos_tool.proofs.WordLemmas.{levels_in, levels_back}
 use Rattle.gos_tool.specs.Causes.{IsOneOf, StopsFor}
 use Rattle.gos_tool.specs.Run.{Tells, kinds_of, IsDone, IsRejected, IsCutShort, KeepsOthers, CallsOf, EndsDone, EndsRejected, IsUnsaid, IsUntold}
@@ -50,9 +51,13 @@ abbrev with_one_file : ℕ → Word → Command
 with_one_file letter file =
     if nat_eq letter 101 then Check file else (if nat_eq letter 110 then Link file else (if nat_eq letter 105 then Build file else Demo (levels_in file)))
 
+abbrev with_two_files : ℕ → Word → Word → Command
+with_two_files letter file made =
+    if nat_eq letter 109 then Compile file made else Tidy file made
+
 abbrev read_back : List Word → Option Command
 read_back (verb ∷ file ∷ []) = Some (with_one_file (third verb) file)
-read_back (verb ∷ source ∷ object ∷ []) = Some (Compile source object)
+read_back (verb ∷ file ∷ made ∷ []) = Some (with_two_files (third verb) file made)
 read_back (verb ∷ net ∷ pulses ∷ trace ∷ []) = Some (Sim net pulses trace)
 read_back words = None
 
@@ -63,6 +68,7 @@ is_read_back words (Link own) means = ap read_back means.0
 is_read_back words (Sim net pulses trace) means = ap read_back means.0
 is_read_back words (Build own) means = ap read_back means.0
 is_read_back words (Demo levels) means = ap read_back means.0 ∙ ap (λ (n : ℕ). Some (Demo n)) (levels_back levels means.1.1)
+is_read_back words (Tidy net out) means = ap read_back means.0
 
 -- words are one command at most
 pub same_meaning : (words : List Word) (c d : Command) → Means words c → Means words d → c ≡ d
@@ -192,6 +198,16 @@ link_rejected own old new (Err (stops.Rejected rejection)) kept why = (kept, why
 link_rejected own old new (Err stops.StoreFailed) kept why = tt
 link_rejected own old new (Err stops.NoMemory) kept why = tt
 
+-- and of `tidy`
+pub tidy_rejected : (net out : Word) (old new : Option Files) (ended : Result Report Stop)
+    → IfErr ended (λ stop. IfStopped stop (λ fault line. new ≡ old)) → IfErr ended (λ stop. IfStopped stop (λ fault line. fault.file ≡ net))
+    → IfErr ended (λ stop. IfStopped stop (λ fault line. IfSome old (λ files. IsNetFault files net fault line)))
+    → IfErr ended (λ stop. IfStopped stop (IsRejected (Tidy net out) old new))
+tidy_rejected net out old new (Ok report) kept file why = tt
+tidy_rejected net out old new (Err (stops.Rejected rejection)) kept file why = (kept, file, why)
+tidy_rejected net out old new (Err stops.StoreFailed) kept file why = tt
+tidy_rejected net out old new (Err stops.NoMemory) kept file why = tt
+
 -- where all calls were made, some were
 short_by_build : (first : List StoreCall) (files : Option Files) (own : Word) (rest : built.Build → List StoreCall) (old new : Calls)
     → GoesByBuild Whole first files own rest old new → GoesByBuild Short first files own rest old new
@@ -206,6 +222,7 @@ short_of (Sim net pulses trace) files old new made = all_made (sim_calls net pul
 short_of (Build own) files old new made = short_by_build [] files own build_calls old new made
 short_of (Demo levels) files old new made =
     short_by_build (write_calls (names_of (demo_files levels))) (with_files (demo_files levels) files) (build_file levels).name build_calls old new made
+short_of (Tidy net out) files old new made = all_made (rewrite_calls net out) old new made
 
 -- how far a command came is told by its status, where its line may be unsaid
 calls_at : (c : Command) (status : Status) (end : Ending) (files : Option Files) (old new : Calls) → status_ending status ≡ end → CallsOf c end files old new

@@ -2,6 +2,7 @@
 pub mod StopLemmas
 pub mod objects
 pub mod circuits
+pub mod netlists
 pub mod simulate
 pub mod build
 pub mod demo

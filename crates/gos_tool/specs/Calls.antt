@@ -2,7 +2,7 @@
 --
 -- Each file is read by one call, which asks for one byte more than such a file may have, and written by one. After a call that failed
 -- there is none.
-use Rattle.std.specs.Prelude.{◌≡◌, ◌≢◌, ◌⊎◌, ℕ, List, [], ◌∷◌, ◌++◌, map, Option, IfSome}
+use Rattle.std.specs.Prelude.{◌≢◌, ◌⊎◌, ℕ, List, [], ◌∷◌, ◌++◌, map, Option, IfSome}
 use Rattle.gos_outside.specs.Files.{Files, bytes_at}
 use Rattle.gos_outside.specs.Calls.{StoreCall, Read, Write, Calls, Ending, Whole, AreMade}
 use Rattle.gos_lex.specs.Lines.{Word}
@@ -49,6 +49,10 @@ simulation_calls pulses trace = read_pulses pulses ∷ Write trace ∷ []
 
 abbrev pub sim_calls : Word → Word → Word → List StoreCall
 sim_calls net pulses trace = read_netlist net ∷ simulation_calls pulses trace
+
+-- a netlist is read, and what is made of it is written
+abbrev pub rewrite_calls : Word → Word → List StoreCall
+rewrite_calls net out = read_netlist net ∷ Write out ∷ []
 
 -- what `link` and `build` do once their build file is read
 abbrev pub link_calls : Build → List StoreCall

@@ -1,19 +1,28 @@
 -- For which kinds of cause a command may reject a file, and what its line tells where it is done: whatever store it has.
-use Rattle.std.specs.Prelude.{◌≡◌, ◌⊎◌, ℕ, List, [], ◌∷◌, None, Some}
+use Rattle.std.specs.Prelude.{◌≡◌, ◌⊎◌, ℕ, List, [], ◌∷◌}
+use Rattle.gos_link.specs.declared.fault.LinkFault.{LinkFault}
+use Rattle.gos_link.specs.declared.fault.LinkFault.TheVariants as links
 use Rattle.gos_command.specs.declared.report.Counts.{Counts}
 use Rattle.gos_command.specs.declared.report.Report.{Report}
+use Rattle.gos_command.specs.declared.report.Report.TheVariants as reports
 use Rattle.gos_command.specs.declared.status.Cause.{Cause}
 use Rattle.gos_command.specs.declared.status.Cause.TheVariants as causes
 use Rattle.gos_command.specs.declared.stop.Stop.{Stop}
 use Rattle.gos_command.specs.declared.stop.Stop.TheVariants as stops
 
--- the kinds of files that are read
+-- the kinds of files that are read; what is wrong of a build is its size, or not
 pub data Kind : Type 0 where
   OfSource : Kind
   OfObject : Kind
   OfBuild : Kind
+  OfSize : Kind
   OfNetlist : Kind
   OfPulses : Kind
+
+-- of which kind a fault of a build is
+abbrev pub kind_of_link : LinkFault → Kind
+kind_of_link (links.TooLarge size ports) = OfSize
+kind_of_link fault = OfBuild
 
 -- of which kind of file a cause speaks
 abbrev pub kind_of : Cause → Kind
@@ -21,7 +30,7 @@ kind_of (causes.Lex fault) = OfSource
 kind_of (causes.Syntax fault) = OfSource
 kind_of (causes.Check fault) = OfSource
 kind_of (causes.Object fault) = OfObject
-kind_of (causes.Link fault) = OfBuild
+kind_of (causes.Link fault) = kind_of_link fault
 kind_of (causes.Net fault) = OfNetlist
 kind_of (causes.Refused fault) = OfNetlist
 kind_of (causes.Pulse fault) = OfPulses
@@ -37,12 +46,15 @@ StopsFor kinds (stops.Rejected rejection) = IsOneOf kinds rejection.fault.cause
 StopsFor kinds stops.StoreFailed = Unit {0}
 StopsFor kinds stops.NoMemory = Unit {0}
 
--- what a line tells: a weight, the numbers of a run, or both
+-- what a line tells: a weight, the numbers of a run, or both; how many cells, before and after
 abbrev pub TellsWeight : Report → Type 0
-TellsWeight report = (weight : ℕ) × (report ≡ record { weight = Some weight; run = None })
+TellsWeight report = (weight : ℕ) × (report ≡ reports.Weight weight)
 
 abbrev pub TellsRun : Report → Type 0
-TellsRun report = (counts : Counts) × (report ≡ record { weight = None; run = Some counts })
+TellsRun report = (counts : Counts) × (report ≡ reports.Run counts)
 
 abbrev pub TellsBoth : Report → Type 0
-TellsBoth report = (weight : ℕ) × (counts : Counts) × (report ≡ record { weight = Some weight; run = Some counts })
+TellsBoth report = (weight : ℕ) × (counts : Counts) × (report ≡ reports.Build weight counts)
+
+abbrev pub TellsCells : Report → Type 0
+TellsCells report = (before after : ℕ) × (report ≡ reports.Cells before after)

@@ -14,6 +14,7 @@ pub data Command : Type 0 where
   Sim : (net pulses trace : Word) → Command
   Build : (own : Word) → Command
   Demo : (levels : ℕ) → Command
+  Tidy : (net out : Word) → Command
 
 -- the words as their bytes
 abbrev pub texts : List (String Global) → List Word
@@ -30,6 +31,7 @@ Means words (Sim net pulses trace) =
     × (trace ≢ net) × (trace ≢ pulses)
 Means words (Build own) = (words ≡ codes "build" ∷ own ∷ []) × IsFileName own
 Means words (Demo levels) = (words ≡ codes "demo" ∷ decimal levels ∷ []) × IsLevelCount levels
+Means words (Tidy net out) = (words ≡ codes "tidy" ∷ net ∷ out ∷ []) × IsFileName net × IsFileName out × (out ≢ net)
 
 -- the words are no command
 abbrev pub MeanNothing : List Word → Type 0
@@ -37,4 +39,6 @@ MeanNothing words = (c : Command) → Means words c → ⊥
 
 -- the line for words that are no command
 abbrev pub usage_line : List ℕ
-usage_line = codes "usage: gos check SRC | compile SRC OBJ | link BUILD | sim NET PULSES TRACE | build BUILD | demo N" ++ 10 ∷ []
+usage_line =
+    codes "usage: gos check SRC | compile SRC OBJ | link BUILD | sim NET PULSES TRACE | build BUILD | demo N"
+    ++ codes " | tidy NET OUT" ++ 10 ∷ []

@@ -3,10 +3,12 @@ pub mod Calls
 pub mod Causes
 pub mod objects
 pub mod circuits
+pub mod netlists
 pub mod simulate
 pub mod build
 pub mod demo
 pub mod Command
 pub mod Run
+pub mod SmallCauses
 pub mod Complete
 pub mod inner

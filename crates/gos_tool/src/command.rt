@@ -11,6 +11,7 @@ ghost use Rattle.gos_tool.specs.Run.{IsDone, IsRejected, IsCall, IsCutShort, Kee
 use crate::build::build;
 use crate::circuits::link_build;
 use crate::demo::{demo, levels_of};
+use crate::netlists::tidy_net;
 use crate::objects::{check_source, compile_source};
 use crate::simulate::sim;
 use gos_command::{Report, Stop};
@@ -47,6 +48,11 @@ pub enum Command<'a> {
     Demo {
         levels: u64,
     },
+    /// `tidy NET OUT`.
+    Tidy {
+        net: &'a [u8],
+        out: &'a [u8],
+    },
 }
 
 /// The command that the words are.
@@ -60,8 +66,8 @@ pub fn command_of(words: &[String]) -> Option<Command<'_>>
             pulses.as_bytes(),
             trace.as_bytes(),
         ),
-        [verb, source, object] => {
-            compile_of(verb.as_bytes(), source.as_bytes(), object.as_bytes())
+        [verb, read, written] => {
+            two_files_of(verb.as_bytes(), read.as_bytes(), written.as_bytes())
         }
         [verb, word] => one_word_of(verb.as_bytes(), word.as_bytes()),
         _ => None,
@@ -85,17 +91,27 @@ fn sim_of<'a>(verb: &[u8], net: &'a [u8], pulses: &'a [u8], trace: &'a [u8]) -> 
     Some(Command::Sim { net, pulses, trace })
 }
 
-fn compile_of<'a>(verb: &[u8], source: &'a [u8], object: &'a [u8]) -> Option<Command<'a>>
-    ensures { MatchOption result (MeanNothing (verb.now ∷ source.now ∷ object.now ∷ [])) (λ command.
-        Means (verb.now ∷ source.now ∷ object.now ∷ []) (meant command)) }
+// A command that reads one file and writes another.
+fn two_files_of<'a>(verb: &[u8], read: &'a [u8], written: &'a [u8]) -> Option<Command<'a>>
+    ensures { MatchOption result (MeanNothing (verb.now ∷ read.now ∷ written.now ∷ [])) (λ command.
+        Means (verb.now ∷ read.now ∷ written.now ∷ []) (meant command)) }
 {
-    if verb != b"compile".as_slice() || !is_file_name(source) || !is_file_name(object) {
+    if !is_file_name(read) || !is_file_name(written) || written == read {
         return None;
     }
-    if object == source {
-        return None;
+    if verb == b"compile".as_slice() {
+        return Some(Command::Compile {
+            source: read,
+            object: written,
+        });
     }
-    Some(Command::Compile { source, object })
+    if verb == b"tidy".as_slice() {
+        return Some(Command::Tidy {
+            net: read,
+            out: written,
+        });
+    }
+    None
 }
 
 fn one_word_of<'a>(verb: &[u8], word: &'a [u8]) -> Option<Command<'a>>
@@ -161,5 +177,6 @@ pub fn run_command<S: Store>(
         Command::Sim { net, pulses, trace } => sim(alloc, net, pulses, trace, store),
         Command::Build { own } => build(alloc, own, store),
         Command::Demo { levels } => demo(alloc, levels, store),
+        Command::Tidy { net, out } => tidy_net(alloc, net, out, store),
     }
 }

@@ -12,6 +12,10 @@ mod demo;
 #[cfg(test)]
 mod linking;
 #[cfg(test)]
+mod netlists;
+#[cfg(test)]
+mod objects;
+#[cfg(test)]
 mod recording;
 #[cfg(test)]
 mod rows;

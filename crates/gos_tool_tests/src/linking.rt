@@ -79,7 +79,7 @@ fn fails_at(alloc: Global, call: u64) -> Result<bool, AllocError> {
         link_build(alloc, b"b.txt", &mut store),
         Err(Stop::StoreFailed)
     );
-    let written = call == 3 || store.get(b"out.net").is_some() == (call > 3);
+    let written = store.get(b"out.net").is_some() == (call > 2);
     Ok(failed && written)
 }
 

@@ -1,6 +1,6 @@
-// Worked rows of the commands `check`, `compile`, `link` and `sim`: files, and what is printed.
+// Worked rows of the commands `check`, `compile` and `sim`: files, and what is printed.
 use crate::running::{Left, ran};
-use crate::texts::{ONE, SKIP_OBJECT};
+use crate::texts::SKIP_OBJECT;
 use std::alloc::{AllocError, Global};
 use std::test::Fail;
 
@@ -139,27 +139,6 @@ fn rejected_source_is_not_compiled(rt: HostRuntime) -> Result<(), Fail> {
     let shared = compiled(rt.alloc(), b"import c : com export c || c : com")?;
     assert!(rt; shared.ended(2, b"main.gos: C5 c at 22..23 and 27..28\n"));
     assert!(rt; !shared.has(b"main.obj"));
-    Ok(())
-}
-
-// Runs `link` over a build file of one instance with this object.
-fn linked(alloc: Global, object: &[u8]) -> Result<Left, AllocError> {
-    let files: [(&[u8], &[u8]); 2] = [(b"b.txt", ONE), (b"main.obj", object)];
-    ran(alloc, &["link", "b.txt"], &files)
-}
-
-#[test]
-fn object_is_linked(rt: HostRuntime) -> Result<(), Fail> {
-    let skip = linked(rt.alloc(), SKIP_OBJECT)?;
-    assert!(rt; skip.ended(0, b"ok weight 5\n"));
-    assert!(rt; skip.has(b"out.net") && skip.has(b"out.v") && !skip.has(b"out.trc"));
-    Ok(())
-}
-
-#[test]
-fn rejected_object_is_not_linked(rt: HostRuntime) -> Result<(), Fail> {
-    let empty = linked(rt.alloc(), b"")?;
-    assert!(rt; empty.ended(2, b"main.obj: O1 at 0\n") && !empty.has(b"out.net"));
     Ok(())
 }
 

@@ -54,9 +54,14 @@ impl Left {
         self.store.get(name).is_some()
     }
 
+    /// What the file of this name holds, where there is one.
+    pub fn file(&self, name: &[u8]) -> Option<&[u8]> {
+        self.store.get(name)
+    }
+
     /// Whether the file of this name holds these bytes.
     pub fn holds(&self, name: &[u8], bytes: &[u8]) -> bool {
-        match self.store.get(name) {
+        match self.file(name) {
             Some(found) => found == bytes,
             None => false,
         }
@@ -83,8 +88,8 @@ pub fn ran(alloc: Global, words: &[&str], files: &[(&[u8], &[u8])]) -> Result<Le
 /// The weight that is told, or none.
 pub fn told_weight(ended: Result<Report, Stop>) -> Option<u64> {
     match ended {
-        Ok(report) => report.weight,
-        Err(_) => None,
+        Ok(Report::Weight(weight)) => Some(weight),
+        _ => None,
     }
 }
 

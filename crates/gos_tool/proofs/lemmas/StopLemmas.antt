@@ -1,12 +1,15 @@
 -- The kinds of causes that a command may stop for.
-use Rattle.std.proofs.Common.{◌≡◌, ◌∙◌, ℕ, inl, inr, List, [], ◌∷◌, ◌++◌, Result, Ok, Err, ap}
+use Rattle.std.proofs.Common.{◌≡◌, ◌≢◌, ℕ, inl, inr, List, [], ◌∷◌, ◌++◌, Result, Ok, Err, refl, sym, ap, subst}
 use Rattle.std.specs.Prelude.{IfErr}
-use Rattle.gos_command.specs.Ends.{IfStopped}
+use Rattle.gos_link.specs.declared.fault.LinkFault.{LinkFault}
+use Rattle.gos_link.specs.declared.fault.LinkFault.TheVariants as links
+use Rattle.gos_command.specs.Ends.{IfStopped, IsRealCause}
 use Rattle.gos_command.specs.declared.status.Cause.{Cause}
+use Rattle.gos_command.specs.declared.status.Cause.TheVariants as causes
 use Rattle.gos_command.specs.declared.status.Fault.{Fault}
 use Rattle.gos_command.specs.declared.stop.Stop.{Stop}
 use Rattle.gos_command.specs.declared.stop.Stop.TheVariants.{Rejected, StoreFailed, NoMemory}
-use Rattle.gos_tool.specs.Causes.{Kind, kind_of, IsOneOf, StopsFor}
+use Rattle.gos_tool.specs.Causes.{Kind, OfBuild, OfSize, kind_of_link, IsOneOf, StopsFor}
 
 -- of some kinds, and so of more
 before : (kinds more : List Kind) (cause : Cause) → IsOneOf kinds cause → IsOneOf (kinds ++ more) cause
@@ -33,8 +36,18 @@ ends_behind more kinds (Ok x) is = tt
 ends_behind more kinds (Err stop) is = stops_behind more kinds stop is
 
 -- a file that is rejected for a cause
-pub stops_for : (kind : Kind) (cause : Cause) (stop : Stop) → kind_of cause ≡ kind → (P : Fault → List ℕ → Type 0)
-    → ((fault : Fault) (line : List ℕ) → P fault line → fault.cause ≡ cause) → IfStopped stop P → StopsFor (kind ∷ []) stop
-stops_for kind cause (Rejected r) is P same h = inl (ap kind_of (same r.fault r.line.items h) ∙ is)
-stops_for kind cause StoreFailed is P same h = tt
-stops_for kind cause NoMemory is P same h = tt
+pub stops_for : (kinds : List Kind) (cause : Cause) (stop : Stop) (P : Fault → List ℕ → Type 0) → (IsRealCause cause → IsOneOf kinds cause)
+    → ((fault : Fault) (line : List ℕ) → P fault line → (fault.cause ≡ cause) × IsRealCause cause) → IfStopped stop P → StopsFor kinds stop
+stops_for kinds cause (Rejected r) P is has h =
+    let known = has r.fault r.line.items h in subst (IsOneOf kinds) (sym known.0) (is known.1)
+stops_for kinds cause StoreFailed P is has h = tt
+stops_for kinds cause NoMemory P is has h = tt
+
+-- a build file that is rejected for its form, or for any reason
+pub of_form : (fault : LinkFault) (Q : ℕ → Type 0) → (fault ≢ links.NoMemory → (line : ℕ) × (fault ≡ links.Form line) × Q line)
+    → IsRealCause (causes.Link fault) → IsOneOf (OfBuild ∷ []) (causes.Link fault)
+of_form fault Q is real = let found = is real in inl (ap kind_of_link found.1)
+
+pub of_any_link : (fault : LinkFault) → IsOneOf (OfBuild ∷ OfSize ∷ []) (causes.Link fault)
+of_any_link (links.TooLarge size ports) = inr (inl refl)
+of_any_link fault = inl refl

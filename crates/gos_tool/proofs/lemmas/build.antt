@@ -1,5 +1,6 @@
 pub mod ApartLemmas
 pub mod ObjectLemmas
+pub mod FitLemmas
 pub mod PlansLemmas
 pub mod PacedLemmas
 pub mod RoleLemmas

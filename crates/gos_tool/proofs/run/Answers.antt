@@ -48,7 +48,7 @@ pub returns-in-Some-clause-complete : goal.returns-in-Some-clause-complete
 returns-in-Some-clause-complete g c = λ d means files told right no_call no_line.
     complete c.right_commands.ensures _ (g.S.Store.contents c.args.store.now) (g.S.Store.contents c.run_command-ended.new.store) (g.O.Sink.written c.args.out.now) (g.O.Sink.written c.finish.new.out)
     (meant c.in-Some.command) d c.run_command-ended.result c.finish.result files told c.in-Some.ensures means right c.run_command-ended.ensures.rejected
-    (λ failed. no_call (c.run_command-ended.ensures.counts.0 failed)) c.finish.ensures.finishes (λ failed. no_line (c.finish.ensures.failed failed))
+    (λ failed. no_call (c.run_command-ended.ensures.counts.0 failed)) c.finish.ensures.finishes (λ failed. no_line (c.finish.ensures.counts.0 failed))
 
 pub returns-in-Some-clause-calls : goal.returns-in-Some-clause-calls
 returns-in-Some-clause-calls g c = λ d means.

@@ -18,6 +18,7 @@ use Rattle.gos_realises.specs.realises.Modules.{RealisesModule}
 use Rattle.gos_link.specs.declared.build.Build.{Build}
 use Rattle.gos_command.specs.declared.report.Counts.{Counts}
 use Rattle.gos_command.specs.declared.report.Report.{Report}
+use Rattle.gos_command.specs.declared.report.Report.TheVariants as reports
 use Rattle.gos_command.specs.declared.status.Fault.{Fault}
 use Rattle.gos_tool.specs.circuits.Plans.{IsPlansDone, IsPlansCause, IsBuildFault, IsPlansCall, IsPlansCutShort}
 use Rattle.gos_tool.specs.circuits.Linked.{SaysBuild, IsFormCause}
@@ -34,7 +35,7 @@ pub record IsPlansBuilt (old new : Option Files) (b : Build) (plans : List SeenP
   pub counts : Counts
   pub written : IsPlansDone old between b plans weight net
   pub traced : LeavesTrace between new net b.pulses b.trace counts
-  pub tells : report ≡ record { weight = Some weight; run = Some counts }
+  pub tells : report ≡ reports.Build weight counts
 
 -- The build file says a build; the source of each instance says a module that is accepted, and the object file of the instance was
 -- written with the text of its plan; and all this is so for these plans. The linked plan realises the program of the linked modules. The

@@ -2,7 +2,7 @@
 --
 -- Read first: BuildFile of gos_link; Objects, Plans; Linked and Modules of gos_linked (the substituted program). `old` and `new` are
 -- the files of the store before and after. A file that the store doesn't hold counts as empty.
-use Rattle.std.specs.Prelude.{◌≡◌, ◌⊎◌, ℕ, List, [], ◌∷◌, Option, Some, None, IfSome}
+use Rattle.std.specs.Prelude.{◌≡◌, ◌⊎◌, ℕ, List, [], ◌∷◌, Option, IfSome}
 use Rattle.gos_outside.specs.Files.{Files, bytes_at}
 use Rattle.gos_outside.specs.OtherFiles.{OthersSame}
 use Rattle.gos_outside.specs.Faults.{LastFault, ReadFault}
@@ -19,6 +19,7 @@ use Rattle.gos_link.specs.declared.fault.LinkFault.TheVariants as faults
 use Rattle.gos_linked.specs.linked.Linked.{linked_program}
 use Rattle.gos_linked.specs.linked.Modules.{AreModules}
 use Rattle.gos_command.specs.declared.report.Report.{Report}
+use Rattle.gos_command.specs.declared.report.Report.TheVariants as reports
 use Rattle.gos_command.specs.declared.status.Cause.{Cause}
 use Rattle.gos_command.specs.declared.status.Cause.TheVariants as causes
 use Rattle.gos_command.specs.declared.status.Fault.{Fault}
@@ -50,7 +51,7 @@ pub record IsLinkDone (old new : Option Files) (own : Word) (report : Report) : 
   pub linked : IsWhole old build whole
   pub written : IsWritten old new build whole net
   pub pace : KeepsPaceOfWhole old build whole linked net
-  pub tells : report ≡ record { weight = Some whole.weight; run = None }
+  pub tells : report ≡ reports.Weight whole.weight
 
 -- Why the build file is rejected: its first wrong line; or the first reason for which the plans that the object files hold
 -- can't be linked.

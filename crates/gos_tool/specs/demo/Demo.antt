@@ -6,7 +6,7 @@ use Rattle.std.specs.Prelude.{◌≡◌, ◌⊎◌, ◌++◌, ℕ, zero, suc, Li
 use Rattle.std.specs.FinMap.{get, insert}
 use Rattle.gos_outside.specs.Files.{Files, SameBut}
 use Rattle.gos_outside.specs.Faults.{LastFault, WriteFault}
-use Rattle.gos_outside.specs.Calls.{Calls, Ending, AreMade}
+use Rattle.gos_outside.specs.Calls.{Calls, Ending}
 use Rattle.gos_lex.specs.Lines.{Word}
 use Rattle.gos_command.specs.Lines.{counted}
 use Rattle.gos_command.specs.declared.report.Report.{Report}

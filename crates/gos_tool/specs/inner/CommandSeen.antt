@@ -1,7 +1,7 @@
 -- A command as its words mean it.
 use Rattle.gos_outside.specs.FileName.{IsFileName}
 use Rattle.gos_tool.specs.demo.DemoFiles.{IsLevelCount}
-use Rattle.gos_tool.specs.Command.{Command, Check, Compile, Link, Sim, Build, Demo}
+use Rattle.gos_tool.specs.Command.{Command, Check, Compile, Link, Sim, Build, Demo, Tidy}
 use Rattle.gos_tool.specs.declared.command.Command as declared
 use Rattle.gos_tool.specs.declared.command.Command.TheVariants as words
 
@@ -12,6 +12,7 @@ meant (words.Link own) = Link own.now
 meant (words.Sim net pulses trace) = Sim net.now pulses.now trace.now
 meant (words.Build own) = Build own.now
 meant (words.Demo levels) = Demo levels
+meant (words.Tidy net out) = Tidy net.now out.now
 
 -- the files of a command have file names, and the number of levels is in its range
 abbrev pub HasFileNames : Command → Type 0
@@ -21,3 +22,4 @@ HasFileNames (Link own) = IsFileName own
 HasFileNames (Sim net pulses trace) = IsFileName net × IsFileName pulses × IsFileName trace
 HasFileNames (Build own) = IsFileName own
 HasFileNames (Demo levels) = IsLevelCount levels
+HasFileNames (Tidy net out) = IsFileName net × IsFileName out

@@ -2,7 +2,7 @@
 --
 -- Read first: ParsedModules of gos_syntax; Accepted and Judgements of gos_check. Of a file no more than 65,537 bytes are
 -- read, one more than a source may have.
-use Rattle.std.specs.Prelude.{◌≡◌, ◌≤◌, ℕ, List, length, take, Some, None}
+use Rattle.std.specs.Prelude.{◌≡◌, ◌≤◌, ℕ, List, length, take, None}
 use Rattle.gos_outside.specs.Files.{Files, bytes_at}
 use Rattle.gos_lex.specs.Lines.{Word}
 use Rattle.gos_lex.specs.declared.token.Token.{Token}
@@ -16,6 +16,7 @@ use Rattle.gos_check.specs.Judgements.{module_judged}
 use Rattle.gos_command.specs.Ends.{IsRealCause}
 use Rattle.gos_command.specs.Lines.{fault_line}
 use Rattle.gos_command.specs.declared.report.Report.{Report}
+use Rattle.gos_command.specs.declared.report.Report.TheVariants as reports
 use Rattle.gos_command.specs.declared.status.Cause.{Cause}
 use Rattle.gos_command.specs.declared.status.Cause.TheVariants as causes
 use Rattle.gos_command.specs.declared.status.Fault.{Fault}
@@ -40,7 +41,7 @@ pub record SaysModule (text : List ℕ) (m : SeenModule) : Type 0 where
 pub record IsChecked (files : Files) (source : Word) (report : Report) : Type 0 where
   pub made : SeenModule
   pub says : SaysModule (bytes_at files source) made
-  pub tells : report ≡ record { weight = Some (weighed made); run = None }
+  pub tells : report ≡ reports.Weight (weighed made)
 
 -- Why a source is rejected: it has no tokens, they are no module, or the module has a first fault.
 abbrev pub IsSourceCause : List ℕ → Cause → Type 0

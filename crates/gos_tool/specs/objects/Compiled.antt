@@ -2,7 +2,7 @@
 --
 -- Read first: Checked; Wiring of gos_compile (the plan of a module); Modules and Slim of gos_realises (what it is to realise a
 -- module); ObjectText and ObjectFaults of gos_plan (its text, and which texts are read).
-use Rattle.std.specs.Prelude.{◌≡◌, ◌⊎◌, ℕ, List, Option, Some, None, IfSome}
+use Rattle.std.specs.Prelude.{◌≡◌, ◌⊎◌, ℕ, List, Option, Some, IfSome}
 use Rattle.gos_outside.specs.Files.{Files, bytes_at, with_file, SameBut}
 use Rattle.gos_outside.specs.Faults.{LastFault, ReadFault, WriteFault}
 use Rattle.gos_lex.specs.Lines.{Word}
@@ -19,6 +19,7 @@ use Rattle.gos_realises.specs.realises.Modules.{RealisesModule}
 use Rattle.gos_realises.specs.realises.Slim.{IsSlim}
 use Rattle.gos_compile.specs.Wiring.{IsPlanOf}
 use Rattle.gos_command.specs.declared.report.Report.{Report}
+use Rattle.gos_command.specs.declared.report.Report.TheVariants as reports
 use Rattle.gos_tool.specs.objects.Checked.{SaysModule}
 
 -- The plan of a module: its parts and joints are those of a typed term that stands for the module. The plan is slim and realises
@@ -45,7 +46,7 @@ pub record IsCompiled (files : Files) (new : Option Files) (source object : Word
   pub says : SaysModule (bytes_at files source) made
   pub compiled : IsObjectOf text made
   pub wrote : new ≡ with_file object text (Some files)
-  pub tells : report ≡ record { weight = Some (weighed made); run = None }
+  pub tells : report ≡ reports.Weight (weighed made)
 
 -- The calls of the store, each with what was written before it: the source is read, and the object is written where the
 -- source says a module that is accepted. A file whose write fails may hold anything.

@@ -11,7 +11,8 @@ use Rattle.gos_pulse.specs.Driving.{IsBroken}
 use Rattle.gos_pulse.specs.declared.entries.Entry.{Entry}
 use Rattle.gos_command.specs.declared.status.Fault.{Fault}
 use Rattle.gos_tool.specs.simulate.Simulation.{RunsUnder, IsPulseFault}
-use Rattle.gos_tool.specs.simulate.Sim.{SaysNet, IsSimFault}
+use Rattle.gos_tool.specs.netlists.Netlist.{SaysNet}
+use Rattle.gos_tool.specs.simulate.Sim.{IsSimFault}
 
 -- the text is that of a pulse file for this netlist, and no entry of it breaks the protocol in the netlist's run
 abbrev pub MayRunUnder : Netlist → List ℕ → Type 0

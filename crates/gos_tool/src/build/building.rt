@@ -13,7 +13,7 @@ ghost use Rattle.gos_tool.specs.Calls.{plans_calls, build_calls, GoesByBuild};
 ghost use Rattle.gos_tool.specs.build.Built.{IsPlansBuilt, IsBuilt, RejectsPlans, RejectsInstances, RejectsBuild};
 ghost use Rattle.gos_tool.specs.build.Built.{IsPlansBuildCall, IsInstancesCall, IsBuildCall, written_by, KeepsUnnamed};
 ghost use Rattle.gos_tool.specs.build.Built.{IsPlansBuildCutShort, IsInstancesCutShort, IsBuildCutShort};
-ghost use Rattle.gos_tool.specs.build.inner.Compiling.{AreApart};
+ghost use Rattle.gos_tool.specs.build.inner.Compiling.{AreApart, AreFit};
 ghost use Rattle.gos_tool.specs.build.inner.Instances.{AreInstancesBuilt};
 
 use crate::build::compiling::compile_all;
@@ -22,6 +22,7 @@ use crate::circuits::{build_in, link_plans};
 use crate::simulate::simulate;
 use gos_command::{Report, Stop};
 use gos_link::Build;
+use gos_linked::laws::fits::slim_plans_fit;
 use gos_outside::Store;
 use gos_plan::Plan;
 use std::alloc::Global;
@@ -95,6 +96,7 @@ fn build_plans<S: Store>(
 ) -> Result<Report, Stop>
     requires own { IsFileName own.now }
     requires plans { IsLinkable build.now plans.now }
+    requires fit { AreFit plans.now }
     ensures done { IfOk result (IsPlansBuilt (S.contents store.old) (S.contents store.new) build.now plans.now) }
     ensures rejected { IfErr result (λ stop. IfStopped stop (RejectsPlans (S.contents store.old) (S.contents store.new) own.now build.now plans.now)) }
     ensures told { IfErr result (λ stop. IfStopped stop IsTold) }
@@ -107,6 +109,7 @@ fn build_plans<S: Store>(
     ensures memory_files { IsErrOf result Stop.NoMemory → IsPlansBuildCutShort (S.contents store.old) (S.contents store.new) build.now plans.now }
     ensures others { OthersSame (build.now.net ∷ build.now.verilog ∷ build.now.trace ∷ []) (S.contents store.old) (S.contents store.new) }
 {
+    slim_plans_fit();
     let linked = link_plans(alloc, own, build, plans, store)?;
     let counts = simulate(
         alloc,
@@ -115,8 +118,8 @@ fn build_plans<S: Store>(
         build.trace.bytes(),
         store,
     )?;
-    Ok(Report {
-        weight: Some(linked.weight),
-        run: Some(counts),
+    Ok(Report::Build {
+        weight: linked.weight,
+        run: counts,
     })
 }

@@ -14,7 +14,7 @@ ghost use Rattle.gos_tool.specs.Causes.{OfSource, StopsFor};
 ghost use Rattle.gos_tool.specs.Calls.{compile_calls, module_calls};
 ghost use Rattle.gos_tool.specs.objects.Checked.{IsSourceFault, SaysModule};
 ghost use Rattle.gos_tool.specs.build.Objects.{objects_of, AllWritten, SomeWritten, RejectsModule, IsInstanceCall, IsModuleCall};
-ghost use Rattle.gos_tool.specs.build.inner.Compiling.{AreApart, IsCompiledAs};
+ghost use Rattle.gos_tool.specs.build.inner.Compiling.{AreApart, AreFit, IsCompiledAs, IsFit};
 
 use crate::objects::{module_in, write_plan};
 use gos_command::Stop;
@@ -36,6 +36,7 @@ pub fn compile_all<S: Store>(
     ensures written { IfOk result (λ plans. IfSome (S.contents store.old) (λ files. AllWritten files (S.contents store.new) instances.now plans.items)) }
     ensures each { IfOk result (λ plans. length plans.items ≡ length instances.now) }
     ensures limits { IfOk result (λ plans. AllKeepLimits (plans_of plans.items)) }
+    ensures fit { IfOk result (λ plans. AreFit plans.items) }
     ensures rejected { IfErr result (λ stop. IfStopped stop (λ fault line.
         IfSome (S.contents store.old) (λ files. RejectsModule files (S.contents store.new) instances.now fault line))) }
     ensures told { IfErr result (λ stop. IfStopped stop IsTold) }
@@ -64,6 +65,7 @@ fn compile_one<S: Store>(alloc: Global, instance: &Instance, store: &mut S) -> R
         IsCompiledAs (bytes_at files instance.now.source) (plan_of plan))) }
     ensures wrote { IfOk result (λ plan. S.contents store.new ≡ with_file instance.now.object (text_of (plan_of plan)) (S.contents store.old)) }
     ensures limits { IfOk result (λ plan. KeepsLimits (plan_of plan)) }
+    ensures fit { IfOk result (λ plan. IsFit (plan_of plan)) }
     ensures rejected { IfErr result (λ stop. IfStopped stop (λ fault line.
         IfSome (S.contents store.old) (λ files. IsSourceFault files instance.now.source fault line))) }
     ensures told { IfErr result (λ stop. IfStopped stop IsTold) }

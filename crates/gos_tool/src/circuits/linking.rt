@@ -6,7 +6,7 @@ ghost use Rattle.gos_outside.specs.OtherFiles.{OthersSame};
 ghost use Rattle.gos_outside.specs.Faults.{CountsFaults};
 ghost use Rattle.gos_outside.specs.Calls.{AreMade};
 ghost use Rattle.gos_command.specs.Ends.{IfStopped, IsTold, ending};
-ghost use Rattle.gos_tool.specs.Causes.{OfObject, OfBuild, StopsFor, TellsWeight};
+ghost use Rattle.gos_tool.specs.Causes.{OfObject, OfBuild, OfSize, StopsFor, TellsWeight};
 ghost use Rattle.gos_tool.specs.Calls.{link_calls, GoesByBuild};
 ghost use Rattle.gos_tool.specs.circuits.Linked.{IsLinkDone, RejectsWhole, RejectsLink};
 ghost use Rattle.gos_tool.specs.circuits.Linked.{IsWholeCall, IsLinkCall, IsWholeCutShort, IsLinkCutShort, KeepsUnnamed};
@@ -34,7 +34,7 @@ pub fn link_build<S: Store>(alloc: Global, own: &[u8], store: &mut S) -> Result<
     ensures told { IfErr result (λ stop. IfStopped stop IsTold) }
     ensures rejected_files { IfErr result (λ stop. IfStopped stop (λ fault line. S.contents store.new ≡ S.contents store.old)) }
     ensures tells { IfOk result TellsWeight }
-    ensures kind { IfErr result (StopsFor (OfObject ∷ OfBuild ∷ [])) }
+    ensures kind { IfErr result (StopsFor (OfObject ∷ OfBuild ∷ OfSize ∷ [])) }
     ensures calls { GoesByBuild (ending result) [] (S.contents store.old) own.now link_calls (S.calls store.old) (S.calls store.new) }
 
     // The store is blamed only for a call that failed, and that the command makes then.
@@ -64,7 +64,7 @@ fn link_objects<S: Store>(
     ensures told { IfErr result (λ stop. IfStopped stop IsTold) }
     ensures rejected_files { IfErr result (λ stop. IfStopped stop (λ fault line. S.contents store.new ≡ S.contents store.old)) }
     ensures tells { IfOk result TellsWeight }
-    ensures kind { IfErr result (StopsFor (OfObject ∷ OfBuild ∷ [])) }
+    ensures kind { IfErr result (StopsFor (OfObject ∷ OfBuild ∷ OfSize ∷ [])) }
     ensures calls { AreMade (ending result) (link_calls build.now) (S.calls store.old) (S.calls store.new) }
     ensures counts { CountsFaults (IsErrOf result Stop.StoreFailed) (S.faults store.old) (S.faults store.new) }
     ensures failed_call { IsErrOf result Stop.StoreFailed →
@@ -75,8 +75,5 @@ fn link_objects<S: Store>(
     paced_circuits();
     let plans = plans_in(alloc, build.instances.as_slice(), store)?;
     let linked = link_plans(alloc, own, build, plans.as_slice(), store)?;
-    Ok(Report {
-        weight: Some(linked.weight),
-        run: None,
-    })
+    Ok(Report::Weight(linked.weight))
 }

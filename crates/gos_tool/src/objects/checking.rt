@@ -41,10 +41,7 @@ pub fn check_source<S: Store>(alloc: Global, source: &[u8], store: &mut S) -> Re
     ensures same_files { S.contents store.new ≡ S.contents store.old }
 {
     let linear = module_in(alloc, source, store)?;
-    Ok(Report {
-        weight: Some(linear.weight()),
-        run: None,
-    })
+    Ok(Report::Weight(linear.weight()))
 }
 
 /// Reads a source file and checks its module, which has at most 64 imports.

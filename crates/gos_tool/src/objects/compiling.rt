@@ -55,10 +55,7 @@ pub fn compile_source<S: Store>(
 {
     let linear = module_in(alloc, source, store)?;
     let _plan = write_plan(alloc, &linear, object, store)?;
-    Ok(Report {
-        weight: Some(linear.weight()),
-        run: None,
-    })
+    Ok(Report::Weight(linear.weight()))
 }
 
 /// Compiles a checked module, and writes the text of its plan as the object file.

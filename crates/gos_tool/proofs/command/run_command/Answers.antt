@@ -3,7 +3,7 @@ use Rattle.std.specs.Prelude.{IfErr}
 use Rattle.gos_command.specs.Ends.{IfStopped}
 use Rattle.gos_tool.specs.Run.{IsRejected, IsCall}
 use Rattle.gos_tool.specs.inner.CommandSeen.{meant}
-use Rattle.gos_tool.proofs.EndLemmas.{sim_rejected, compile_rejected, link_rejected}
+use Rattle.gos_tool.proofs.EndLemmas.{sim_rejected, compile_rejected, link_rejected, tidy_rejected}
 use Rattle.gos_tool.proofs.command.run_command.Goals as goal
 
 pub returns-in-Sim-clause-failed_call : goal.returns-in-Sim-clause-failed_call
@@ -38,3 +38,14 @@ returns-in-Link-clause-rejected g c =
     let new = g.S.Store.contents c.link_build.new.store in
     subst (λ command. IfErr c.link_build.result (λ stop. IfStopped stop (IsRejected (meant command) old new))) (sym c.in-Link.is)
     (link_rejected c.in-Link.own.now old new c.link_build.result c.link_build.ensures.rejected_files c.link_build.ensures.rejected)
+
+pub returns-in-Tidy-clause-failed_call : goal.returns-in-Tidy-clause-failed_call
+returns-in-Tidy-clause-failed_call g c = λ failed.
+    subst (λ command. IsCall (meant command) (g.S.Store.contents c.args.store.now) (g.S.Store.contents c.tidy_net.new.store) (g.S.Store.last_fault c.tidy_net.new.store)) (sym c.in-Tidy.is) (c.tidy_net.ensures.failed_call failed)
+
+pub returns-in-Tidy-clause-rejected : goal.returns-in-Tidy-clause-rejected
+returns-in-Tidy-clause-rejected g c =
+    let old = g.S.Store.contents c.args.store.now in
+    let new = g.S.Store.contents c.tidy_net.new.store in
+    subst (λ command. IfErr c.tidy_net.result (λ stop. IfStopped stop (IsRejected (meant command) old new))) (sym c.in-Tidy.is)
+    (tidy_rejected c.in-Tidy.net.now c.in-Tidy.out.now old new c.tidy_net.result c.tidy_net.ensures.rejected_files c.tidy_net.ensures.file c.tidy_net.ensures.rejected)

@@ -1,7 +1,7 @@
 -- The headline, from what `build` leaves: the texts stand in their files since these have different names, and each bind line
 -- names what its service binds.
 use Rattle.std.specs.Prelude.{◌≡◌, ◌≢◌, ◌∷◌, [], ℕ, List, Option, Some, None, map, length, slice_get, Bool, cond, unwrap_or, option_map, ◌++◌, get_or}
-use Rattle.std.proofs.Common.{refl, sym, ◌∙◌, ap, subst, arith}
+use Rattle.std.proofs.Common.{sym, ◌∙◌, ap, subst, arith}
 use Rattle.std.specs.Str.{bytes_eq}
 use Rattle.std.specs.FinMap.{get, insert, get-insert}
 use Rattle.std.specs.Cmp.Lexicographic.{nat_list_cmp_total}
@@ -12,7 +12,6 @@ use Rattle.gos_outside.proofs.FilesLemmas.{others_keep}
 use Rattle.gos_lex.specs.Lines.{Word}
 use Rattle.gos_syntax.specs.Modules.{SeenModule}
 use Rattle.gos_model.specs.Sources.{program_of}
-use Rattle.gos_model.specs.Linking.{Bind}
 use Rattle.gos_plan.specs.Seen.{SeenPlan, plan_of, import_of}
 use Rattle.gos_link.specs.declared.build.Build.{Build}
 use Rattle.gos_link.specs.declared.build.Instance.{Instance}

@@ -1,5 +1,5 @@
 -- From linking and simulation to what `build` leaves once its plans are there.
-use Rattle.std.proofs.Common.{◌≡◌, inr, ℕ, List, [], ◌∷◌, Option, Some, sym, subst}
+use Rattle.std.proofs.Common.{◌≡◌, inr, ℕ, List, [], ◌∷◌, Option, sym, subst}
 use Rattle.std.specs.Prelude.{IfSome}
 use Rattle.gos_outside.specs.Files.{Files, SameBut}
 use Rattle.gos_outside.specs.OtherFiles.{OthersSame}
@@ -11,6 +11,7 @@ use Rattle.gos_plan.specs.Seen.{SeenPlan}
 use Rattle.gos_link.specs.declared.build.Build.{Build}
 use Rattle.gos_command.specs.declared.report.Counts.{Counts}
 use Rattle.gos_command.specs.declared.report.Report.{Report}
+use Rattle.gos_command.specs.declared.report.Report.TheVariants as reports
 use Rattle.gos_command.specs.declared.status.Fault.{Fault}
 use Rattle.gos_tool.specs.circuits.Plans.{IsPlansDone}
 use Rattle.gos_tool.specs.simulate.Simulation.{LeavesTrace, IsPulseFault, IsSimulationCall}
@@ -19,7 +20,7 @@ use Rattle.gos_tool.specs.build.Built.{IsPlansBuilt, RejectsPlans, IsPlansBuildC
 -- the files that are named by these words are those that the build names
 pub plans_built : (old mid new : Option Files) (b : Build) (plans : List SeenPlan) (weight : ℕ) (net : Netlist) (pulses trace : Word) (counts : Counts) (report : Report)
     → pulses ≡ b.pulses → trace ≡ b.trace → IsPlansDone old mid b plans weight net → LeavesTrace mid new net pulses trace counts
-    → report ≡ record { weight = Some weight; run = Some counts } → IsPlansBuilt old new b plans report
+    → report ≡ reports.Build weight counts → IsPlansBuilt old new b plans report
 plans_built old mid new b plans weight net pulses trace counts report same_pulses same_trace done traced tells =
     record {
       net = net;

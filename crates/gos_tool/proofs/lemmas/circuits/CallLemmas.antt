@@ -1,9 +1,9 @@
 -- The calls of a command that goes by its build file.
-use Rattle.std.proofs.Common.{◌≡◌, ◌≢◌, inl, inr, List, [], ◌∷◌, ◌++◌, ℕ, Option, Result, Ok, Err, subst, sym}
+use Rattle.std.proofs.Common.{◌≡◌, inl, inr, List, [], ◌∷◌, ℕ, Option, Result, Ok, Err, subst, sym}
 use Rattle.std.specs.Prelude.{IfSome}
 use Rattle.std.specs.Result.{IsErrAnd}
 use Rattle.gos_outside.specs.Files.{Files}
-use Rattle.gos_outside.specs.Calls.{StoreCall, Calls, and_all, Ending, Whole, AreMade}
+use Rattle.gos_outside.specs.Calls.{StoreCall, Calls, and_all, Ending, AreMade}
 use Rattle.gos_outside.proofs.CallsLemmas.{goes_on}
 use Rattle.gos_lex.specs.Lines.{Word}
 use Rattle.gos_link.specs.BuildFile.{IsBuildFile}

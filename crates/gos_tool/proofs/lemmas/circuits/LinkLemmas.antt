@@ -1,5 +1,5 @@
 -- From the parts of the command `link` to what the whole leaves.
-use Rattle.std.proofs.Common.{◌≡◌, ◌≤◌, ◌∙◌, inl, inr, ℕ, List, [], ◌∷◌, Option, Some, None, length, ap, sym, subst}
+use Rattle.std.proofs.Common.{◌≡◌, ◌≤◌, ◌∙◌, inl, inr, ℕ, List, [], ◌∷◌, Option, length, ap, sym, subst}
 use Rattle.std.specs.Prelude.{IfSome}
 use Rattle.gos_outside.specs.Files.{Files, bytes_at, with_file, SameBut}
 use Rattle.gos_outside.specs.OtherFiles.{OthersSame}
@@ -17,6 +17,7 @@ use Rattle.gos_link.specs.declared.build.Instance.{Instance}
 use Rattle.gos_verilog.specs.VerilogText.{IsVerilogOf}
 use Rattle.gos_command.specs.Files.{IsReadWhole}
 use Rattle.gos_command.specs.declared.report.Report.{Report}
+use Rattle.gos_command.specs.declared.report.Report.TheVariants as reports
 use Rattle.gos_command.specs.declared.status.Fault.{Fault}
 use Rattle.gos_command.proofs.EndLemmas.{of_some, of_some_both}
 use Rattle.gos_tool.specs.circuits.Circuit.{IsCircuitOf}
@@ -70,7 +71,7 @@ linkable b is ps plans same linked each limits few_instances few_binds =
 pub whole_done : LinkedCircuitsKeepPace → (old mid new : Option Files) (b : Build) (plans : List SeenPlan) (weight : ℕ) (net : Netlist) (report : Report)
     → mid ≡ old → length plans ≡ length b.instances.items
     → IfSome old (λ files. HoldPlans files b.instances.items plans) → IsPlansDone mid new b plans weight net
-    → report ≡ record { weight = Some weight; run = None } → IsWholeDone old new b report
+    → report ≡ reports.Weight weight → IsWholeDone old new b report
 whole_done law old mid new b plans weight net report same each held done tells =
     record {
       whole = done.whole;
@@ -78,7 +79,7 @@ whole_done law old mid new b plans weight net report same each held done tells =
       linked = record { plans = plans; held = held; linked = done.linked };
       written = subst (λ (told : Option Files). IsWritten told new b done.whole net) same done.written;
       pace = λ programs all. law b plans done.whole programs b.root net done.linked each all done.written.circuit;
-      tells = tells ∙ ap (λ (n : ℕ). record { weight = Some n; run = None }) done.weighs;
+      tells = tells ∙ ap (λ (n : ℕ). reports.Weight n) done.weighs;
     }
 
 -- a call that linking makes, and what it leaves where memory runs out, where the plans are those that the object files hold

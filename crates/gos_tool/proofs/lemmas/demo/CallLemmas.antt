@@ -4,7 +4,6 @@ use Rattle.std.specs.Result.{IsErrAnd}
 use Rattle.gos_outside.specs.Files.{Files}
 use Rattle.gos_outside.specs.Calls.{StoreCall, Calls, and_all, Ending, Whole, AreMade}
 use Rattle.gos_outside.proofs.CallsLemmas.{ends_before, goes_on}
-use Rattle.gos_link.specs.declared.build.Build.{Build}
 use Rattle.gos_command.specs.Ends.{stop_ending, ending}
 use Rattle.gos_command.specs.declared.stop.Stop.{Stop}
 use Rattle.gos_command.specs.declared.stop.Stop.TheVariants as stops

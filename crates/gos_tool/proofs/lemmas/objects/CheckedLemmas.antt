@@ -1,10 +1,11 @@
 -- That the text of a source that was checked is the whole file, and what is known of its module.
-use Rattle.std.proofs.Common.{◌≡◌, ◌∙◌, ℕ, List, take, Option, Some, None, ap, subst}
+use Rattle.std.proofs.Common.{◌≡◌, ◌∙◌, ℕ, List, take, Option, ap, subst}
 use Rattle.std.specs.Prelude.{IfSome}
 use Rattle.gos_outside.specs.Files.{Files, bytes_at}
 use Rattle.gos_lex.specs.Lines.{Word}
 use Rattle.gos_check.specs.Checked.{SeenLinear}
 use Rattle.gos_command.specs.declared.report.Report.{Report}
+use Rattle.gos_command.specs.declared.report.Report.TheVariants as reports
 use Rattle.gos_command.proofs.FilesLemmas.{is_read_whole}
 use Rattle.gos_command.proofs.EndLemmas.{of_some}
 use Rattle.gos_tool.specs.objects.Checked.{IsChecked}
@@ -19,9 +20,9 @@ typed_file told source text linear read typed =
     read
 
 pub checked : (told : Option Files) (source : Word) (linear : SeenLinear) (report : Report)
-    → IfSome told (λ files. IsTypedAs (bytes_at files source) linear) → report ≡ record { weight = Some linear.weight; run = None }
+    → IfSome told (λ files. IsTypedAs (bytes_at files source) linear) → report ≡ reports.Weight linear.weight
     → IfSome told (λ files. IsChecked files source report)
 checked told source linear report typed tells =
     of_some (λ files. IsTypedAs (bytes_at files source) linear) (λ files. IsChecked files source report) told
-    (λ files is. record { made = is.made; says = is.says; tells = tells ∙ ap (λ (n : ℕ). record { weight = Some n; run = None }) is.weight })
+    (λ files is. record { made = is.made; says = is.says; tells = tells ∙ ap (λ (n : ℕ). reports.Weight n) is.weight })
     typed

@@ -22,6 +22,7 @@ use Rattle.gos_realises.specs.realises.Slim.{IsSlim}
 use Rattle.gos_compile.specs.Wiring.{IsPlanOf}
 use Rattle.gos_terms.specs.theorem.Modules.{ModuleIsRealised}
 use Rattle.gos_command.specs.declared.report.Report.{Report}
+use Rattle.gos_command.specs.declared.report.Report.TheVariants as reports
 use Rattle.gos_tool.specs.objects.Compiled.{IsPlanOfModule, IsCompiled}
 use Rattle.gos_tool.specs.objects.Typed.{IsTypedAs, IsPlanFor}
 use Rattle.gos_tool.proofs.lemmas.objects.ImportLemmas.{few_imports}
@@ -84,7 +85,7 @@ plan_too m other plan program result is =
 -- the object was written
 pub compiled : (told new : Option Files) (source object : Word) (linear : SeenLinear) (plan : Plan) (report : Report)
     → IfSome told (λ files. IsTypedAs (bytes_at files source) linear) → IsPlanFor linear plan → new ≡ with_file object (text_of plan) told
-    → report ≡ record { weight = Some linear.weight; run = None } → IfSome told (λ files. IsCompiled files new source object report)
+    → report ≡ reports.Weight linear.weight → IfSome told (λ files. IsCompiled files new source object report)
 compiled None new source object linear plan report typed is wrote tells = tt
 compiled (Some files) new source object linear plan report typed is wrote tells =
     record {
@@ -93,5 +94,5 @@ compiled (Some files) new source object linear plan report typed is wrote tells 
       says = typed.says;
       compiled = record { plan = plan; compiled = plan_is (bytes_at files source) linear typed plan is; is = refl };
       wrote = wrote;
-      tells = tells ∙ ap (λ (n : ℕ). record { weight = Some n; run = None }) typed.weight;
+      tells = tells ∙ ap (λ (n : ℕ). reports.Weight n) typed.weight;
     }

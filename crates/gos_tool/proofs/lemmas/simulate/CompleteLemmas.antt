@@ -13,7 +13,7 @@ use Rattle.gos_pulse.specs.declared.fault.PulseFault.TheVariants as pulses
 use Rattle.gos_command.specs.declared.status.Cause.{Cause}
 use Rattle.gos_command.specs.declared.status.Cause.TheVariants as causes
 use Rattle.gos_tool.specs.simulate.Simulation.{IsPulseCause, IsPulseFault}
-use Rattle.gos_tool.specs.simulate.Sim.{IsNetCause, SaysNet}
+use Rattle.gos_tool.proofs.lemmas.netlists.CompleteLemmas.{same_net, no_net_cause}
 use Rattle.gos_tool.specs.simulate.Complete.{EmptyIsNoNet, EndedMayRun, MayRunUnder, PulsesAreNotRejected, SimIsNotRejected}
 
 never_breaks : (net : Netlist) (cycles : ℕ) (entries : List Entry) → ((cycle event : ℕ) → IsBroken net cycles entries cycle event → ⊥)
@@ -48,23 +48,6 @@ module _ (one_file : (net : Netlist) (text : List ℕ) → IsAccepted net → Is
 pub ended_may_run : ((net : Netlist) (cycles : ℕ) (file : List Entry) → IsAccepted net → DrivenIsNotBroken net cycles file) → EndedMayRun
 ended_may_run not_broken net text accepted (cycles, entries, run, unused, file, driven) =
     (cycles, entries, file, λ cycle event broken. not_broken net cycles entries accepted run unused cycle event driven broken)
-
-module _ (one_netlist : (text : List ℕ) → IsOneNetlist text) where
-  same_net : (text : List ℕ) (net other : Netlist) → SaysNet text net → SaysNet text other → net ≡ other
-  same_net text net other one two = one_netlist text net other one.read.writable two.read.writable one.read.is two.read.is
-
-  no_net_cause : ((text : List ℕ) → ReadHasNoFault text) → ((net : Netlist) → AcceptedHasNoFault net) → (text : List ℕ) (net : Netlist)
-      → SaysNet text net → (cause : Cause) → IsNetCause text cause → ⊥
-  no_net_cause no_fault not_refused text net says (causes.Net why) (real, has) = real (no_fault text net why says.read has)
-  no_net_cause no_fault not_refused text net says (causes.Refused why) (real, other, read, has) =
-      let same = one_netlist text net other says.read.writable read.writable says.read.is read.is in
-      real (not_refused other why (subst IsAccepted same says.accepted) has)
-  no_net_cause no_fault not_refused text net says (causes.Lex why) cause = cause
-  no_net_cause no_fault not_refused text net says (causes.Syntax why) cause = cause
-  no_net_cause no_fault not_refused text net says (causes.Check why) cause = cause
-  no_net_cause no_fault not_refused text net says (causes.Object why) cause = cause
-  no_net_cause no_fault not_refused text net says (causes.Link why) cause = cause
-  no_net_cause no_fault not_refused text net says (causes.Pulse why) cause = cause
 
 pub sim_is_not_rejected : PulsesAreNotRejected → ((text : List ℕ) → IsOneNetlist text) → ((text : List ℕ) → ReadHasNoFault text)
     → ((net : Netlist) → AcceptedHasNoFault net) → SimIsNotRejected

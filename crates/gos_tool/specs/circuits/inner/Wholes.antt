@@ -1,10 +1,11 @@
 -- What `link` leaves once the build file is read.
-use Rattle.std.specs.Prelude.{◌≡◌, Option, Some, None}
+use Rattle.std.specs.Prelude.{◌≡◌, Option}
 use Rattle.gos_outside.specs.Files.{Files}
 use Rattle.gos_netlist.specs.Nets.{Netlist}
 use Rattle.gos_plan.specs.Plans.{Plan}
 use Rattle.gos_link.specs.declared.build.Build.{Build}
 use Rattle.gos_command.specs.declared.report.Report.{Report}
+use Rattle.gos_command.specs.declared.report.Report.TheVariants as reports
 use Rattle.gos_tool.specs.circuits.Plans.{IsWritten}
 use Rattle.gos_tool.specs.circuits.Linked.{IsWhole, KeepsPaceOfWhole}
 
@@ -15,4 +16,4 @@ pub record IsWholeDone (old new : Option Files) (b : Build) (report : Report) : 
   pub linked : IsWhole old b whole
   pub written : IsWritten old new b whole net
   pub pace : KeepsPaceOfWhole old b whole linked net
-  pub tells : report ≡ record { weight = Some whole.weight; run = None }
+  pub tells : report ≡ reports.Weight whole.weight

@@ -1,4 +1,4 @@
-use Rattle.std.proofs.Common.{Option, inr, subst, inl, ◌∷◌, []}
+use Rattle.std.proofs.Common.{Option, inr, subst, ◌∷◌, []}
 use Rattle.std.specs.Prelude.{IfSome}
 use Rattle.gos_outside.specs.Files.{Files}
 use Rattle.gos_outside.specs.OtherFiles.{OthersSame}

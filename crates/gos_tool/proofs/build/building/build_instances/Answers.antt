@@ -9,7 +9,7 @@ use Rattle.gos_tool.proofs.lemmas.circuits.ExitLemmas.{err_is, failed_as}
 use Rattle.gos_tool.proofs.lemmas.circuits.LinkLemmas.{linkable}
 use Rattle.gos_tool.specs.build.Objects.{AllWritten, SomeWritten, RejectsModule, IsModuleCall, objects_of}
 use Rattle.gos_tool.specs.build.Built.{IsPlansBuilt, RejectsPlans, RejectsInstances, IsInstancesCall, IsInstancesCutShort}
-use Rattle.gos_tool.specs.build.inner.Compiling.{AreApart}
+use Rattle.gos_tool.specs.build.inner.Compiling.{AreApart, AreFit}
 use Rattle.gos_tool.specs.build.inner.Instances.{AreInstancesBuilt}
 use Rattle.gos_tool.proofs.lemmas.build.BuildLemmas.{instances_built, plans_rejected, plans_call, plans_cut_short, objects_alone, then_the_rest}
 use Rattle.gos_tool.proofs.build.building.build_instances.Given.{Over}
@@ -112,6 +112,9 @@ pub build_plans-requires-clause-plans : goal.build_plans-requires-clause-plans
 build_plans-requires-clause-plans g c =
     linkable c.args.build.now _ _ _ c.as_slice.ensures.value c.as_slice-2.ensures.value c.in_ok-plans.ensures.each c.in_ok-plans.ensures.limits
     c.requires.few_instances c.requires.few_binds
+
+pub build_plans-requires-clause-fit : goal.build_plans-requires-clause-fit
+build_plans-requires-clause-fit g c = subst AreFit (sym c.as_slice-2.ensures.value) c.in_ok-plans.ensures.fit
 
 pub returns-in_err-plans-clause-kind : goal.returns-in_err-plans-clause-kind
 returns-in_err-plans-clause-kind g c =

@@ -10,6 +10,7 @@ use Rattle.gos_outside.specs.Calls.{Whole}
 use Rattle.gos_lex.specs.Lines.{Word}
 use Rattle.gos_tool.specs.Causes.{OfBuild, OfPulses}
 use Rattle.gos_tool.proofs.lemmas.StopLemmas.{stops_before, stops_behind}
+use Rattle.gos_tool.proofs.lemmas.build.FitLemmas.{never_too_large}
 use Rattle.gos_tool.proofs.build.building.build_plans.Goals as goal
 
 pub returns-clause-done : goal.returns-clause-done
@@ -92,7 +93,9 @@ returns-clause-calls g c =
 
 pub returns-in_err-linked-clause-kind : goal.returns-in_err-linked-clause-kind
 returns-in_err-linked-clause-kind g c =
-    rw (err_is _ c.from_residual.ensures.1) (stops_before (OfBuild ∷ []) (OfPulses ∷ []) c.in_err-linked.field-0.0 c.in_err-linked.ensures.kind)
+    rw (err_is _ c.from_residual.ensures.1) (stops_before (OfBuild ∷ []) (OfPulses ∷ []) c.in_err-linked.field-0.0
+    (never_too_large c.slim_plans_fit.ensures.fits c.args.own.now c.args.build.now c.args.plans.now c.in_err-linked.field-0.0
+    c.requires.plans c.requires.fit c.in_err-linked.ensures.rejected))
 
 pub returns-in_err-counts-clause-kind : goal.returns-in_err-counts-clause-kind
 returns-in_err-counts-clause-kind g c =

@@ -6,9 +6,9 @@ use Rattle.gos_link.proofs.CountedLemmas.{limits_more}
 use Rattle.gos_command.proofs.EndLemmas.{of_stopped_both, not_whole}
 use Rattle.gos_tool.proofs.lemmas.circuits.ExitLemmas.{err_is, failed_as}
 use Rattle.gos_tool.specs.build.Objects.{RejectsModule}
-use Rattle.gos_tool.specs.build.inner.Compiling.{AreSoFar}
+use Rattle.gos_tool.specs.build.inner.Compiling.{AreFit, AreSoFar}
 use Rattle.gos_tool.proofs.lemmas.build.ObjectLemmas.{is_next, so_far, some_written, rejects, calls, all_written, objects_same}
-use Rattle.gos_outside.specs.Calls.{Whole}
+use Rattle.gos_tool.proofs.lemmas.build.FitLemmas.{one_more_fits}
 use Rattle.gos_command.proofs.LoopLemmas.{IsLeft, turn_made, turn_ends, ends_after, none_left}
 use Rattle.gos_tool.specs.Calls.{compile_calls, module_calls}
 use Rattle.gos_tool.proofs.lemmas.circuits.ObjectLemmas.{next_instance}
@@ -31,7 +31,7 @@ loop-instance-preserved g c =
     let now = g.S.Store.calls c.loop-instance.store in
     let one_more_compiled =
     turn_made (module_calls all) (compile_calls i.source i.object) (module_calls (drop (k + 1) all)) first now (g.S.Store.calls c.compile_one.new.store)
-    (subst (λ (rest : List Instance). IsLeft (module_calls all) (module_calls rest) first now) (next_instance all k i c.loop-instance-test.true c.instance-item.is) c.loop-instance.invariant.5)
+    (subst (λ (rest : List Instance). IsLeft (module_calls all) (module_calls rest) first now) (next_instance all k i c.loop-instance-test.true c.instance-item.is) c.loop-instance.invariant.6)
     c.in_ok-plan.ensures.calls in (
       subst (λ (ps : List SeenPlan). IfSome old (λ files. AreSoFar files new all ps)) (sym c.in-Ok.ensures.items)
           (so_far next _ p c.in_ok-plan.ensures.wrote c.in_ok-plan.ensures.made),
@@ -39,6 +39,7 @@ loop-instance-preserved g c =
       objects_same next _ c.in_ok-plan.ensures.others,
       c.in_ok-plan.ensures.counts.1 (λ e. cc e) ∙ c.loop-instance.invariant.3,
       limits_more plans _ p c.in-Ok.ensures.items c.loop-instance.invariant.4 c.in_ok-plan.ensures.limits,
+      subst AreFit (sym c.in-Ok.ensures.items) (one_more_fits plans p c.loop-instance.invariant.5 c.in_ok-plan.ensures.fit),
       one_more_compiled,
     )
 
@@ -94,7 +95,7 @@ returns-in_err-plan-clause-calls g c =
     let now = g.S.Store.calls c.loop-instance.store in
     let new = g.S.Store.calls c.compile_one.new.store in
     rw (err_is _ c.from_residual.ensures.1)
-    (turn_ends _ (module_calls all) (compile_calls i.source i.object) (module_calls (drop (k + 1) all)) old now new (subst (λ (rest : List Instance). IsLeft (module_calls all) (module_calls rest) old now) (next_instance all k i c.loop-instance-test.true c.instance-item.is) c.loop-instance.invariant.5) (not_whole c.in_err-plan.field-0.0) c.in_err-plan.ensures.calls)
+    (turn_ends _ (module_calls all) (compile_calls i.source i.object) (module_calls (drop (k + 1) all)) old now new (subst (λ (rest : List Instance). IsLeft (module_calls all) (module_calls rest) old now) (next_instance all k i c.loop-instance-test.true c.instance-item.is) c.loop-instance.invariant.6) (not_whole c.in_err-plan.field-0.0) c.in_err-plan.ensures.calls)
 
 pub returns-in_default-clause-calls : goal.returns-in_default-clause-calls
 returns-in_default-clause-calls g c =
@@ -104,7 +105,7 @@ returns-in_default-clause-calls g c =
     let old = g.S.Store.calls c.args.store.now in
     let now = g.S.Store.calls c.loop-instance.store in
     let new = g.S.Store.calls c.compile_one.new.store in
-    ends_after (module_calls all) (compile_calls i.source i.object) (module_calls (drop (k + 1) all)) old now new (subst (λ (rest : List Instance). IsLeft (module_calls all) (module_calls rest) old now) (next_instance all k i c.loop-instance-test.true c.instance-item.is) c.loop-instance.invariant.5) c.in_ok-plan.ensures.calls
+    ends_after (module_calls all) (compile_calls i.source i.object) (module_calls (drop (k + 1) all)) old now new (subst (λ (rest : List Instance). IsLeft (module_calls all) (module_calls rest) old now) (next_instance all k i c.loop-instance-test.true c.instance-item.is) c.loop-instance.invariant.6) c.in_ok-plan.ensures.calls
 
 pub returns-clause-calls : goal.returns-clause-calls
 returns-clause-calls g c =
@@ -113,4 +114,4 @@ returns-clause-calls g c =
     let old = g.S.Store.calls c.args.store.now in
     let now = g.S.Store.calls c.loop-instance.store in
     let none : drop k all ≡ [] = drop_all k all (omega (arith, c.loop-instance-test.false, c.loop-instance.auto.instance-index-end)) in
-    none_left (module_calls all) old now (subst (λ (rest : List Instance). IsLeft (module_calls all) (module_calls rest) old now) none c.loop-instance.invariant.5)
+    none_left (module_calls all) old now (subst (λ (rest : List Instance). IsLeft (module_calls all) (module_calls rest) old now) none c.loop-instance.invariant.6)

@@ -3,7 +3,7 @@ use Rattle.gos_outside.specs.Files.{bytes_at}
 use Rattle.gos_plan.specs.Seen.{SeenPlan, plan_of}
 use Rattle.gos_command.proofs.EndLemmas.{of_result, early, made_of}
 use Rattle.gos_tool.specs.objects.Typed.{IsPlanFor}
-use Rattle.gos_tool.specs.build.inner.Compiling.{IsCompiledAs}
+use Rattle.gos_tool.specs.build.inner.Compiling.{IsCompiledAs, IsFit}
 use Rattle.gos_tool.proofs.lemmas.build.ObjectLemmas.{compiled_as, instance_call}
 use Rattle.std.proofs.Common.{◌∷◌, []}
 use Rattle.gos_outside.specs.Calls.{Write, Whole}
@@ -20,6 +20,12 @@ returns-clause-made g c =
     of_result (λ (plan : SeenPlan). IsPlanFor linear (plan_of plan)) (λ (plan : SeenPlan). IfSome old (λ files. IsCompiledAs (bytes_at files source) (plan_of plan)))
     c.write_plan.result
     (λ plan is. compiled_as old c.bytes.result.now source c.bytes.ensures.bytes linear (plan_of plan) c.in_ok-linear.ensures.typed is) c.write_plan.ensures.made
+
+pub returns-clause-fit : goal.returns-clause-fit
+returns-clause-fit g c =
+    let linear = c.in_ok-linear.linear in
+    of_result (λ (plan : SeenPlan). IsPlanFor linear (plan_of plan)) (λ (plan : SeenPlan). IsFit (plan_of plan)) c.write_plan.result
+    (λ plan is. record { right = is.realises.right; slim = is.slim }) c.write_plan.ensures.made
 
 pub returns-clause-failed_call : goal.returns-clause-failed_call
 returns-clause-failed_call g c = λ failed.

@@ -11,8 +11,8 @@ use Rattle.gos_tool.proofs.lemmas.circuits.ExitLemmas.{err_is}
 use Rattle.gos_tool.proofs.lemmas.circuits.LinkLemmas.{rejected_later, link_done}
 use Rattle.gos_tool.proofs.lemmas.circuits.CallLemmas.{at_build_file, by_build_file}
 use Rattle.gos_tool.specs.Calls.{link_calls}
-use Rattle.gos_tool.specs.Causes.{OfObject, OfBuild}
-use Rattle.gos_tool.proofs.lemmas.StopLemmas.{stops_behind}
+use Rattle.gos_tool.specs.Causes.{OfObject, OfBuild, OfSize}
+use Rattle.gos_tool.proofs.lemmas.StopLemmas.{stops_before, stops_behind}
 use Rattle.gos_tool.proofs.circuits.linking.link_build.Goals as goal
 
 pub returns-in_err-build-clause-rejected : goal.returns-in_err-build-clause-rejected
@@ -73,4 +73,5 @@ returns-clause-calls g c =
 
 pub returns-in_err-build-clause-kind : goal.returns-in_err-build-clause-kind
 returns-in_err-build-clause-kind g c =
-    rw (err_is _ c.from_residual.ensures.1) (stops_behind (OfObject ∷ []) (OfBuild ∷ []) c.in_err-build.field-0.0 c.in_err-build.ensures.kind)
+    rw (err_is _ c.from_residual.ensures.1) (stops_behind (OfObject ∷ []) (OfBuild ∷ OfSize ∷ []) c.in_err-build.field-0.0
+    (stops_before (OfBuild ∷ []) (OfSize ∷ []) c.in_err-build.field-0.0 c.in_err-build.ensures.kind))

@@ -1,4 +1,4 @@
-use Rattle.std.proofs.Common.{◌∙◌, length, List, Some, None, ap, refl, ◌∷◌, []}
+use Rattle.std.proofs.Common.{◌∙◌, length, List, ap, refl, ◌∷◌, []}
 use Rattle.std.specs.Prelude.{IfSome}
 use Rattle.gos_plan.specs.Seen.{SeenPlan}
 use Rattle.gos_link.specs.declared.build.Instance.{Instance}
@@ -9,9 +9,10 @@ use Rattle.gos_tool.proofs.lemmas.circuits.LinkLemmas.{held_as, linkable, whole_
 use Rattle.gos_outside.proofs.CallsLemmas.{goes_on}
 use Rattle.gos_tool.specs.Calls.{object_calls, circuit_calls}
 use Rattle.gos_outside.specs.Calls.{Whole}
-use Rattle.gos_tool.specs.Causes.{OfBuild, OfObject}
+use Rattle.gos_tool.specs.Causes.{OfBuild, OfObject, OfSize}
 use Rattle.gos_tool.proofs.lemmas.StopLemmas.{stops_before, stops_behind}
 use Rattle.gos_tool.proofs.circuits.linking.link_objects.Goals as goal
+use Rattle.gos_command.specs.declared.report.Report.TheVariants as reports
 
 pub returns-clause-done : goal.returns-clause-done
 returns-clause-done g c =
@@ -20,7 +21,7 @@ returns-clause-done g c =
     ∙ (c.in_ok-plans.ensures.each ∙ ap (λ (is : List Instance). length is) c.as_slice.ensures.value) in
     let held = held_as _ _ _ _ _ c.as_slice.ensures.value c.as_slice-2.ensures.value c.in_ok-plans.ensures.held in
     whole_done c.paced_circuits.ensures.linked (g.S.Store.contents c.args.store.now) (g.S.Store.contents c.plans_in.new.store) (g.S.Store.contents c.link_plans.new.store) c.args.build.now
-    c.as_slice-2.result.now linked.weight linked.net (record { weight = Some linked.weight; run = None }) c.in_ok-plans.ensures.same_files each held c.in_ok-linked.ensures.done refl
+    c.as_slice-2.result.now linked.weight linked.net (reports.Weight linked.weight) c.in_ok-plans.ensures.same_files each held c.in_ok-linked.ensures.done refl
 
 pub returns-in_err-linked-clause-rejected : goal.returns-in_err-linked-clause-rejected
 returns-in_err-linked-clause-rejected g c =
@@ -65,8 +66,8 @@ returns-clause-calls g c =
 
 pub returns-in_err-plans-clause-kind : goal.returns-in_err-plans-clause-kind
 returns-in_err-plans-clause-kind g c =
-    rw (err_is _ c.from_residual.ensures.1) (stops_before (OfObject ∷ []) (OfBuild ∷ []) c.in_err-plans.field-0.0 c.in_err-plans.ensures.kind)
+    rw (err_is _ c.from_residual.ensures.1) (stops_before (OfObject ∷ []) (OfBuild ∷ OfSize ∷ []) c.in_err-plans.field-0.0 c.in_err-plans.ensures.kind)
 
 pub returns-in_err-linked-clause-kind : goal.returns-in_err-linked-clause-kind
 returns-in_err-linked-clause-kind g c =
-    rw (err_is _ c.from_residual-in_err-linked.ensures.1) (stops_behind (OfObject ∷ []) (OfBuild ∷ []) c.in_err-linked.field-0.0 c.in_err-linked.ensures.kind)
+    rw (err_is _ c.from_residual-in_err-linked.ensures.1) (stops_behind (OfObject ∷ []) (OfBuild ∷ OfSize ∷ []) c.in_err-linked.field-0.0 c.in_err-linked.ensures.kind)

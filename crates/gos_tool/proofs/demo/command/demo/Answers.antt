@@ -1,6 +1,6 @@
 use Rattle.std.proofs.Common.{◌∙◌, ap, subst, List}
 use Rattle.gos_outside.specs.OtherFiles.{OthersSame}
-use Rattle.gos_tool.specs.demo.DemoFiles.{NamedText, demo_files}
+use Rattle.gos_tool.specs.demo.DemoFiles.{NamedText}
 use Rattle.gos_tool.specs.demo.Demo.{with_files, names_of}
 use Rattle.gos_tool.proofs.lemmas.demo.EndLemmas.{demo_done, demo_never_rejected, demo_call, demo_cut_short, all_others}
 use Rattle.gos_tool.proofs.lemmas.demo.CallLemmas.{at_files, out_of_memory, then_builds}

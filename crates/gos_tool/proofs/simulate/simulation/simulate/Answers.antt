@@ -1,7 +1,7 @@
 use Rattle.std.proofs.Common.{◌∷◌, []}
 use Rattle.gos_outside.specs.Calls.{Write}
 use Rattle.gos_outside.proofs.CallsLemmas.{goes_on}
-use Rattle.gos_command.proofs.EndLemmas.{early, stops_after}
+use Rattle.gos_command.proofs.EndLemmas.{early}
 use Rattle.gos_tool.specs.Calls.{read_pulses}
 use Rattle.gos_tool.proofs.simulate.simulation.simulate.Goals as goal
 

@@ -1,10 +1,8 @@
 use Rattle.std.specs.Prelude.{IfSome}
-use Rattle.gos_command.proofs.EndLemmas.{of_stopped, stops_after}
-use Rattle.gos_tool.specs.simulate.Sim.{IsNetFault}
-use Rattle.gos_tool.proofs.lemmas.simulate.SimLemmas.{refused}
-use Rattle.std.proofs.Common.{◌∷◌, []}
-use Rattle.gos_tool.specs.Calls.{read_netlist}
-use Rattle.gos_tool.proofs.simulate.sim_command.checked_net.Goals as goal
+use Rattle.gos_command.proofs.EndLemmas.{of_stopped}
+use Rattle.gos_tool.specs.netlists.Netlist.{IsNetFault}
+use Rattle.gos_tool.proofs.lemmas.netlists.NetLemmas.{refused}
+use Rattle.gos_tool.proofs.netlists.reading.checked_net.Goals as goal
 
 pub returns-in-Err-clause-rejected : goal.returns-in-Err-clause-rejected
 returns-in-Err-clause-rejected g c =

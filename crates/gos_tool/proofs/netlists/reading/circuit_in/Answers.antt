@@ -1,7 +1,7 @@
 use Rattle.std.proofs.Common.{◌∷◌, []}
 use Rattle.gos_command.proofs.EndLemmas.{stops_after}
 use Rattle.gos_tool.specs.Calls.{read_netlist}
-use Rattle.gos_tool.proofs.simulate.sim_command.circuit_in.Goals as goal
+use Rattle.gos_tool.proofs.netlists.reading.circuit_in.Goals as goal
 
 pub returns-clause-calls : goal.returns-clause-calls
 returns-clause-calls g c =
