@@ -98,20 +98,20 @@ def memory_of(number):
     return max([int(line.split()[1]) * 1024 for line in lines if line.startswith('VmHWM:')], default=0)
 
 
-def run(words, folder):
+def run(words, folder, wanted=0, limit=LIMIT):
     """Runs a program to its end. Its memory is looked at from outside: what wait tells has this script's in it."""
     child = subprocess.Popen(words, cwd=folder, stdout=subprocess.DEVNULL, stderr=subprocess.DEVNULL, start_new_session=True)
     start, memory, ended = time.monotonic(), 0, 0
     while not ended:
         memory = max(memory, memory_of(child.pid))
-        if time.monotonic() - start > LIMIT:
+        if time.monotonic() - start > limit:
             os.killpg(child.pid, signal.SIGKILL)
         time.sleep(0.0003)
         ended, status, used = os.wait4(child.pid, os.WNOHANG)
     child.returncode = os.waitstatus_to_exitcode(status)
     if child.returncode == -signal.SIGKILL:
         raise TooLong
-    if child.returncode:
+    if child.returncode != wanted:
         raise subprocess.CalledProcessError(child.returncode, words)
     return Spent(used.ru_utime + used.ru_stime, memory)
 
