@@ -24,7 +24,7 @@ import builds  # (built has put the folder above into the path)
 TOP = Path(__file__).resolve().parent.parent.parent
 TOOLS, LATCH = TOP / "tools", TOP / "examples" / "latch"
 # What tools/quick and the gate run.
-TRIED = ("tools/house", "examples/run", "tools/tests/test_tools.py", "tools/tests/tutorial",
+TRIED = ("tools/house", "examples/run", "fuzz/run", "fuzz/test_oracle.py", "tools/tests/test_tools.py", "tools/tests/tutorial",
          *(f"tools/tests/test_{it}.py" for it in "play where lsp costs cookbook lib make examples language".split()))
 WORDS = re.search(r"The words are `([^`]+)`", (TOP / "docs" / "LANGUAGE.md").read_text().replace("\n  ", " "))[1].split()
 
@@ -32,6 +32,26 @@ WORDS = re.search(r"The words are `([^`]+)`", (TOP / "docs" / "LANGUAGE.md").rea
 def run(*words, cwd=None, **environment):
     how = {"cwd": cwd, "capture_output": True, "text": True, "env": {**os.environ, **environment}}
     return subprocess.run([str(it) for it in words], **how)
+
+
+class Gates(unittest.TestCase):
+    def binary(self, text):
+        with tempfile.TemporaryDirectory() as room:
+            (Path(room) / "a.aag").write_text(text)
+            ran = run(TOOLS / "aag-to-aig", "a.aag", "a.aig", cwd=room)
+            made = Path(room) / "a.aig"
+            return ran.returncode, ran.stderr, made.read_bytes() if made.exists() else None
+
+    def test_a_latch(self):
+        self.assertEqual(self.binary("aag 4 1 2 1 1\n2\n4 9\n6 9\n6\n8 5 3\n"), (0, "", b"aig 4 1 2 1 1\n9\n9\n6\n\x03\x02"))
+
+    def test_a_difference_of_more_than_seven_bits(self):
+        inputs = "".join(f"{2 * v}\n" for v in range(1, 200))
+        self.assertEqual(self.binary(f"aag 200 199 0 0 1\n{inputs}400 3 0\n"), (0, "", b"aig 200 199 0 0 1\n\x8d\x03\x03"))
+
+    def test_other_texts(self):
+        for text in ("", "aag 2 1 1 1 1\n2\n", "aig 0 0 0 0 0\n", "aag 1 1 0 0 0\n4\n"):
+            self.assertEqual(self.binary(text), (1, "a.aag: not a text of gates\n", None))
 
 
 class Where(unittest.TestCase):
@@ -573,7 +593,7 @@ class Script(Standin):
         formats = (TOP / "docs/FORMATS.md").read_text()
         self.assertEqual(ran.stdout.split("\n")[0], re.search(r"^    (usage: gos .*)$", formats, re.M)[1])
         commands = re.findall(r"^\| `([a-z]+ [A-Z ]+)` \|", formats.split("\n## ")[1], re.M)
-        self.assertEqual(len(commands), 6)
+        self.assertEqual(len(commands), 7)
         for command in commands:
             self.assertRegex(ran.stdout, rf"(?m)^  {command}  ")
         for status in (*range(6), 70, 127):
