@@ -1,8 +1,9 @@
 -- A term that is judged has its type by the rules, and keeps the limits.
-use Rattle.std.specs.Prelude.{◌≡◌, ◌<◌, ◌≤◌, ◌^◌, ℕ, List, ◌∷◌, Bool, true, false, Option, Some, None, Ok, Err, if◌then◌else◌, nat_lt}
+use Rattle.std.specs.Prelude.{◌≡◌, ◌<◌, ◌≤◌, ◌^◌, ℕ, List, ◌∷◌, Bool, true, false, Option, Some, None, Ok, Err, if◌then◌else◌, ◌&&◌, nat_lt, nat_le}
 use Rattle.std.proofs.Common.{arith, refl, sym, subst, ◌∙◌}
 use Rattle.std.proofs.lemmas.Bool.Decides.{nat_tests}
 use Rattle.gos_lex.specs.declared.token.Span.{Span}
+use Rattle.gos_types.specs.declared.widths.TheConstants.{GREATEST_WIDTH}
 use Rattle.gos_types.specs.Types.{Type', Com, Exp, Var, Pair, Fun, IsDone}
 use Rattle.gos_syntax.specs.Trees.{Tree, Skip, Lit, Use, Lam, New, App, Both, Fst, Snd, Seq, Par, If, While, Assign, Deref, Not, Bin}
 use Rattle.gos_model.specs.Terms.{Name}
@@ -24,8 +25,11 @@ use Rattle.gos_check.proofs.DemandLemmas.{used_is, application_is, first_is, sec
 use Rattle.gos_check.proofs.WeightLemmas.{looked_up, type_there, judged_type}
 use Rattle.gos_check.proofs.ThingLemmas.{apart_in_model}
 
+between_is : (w most : ℕ) → (nat_lt 0 w && nat_le w most) ≡ true → (1 ≤ w) × (w ≤ most)
+between_is w most h = let p : 0 < w = grind (arith, nat_tests) in let q : w ≤ most = grind (arith, nat_tests) in (omega arith, q)
+
 pub width_is : (w : ℕ) → is_width w ≡ true → IsWidth w
-width_is w h = let p : 0 < w = grind (arith, nat_tests) in let q : w < 33 = grind (arith, nat_tests) in (omega arith, omega arith)
+width_is w h = between_is w GREATEST_WIDTH h
 
 pub no_width_wrong : (w : ℕ) → (if is_width w then None else Some w) ≡ None → is_width w ≡ true
 no_width_wrong w h = tested (is_width w) h

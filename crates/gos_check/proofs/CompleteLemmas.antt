@@ -1,8 +1,9 @@
 -- A term that has a type by the rules, and keeps the limits, is judged to have it.
-use Rattle.std.specs.Prelude.{◌≡◌, ◌<◌, ◌≤◌, ◌^◌, ℕ, List, ◌∷◌, true, false, Option, Some, None, Ok, if◌then◌else◌, nat_lt}
+use Rattle.std.specs.Prelude.{◌≡◌, ◌<◌, ◌≤◌, ◌^◌, ℕ, List, ◌∷◌, true, false, Option, Some, None, Ok, if◌then◌else◌, ◌&&◌, nat_lt, nat_le}
 use Rattle.std.proofs.Common.{arith, refl, sym, ap, subst, ◌∙◌}
 use Rattle.std.proofs.lemmas.Bool.Decides.{nat_tests}
 use Rattle.gos_lex.specs.declared.token.Span.{Span}
+use Rattle.gos_types.specs.declared.widths.TheConstants.{GREATEST_WIDTH}
 use Rattle.gos_types.specs.Types.{Type', Com, Exp, Var, Pair, Fun, IsDone}
 use Rattle.gos_syntax.specs.Trees.{Tree, Skip, Lit, Use, Lam, New, App, Both, Fst, Snd, Seq, Par, If, While, Assign, Deref, Not, Bin}
 use Rattle.gos_model.specs.Terms.{Name}
@@ -56,9 +57,12 @@ done_ok s (Var w) h = absurd h
 done_ok s (Pair a b) h = absurd h
 done_ok s (Fun a b) h = absurd h
 
+between_test : (w most : ℕ) → 1 ≤ w → w ≤ most → (nat_lt 0 w && nat_le w most) ≡ true
+between_test w most h k =
+    let p : nat_lt 0 w ≡ true = grind (arith, nat_tests) in let q : nat_le w most ≡ true = grind (arith, nat_tests) in rw (p, q) refl
+
 width_test : (w : ℕ) → IsWidth w → is_width w ≡ true
-width_test w (h, k) =
-    let p : nat_lt 0 w ≡ true = grind (arith, nat_tests) in let q : nat_lt w 33 ≡ true = grind (arith, nat_tests) in rw (p, q) refl
+width_test w (h, k) = between_test w GREATEST_WIDTH h k
 
 none_wrong : (w : ℕ) → IsWidth w → (if is_width w then None else Some w) ≡ None
 none_wrong w h = rw (width_test w h) refl

@@ -1,15 +1,16 @@
 -- Widths, literals, and types as they are written.
 --
--- Read first: Faults. Widths are 1 to 32, and a type has at most 64 handshakes.
-use Rattle.std.specs.Prelude.{ℕ, ◌^◌, Bool, ◌&&◌, Option, Some, None, Ok, Err, nat_lt, if◌then◌else◌}
+-- Read first: Faults. Widths are 1 to the greatest, and a type has at most 64 handshakes.
+use Rattle.std.specs.Prelude.{ℕ, ◌^◌, Bool, ◌&&◌, Option, Some, None, Ok, Err, nat_lt, nat_le, if◌then◌else◌}
 use Rattle.gos_lex.specs.declared.token.Span.{Span}
+use Rattle.gos_types.specs.declared.widths.TheConstants.{GREATEST_WIDTH}
 use Rattle.gos_types.specs.Types.{Type', Com, Exp, Var, Pair, Fun}
 use Rattle.gos_model.specs.Weight.{count}
 use Rattle.gos_check.specs.Faults.{Width, TypeTooLarge, Found, after}
 
 -- whether a number is a width
 abbrev pub is_width : ℕ → Bool
-is_width w = nat_lt 0 w && nat_lt w 33
+is_width w = nat_lt 0 w && nat_le w GREATEST_WIDTH
 
 -- the first of two, where there is one
 abbrev pub first_of : Option ℕ → Option ℕ → Option ℕ

@@ -9,7 +9,7 @@ ghost use Rattle.gos_check.specs.Written.{is_width, first_of, bad_width, small, 
 
 use crate::fault::CheckFault;
 use gos_lex::Span;
-use gos_types::{Ty, count, is_width};
+use gos_types::{Ty, count, fits, is_width};
 
 // How many handshakes a type may have.
 const MAX_HANDSHAKES: u64 = 64;
@@ -98,7 +98,7 @@ pub(crate) fn literal(span: Span, value: u32, width: u32) -> Result<Ty, CheckFau
     ensures err { IfErr result (λ e. Refuses (literal span value width) e) }
 {
     written_width(span, width)?;
-    if u64::from(value) < 2u64.pow(width) {
+    if fits(u64::from(value), width) {
         Ok(Ty::Exp(width))
     } else {
         Err(CheckFault::Width { span, width, value })

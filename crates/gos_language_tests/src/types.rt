@@ -1,6 +1,7 @@
 // Each public function once, at types whose handshakes and texts are written out by hand.
 use gos_types::{
-    Handshake, NoMemory, Role, Step, Ty, copy, count, handshakes, is_ground, print_ty, same,
+    Handshake, NoMemory, Role, Step, Ty, copy, count, difference, fits, greatest, handshakes,
+    is_ground, is_width, print_ty, same, sum,
 };
 use std::alloc::Global;
 use std::test::Fail;
@@ -127,4 +128,26 @@ fn prints_functions(rt: HostRuntime) {
         )
     );
     assert!(rt; is_printed_as(alloc, product_with_a_function(alloc), "(com -> com) * com"));
+}
+
+// Widths at both ends of their range, and numbers at both ends of those of 1, 32, 63 and 64 bits.
+#[test]
+fn numbers_of_widths(rt: HostRuntime) {
+    assert!(rt; is_width(1) && is_width(32) && !is_width(0) && !is_width(33));
+    assert!(rt; fits(1, 1) && !fits(2, 1) && fits(0, 0) && !fits(1, 0));
+    assert!(rt; fits(4_294_967_295, 32) && !fits(4_294_967_296, 32));
+    assert!(rt; fits(9_223_372_036_854_775_807, 63) && !fits(9_223_372_036_854_775_808, 63));
+    assert!(rt; fits(18_446_744_073_709_551_615, 64) && fits(18_446_744_073_709_551_615, 65));
+    assert!(rt; greatest(0) == 0 && greatest(1) == 1 && greatest(32) == 4_294_967_295);
+    assert!(rt; greatest(63) == 9_223_372_036_854_775_807);
+    assert!(rt; greatest(64) == 18_446_744_073_709_551_615);
+}
+
+// A carry and a borrow are dropped at 8, 32 and 64 bits.
+#[test]
+fn sums_and_differences(rt: HostRuntime) {
+    assert!(rt; sum(8, 200, 100) == 44 && difference(8, 100, 200) == 156);
+    assert!(rt; sum(32, 4_294_967_295, 2) == 1 && difference(32, 1, 2) == 4_294_967_295);
+    assert!(rt; sum(64, 18_446_744_073_709_551_615, 2) == 1);
+    assert!(rt; difference(64, 1, 2) == 18_446_744_073_709_551_615);
 }

@@ -3,6 +3,7 @@
 -- Read first: Nets of gos_netlist; Rules.
 use Rattle.std.specs.Prelude.{◌≡◌, ℕ, ◌^◌, ◌<◌, ◌≤◌, List, length, map, get_or}
 use Rattle.std.specs.List.{AllByRecursion}
+use Rattle.gos_types.specs.declared.widths.TheConstants.{GREATEST_WIDTH}
 use Rattle.gos_netlist.specs.Nets.{Function, Input, Const, Not, And, Or, Xor, Mux, Add, Sub, Eq, Less, Gate, Reg, Cell, pins}
 use Rattle.gos_netcheck.specs.Rules.{Kept, IsFirstToBreak}
 
@@ -34,9 +35,9 @@ OperandsFit ws w (Less a b) = (width_at ws a ≡ width_at ws b) × (w ≡ 1)
 OperandsFit ws w (Gate s a) = (width_at ws s ≡ 1) × (width_at ws a ≡ w)
 OperandsFit ws w (Reg a) = width_at ws a ≡ w
 
--- a cell has 1 to 32 bits, and its operands fit
+-- the bits of a cell are a width, and its operands fit
 abbrev pub HasRightWidths : List ℕ → Cell → Type 0
-HasRightWidths ws c = (1 ≤ c.width) × (c.width ≤ 32) × OperandsFit ws c.width c.gate
+HasRightWidths ws c = (1 ≤ c.width) × (c.width ≤ GREATEST_WIDTH) × OperandsFit ws c.width c.gate
 
 -- both as rules for all cells
 abbrev pub NetsExist : List Cell → Type 0

@@ -16,7 +16,7 @@ ghost use Rattle.gos_netcheck.specs.inner.CellFaults.{IsCellFault};
 
 use crate::fault::NetFault;
 use gos_netlist::{Cell, Gate, NetId};
-use gos_types::is_width;
+use gos_types::{fits, is_width};
 
 // The first fault of a cell. Only where there is one it is looked which.
 pub(crate) fn first_wrong_cell(cells: &[Cell]) -> Option<NetFault>
@@ -61,7 +61,7 @@ fn is_right(cells: &[Cell], cell: &Cell) -> bool
     }
     match cell.gate {
         Gate::Input => true,
-        Gate::Const(k) => k < 1u64 << width,
+        Gate::Const(k) => fits(k, width),
         Gate::Not(a) | Gate::Reg(a) => has_width(cells, a, width),
         Gate::And(a, b) | Gate::Or(a, b) | Gate::Xor(a, b) | Gate::Add(a, b) | Gate::Sub(a, b) => {
             has_width(cells, a, width) && has_width(cells, b, width)
@@ -139,7 +139,7 @@ fn first_of_wrong_width(cells: &[Cell]) -> Option<usize>
     None
 }
 
-// Whether the cell has 1 to 32 bits, and its operands fit.
+// Whether the cell has a width, and its operands fit.
 fn has_right_widths(cells: &[Cell], cell: &Cell) -> bool
     ensures { IsTrue result ↔ HasRightWidths (widths_of (map cell_of cells.now)) (cell_of cell.now) }
 {
@@ -148,12 +148,11 @@ fn has_right_widths(cells: &[Cell], cell: &Cell) -> bool
 
 // Whether the operands fit a cell of so many bits.
 fn operands_fit(cells: &[Cell], width: u32, gate: Gate) -> bool
-    requires { width ≤ 32 }
     ensures { IsTrue result ↔ OperandsFit (widths_of (map cell_of cells.now)) width (function_of gate) }
 {
     match gate {
         Gate::Input => true,
-        Gate::Const(k) => k < 1u64 << width,
+        Gate::Const(k) => fits(k, width),
         Gate::Not(a) | Gate::Reg(a) => width_of(cells, a) == width,
         Gate::And(a, b) | Gate::Or(a, b) | Gate::Xor(a, b) | Gate::Add(a, b) | Gate::Sub(a, b) => {
             width_of(cells, a) == width && width_of(cells, b) == width

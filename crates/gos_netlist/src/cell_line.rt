@@ -1,5 +1,5 @@
 // The line of a cell: its word, its width, and its constant or its nets.
-ghost use Rattle.std.specs.Prelude.{◌≡◌, ◌<◌, ◌≤◌, ◌-◌, ◌^◌, IfOk, IfErr, [], ◌∷◌, length, take};
+ghost use Rattle.std.specs.Prelude.{◌≡◌, ◌<◌, ◌≤◌, IfOk, IfErr, [], ◌∷◌, length, take};
 ghost use Rattle.gos_lex.specs.Items.{Misses};
 ghost use Rattle.gos_netlist.specs.Seen.{cell_of, function_of};
 ghost use Rattle.gos_netlist.specs.NetText.{cell_text, operands};
@@ -12,6 +12,7 @@ use crate::items::{few_nets, number};
 use crate::nets::{Cell, Gate, NetId};
 use crate::word::{GateWord, gate_word};
 use gos_lex::Cursor;
+use gos_types::greatest;
 
 /// Passes the line of a cell. `Err` is the place where it breaks off.
 pub fn cell(cursor: &mut Cursor) -> Result<Cell, usize>
@@ -61,14 +62,6 @@ fn constant(cursor: &mut Cursor, width: u32) -> Result<Gate, usize>
 {
     let k = number(cursor, 0, greatest(width), b'\n')?;
     Ok(Gate::Const(k))
-}
-
-// The greatest number of so many bits.
-fn greatest(width: u32) -> u64
-    requires width { IsWidth width }
-    ensures { result ≡ 2 ^ width - 1 }
-{
-    (1u64 << width) - 1
 }
 
 // The gate that names as many of these nets as it has pins.

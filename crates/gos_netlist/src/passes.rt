@@ -1,12 +1,12 @@
 // Settling a small netlist by repeated passes over all its cells.
-ghost use Rattle.std.specs.Prelude.{◌≡◌, ◌<◌, ◌≤◌, ◌+◌, ◌-◌, ◌%◌, ◌^◌, All, IsErrOf, IfOk, map, length, nat_eq, if◌then◌else◌};
+ghost use Rattle.std.specs.Prelude.{◌≡◌, ◌<◌, ◌≤◌, ◌+◌, ◌-◌, ◌^◌, All, IsErrOf, IfOk, map, length, nat_eq, if◌then◌else◌};
 ghost use Rattle.gos_netlist.specs.Seen.{cell_of, function_of};
 ghost use Rattle.gos_netlist.specs.Settling.{Settling, at, shown};
 ghost use Rattle.gos_netlist.specs.Cycles.{HasCycle};
 ghost use Rattle.gos_netlist.specs.inner.Passes.{pass, after_passes};
 
 use crate::nets::{Cell, Gate, NetId, Netlist};
-use gos_types::NoMemory;
+use gos_types::{NoMemory, difference, greatest, sum};
 use std::alloc::{AllocError, Global};
 use thiserror::Error;
 
@@ -151,33 +151,5 @@ fn complement(width: u32, a: u64) -> u64
     requires { width ≤ 64 }
     ensures { result ≡ 2 ^ width - 1 - a }
 {
-    (two_to(width) - 1).saturating_sub(u128::from(a)) as u64
-}
-
-// The sum, without its carry.
-fn sum(width: u32, a: u64, b: u64) -> u64
-    requires { width ≤ 64 }
-    ensures { result ≡ (a + b) % 2 ^ width }
-{
-    ((u128::from(a) + u128::from(b)) % two_to(width)) as u64
-}
-
-// The difference, without its borrow.
-fn difference(width: u32, a: u64, b: u64) -> u64
-    requires { width ≤ 64 }
-    ensures { result ≡ (a + 2 ^ width - b) % 2 ^ width }
-{
-    let size = two_to(width);
-    ((u128::from(a) + size).saturating_sub(u128::from(b)) % size) as u64
-}
-
-// How many numbers have at most so many bits.
-#[tactic(auto, using(crate::proofs::PassLemmas::small_power))]
-fn two_to(width: u32) -> u128
-    requires { width ≤ 64 }
-    ensures value { result ≡ 2 ^ width }
-    ensures some { 0 < result }
-    ensures within { result ≤ 2 ^ 64 }
-{
-    1u128 << width
+    greatest(width).saturating_sub(a)
 }

@@ -2,6 +2,7 @@
 use Rattle.std.proofs.Common.{◌≡◌, inl, inr, ℕ, zero, suc, ◌-◌, ◌^◌, ◌<◌, ◌≤◌, false, List, [], ◌++◌, refl, sym, ◌∙◌, ap, subst, arith}
 use Rattle.std.specs.Char.{is_ascii_digit}
 use Rattle.std.proofs.Math.Nat.{pow-le-pow_right, one-le-pow}
+use Rattle.gos_types.specs.declared.widths.TheConstants.{GREATEST_WIDTH}
 use Rattle.gos_types.specs.Types.{Type', Com}
 use Rattle.gos_lex.specs.Items.{TextAt}
 use Rattle.gos_plan.specs.declared.kinds.Op2.{Op2}
@@ -64,7 +65,7 @@ exp_word : (v : ℕ) → 1 ≤ v → body_word_of v ≡ bodies.Exp
 exp_word zero some = absurd (omega (arith, some))
 exp_word (suc v) some = refl
 
-pub body_exp_via : Via (body_operand bodies.Exp) (number_in 1 32 10)
+pub body_exp_via : Via (body_operand bodies.Exp) (number_in 1 GREATEST_WIDTH 10)
 body_exp_via =
     record {
       into = λ v. v;
@@ -96,7 +97,7 @@ body_com_via =
 
 lawful_body_operand : (word : BodyWord) → Lawful (body_operand word)
 lawful_body_operand bodies.Com = via_lawful (body_operand bodies.Com) (exactly []) body_com_via (lawful_exactly [])
-lawful_body_operand bodies.Exp = via_lawful (body_operand bodies.Exp) (number_in 1 32 10) body_exp_via (lawful_number 1 32 10 (omega arith) (omega arith) refl)
+lawful_body_operand bodies.Exp = via_lawful (body_operand bodies.Exp) (number_in 1 GREATEST_WIDTH 10) body_exp_via (lawful_number 1 GREATEST_WIDTH 10 (omega arith) (omega arith) refl)
 
 pub some_body_operand : (word : BodyWord) → (v : ℕ) × (body_operand word).Is v
 some_body_operand word = let law = lawful_body_operand word in (law.some, law.some_is)
@@ -108,10 +109,10 @@ pub lawful_body : Lawful body
 lawful_body = via_lawful body (both (words BodyWord body_word_text) body_operand) body_via (lawful_both (words BodyWord body_word_text) body_operand lawful_body_words (λ word is. lawful_body_operand word))
 
 -- the word of an expression, and its bits
-pub exp_reads : (v : ℕ) (old mid new : TextAt) → Reads (words BodyWord body_word_text) old mid bodies.Exp → Reads (number_in 1 32 10) mid new v → Reads body old new v
+pub exp_reads : (v : ℕ) (old mid new : TextAt) → Reads (words BodyWord body_word_text) old mid bodies.Exp → Reads (number_in 1 GREATEST_WIDTH 10) mid new v → Reads body old new v
 exp_reads v old mid new first second =
-    reads_as body (both (words BodyWord body_word_text) (λ word. number_in 1 32 10)) old new v (bodies.Exp, v) (exp_text v second.is.0) second.is.1 tt
-    (both_read (words BodyWord body_word_text) (λ word. number_in 1 32 10) old mid new bodies.Exp v first second)
+    reads_as body (both (words BodyWord body_word_text) (λ word. number_in 1 GREATEST_WIDTH 10)) old new v (bodies.Exp, v) (exp_text v second.is.0) second.is.1 tt
+    (both_read (words BodyWord body_word_text) (λ word. number_in 1 GREATEST_WIDTH 10) old mid new bodies.Exp v first second)
   where
     exp_text : (v : ℕ) → 1 ≤ v → body_text v ≡ body_word_text bodies.Exp ++ number_text 10 v
     exp_text zero some = absurd (omega (arith, some))
@@ -214,7 +215,7 @@ bare_via word =
       over_back = λ source at place over. over;
     }
 
-sized_range : (word : SizedWord) (w : ℕ) → (part_operands (parts.Sized word)).Is (sized_part word w) → IsInRange 1 32 w
+sized_range : (word : SizedWord) (w : ℕ) → (part_operands (parts.Sized word)).Is (sized_part word w) → IsInRange 1 GREATEST_WIDTH w
 sized_range sized.SeqExp zero is = let no = is.1 in absurd cc
 sized_range sized.SeqExp (suc w) is = (omega arith, is.0)
 sized_range sized.IfExp zero is = let no = is.1 in absurd cc
@@ -224,7 +225,7 @@ sized_range sized.Not w is = is.0
 sized_range sized.Assign w is = is.0
 sized_range sized.Deref w is = is.0
 
-sized_is : (word : SizedWord) (w : ℕ) → IsInRange 1 32 w → (part_operands (parts.Sized word)).Is (sized_part word w)
+sized_is : (word : SizedWord) (w : ℕ) → IsInRange 1 GREATEST_WIDTH w → (part_operands (parts.Sized word)).Is (sized_part word w)
 sized_is sized.SeqExp zero is = absurd (omega (arith, is.0))
 sized_is sized.SeqExp (suc w) is = (is.1, refl)
 sized_is sized.IfExp zero is = absurd (omega (arith, is.0))
@@ -252,10 +253,10 @@ sized_first sized.Not w = refl
 sized_first sized.Assign w = refl
 sized_first sized.Deref w = refl
 
-sized_of : (word : SizedWord) (k : Part) → (part_operands (parts.Sized word)).Is k → IsInRange 1 32 (first_of k)
+sized_of : (word : SizedWord) (k : Part) → (part_operands (parts.Sized word)).Is k → IsInRange 1 GREATEST_WIDTH (first_of k)
 sized_of word k is = sized_range word (first_of k) (subst (λ (j : Part). (part_operands (parts.Sized word)).Is j) (is_of (parts.Sized word) k is.1) is)
 
-pub sized_via : (word : SizedWord) → Via (part_operands (parts.Sized word)) (number_in 1 32 10)
+pub sized_via : (word : SizedWord) → Via (part_operands (parts.Sized word)) (number_in 1 GREATEST_WIDTH 10)
 sized_via word =
     record {
       into = first_of;
@@ -331,23 +332,23 @@ share_via =
       over_back = λ source at place over. over;
     }
 
-pub lawful_width : (c : ℕ) → is_ascii_digit c ≡ false → Lawful (number_in 1 32 c)
-lawful_width c is = lawful_number 1 32 c (omega arith) (omega arith) is
+pub lawful_width : (c : ℕ) → is_ascii_digit c ≡ false → Lawful (number_in 1 GREATEST_WIDTH c)
+lawful_width c is = lawful_number 1 GREATEST_WIDTH c (omega arith) (omega arith) is
 
-lawful_literal_value : (w : ℕ) → IsInRange 1 32 w → Lawful (number_in 0 (2 ^ w - 1) 10)
+lawful_literal_value : (w : ℕ) → IsInRange 1 GREATEST_WIDTH w → Lawful (number_in 0 (2 ^ w - 1) 10)
 lawful_literal_value w is =
     let bound : 2 ^ w ≤ 2 ^ 32 = pow-le-pow_right (omega arith) is.1 in
     lawful_number 0 (2 ^ w - 1) 10 (omega arith) (omega (arith, bound)) refl
 
 pub lawful_literal : Lawful literal_numbers
-lawful_literal = lawful_both (number_in 1 32 32) (λ w. number_in 0 (2 ^ w - 1) 10) (lawful_width 32 refl) lawful_literal_value
+lawful_literal = lawful_both (number_in 1 GREATEST_WIDTH 32) (λ w. number_in 0 (2 ^ w - 1) 10) (lawful_width 32 refl) lawful_literal_value
 
 pub lawful_local : Lawful local_numbers
-lawful_local = lawful_both (number_in 1 32 32) (λ w. body) (lawful_width 32 refl) (λ w is. lawful_body)
+lawful_local = lawful_both (number_in 1 GREATEST_WIDTH 32) (λ w. body) (lawful_width 32 refl) (λ w is. lawful_body)
 
 lawful_operands : (word : PartWord) → Lawful (part_operands word)
 lawful_operands (parts.Bare word) = via_lawful (part_operands (parts.Bare word)) (exactly []) (bare_via word) (lawful_exactly [])
-lawful_operands (parts.Sized word) = via_lawful (part_operands (parts.Sized word)) (number_in 1 32 10) (sized_via word) (lawful_width 10 refl)
+lawful_operands (parts.Sized word) = via_lawful (part_operands (parts.Sized word)) (number_in 1 GREATEST_WIDTH 10) (sized_via word) (lawful_width 10 refl)
 lawful_operands parts.Lit = via_lawful (part_operands parts.Lit) literal_numbers lit_via lawful_literal
 lawful_operands parts.Local = via_lawful (part_operands parts.Local) local_numbers local_via lawful_local
 lawful_operands parts.Share = via_lawful (part_operands parts.Share) (typed 10 0) share_via (lawful_typed 10 0 refl)

@@ -3,6 +3,7 @@
 -- Read first: TextItems, ObjectText. A type is one word, or a word and two operands; a limit is exceeded at the first byte
 -- of a word of a type, where the type can't have at most 64 handshakes with that word.
 use Rattle.std.specs.Prelude.{◌≡◌, ℕ, zero, suc, ◌+◌, ◌-◌, ◌^◌, ◌<◌, ◌≤◌, List, [], ◌∷◌, ◌++◌, length, codes}
+use Rattle.gos_types.specs.declared.widths.TheConstants.{GREATEST_WIDTH}
 use Rattle.gos_types.specs.Types.{Type', Com, Exp, Var, Pair, Fun}
 use Rattle.gos_types.specs.Handshakes.{handshakes_of}
 use Rattle.gos_plan.specs.declared.word.PartWord.{PartWord}
@@ -113,7 +114,7 @@ forks end before = both space (λ u. both (typed 32 (before + 1)) (λ a. typed e
 
 -- a number behind a space
 abbrev pub sized_by : ℕ → Item
-sized_by end = both space (λ u. number_in 1 32 end)
+sized_by end = both space (λ u. number_in 1 GREATEST_WIDTH end)
 
 -- what stands behind the word of a type
 abbrev pub type_operands_text : ℕ → Type' → List ℕ
@@ -160,21 +161,21 @@ body_word_text bodies.Com = codes "com\n"
 body_word_text bodies.Exp = codes "exp "
 
 abbrev pub body : Item
-body = plain ℕ (λ v. v ≤ 32) body_text
+body = plain ℕ (λ v. v ≤ GREATEST_WIDTH) body_text
 
 abbrev pub body_word_of : ℕ → BodyWord
 body_word_of zero = bodies.Com
 body_word_of (suc v) = bodies.Exp
 
 abbrev pub body_operand : BodyWord → Item
-body_operand word = plain ℕ (λ v. (v ≤ 32) × (body_word_of v ≡ word)) bits_text
+body_operand word = plain ℕ (λ v. (v ≤ GREATEST_WIDTH) × (body_word_of v ≡ word)) bits_text
 
 -- the numbers of a literal, and of a Local
 abbrev pub literal_numbers : Item
-literal_numbers = both (number_in 1 32 32) (λ w. number_in 0 (2 ^ w - 1) 10)
+literal_numbers = both (number_in 1 GREATEST_WIDTH 32) (λ w. number_in 0 (2 ^ w - 1) 10)
 
 abbrev pub local_numbers : Item
-local_numbers = both (number_in 1 32 32) (λ w. body)
+local_numbers = both (number_in 1 GREATEST_WIDTH 32) (λ w. body)
 
 -- what stands behind the word of a part
 abbrev pub OverPart : PartWord → List ℕ → ℕ → ℕ → Type 0

@@ -6,6 +6,7 @@ use Rattle.std.specs.Prelude.{ℕ, zero, suc, ◌^◌, ◌<◌, ◌≤◌, List,
 use Rattle.std.specs.List.{AllByRecursion, flat_map}
 use Rattle.std.specs.Fmt.{decimal}
 use Rattle.gos_lex.specs.Names.{IsNameOrWord}
+use Rattle.gos_types.specs.declared.widths.TheConstants.{GREATEST_WIDTH}
 use Rattle.gos_types.specs.Types.{Type', Com, Exp, Var, Pair, Fun}
 use Rattle.gos_types.specs.Handshakes.{handshakes_of}
 use Rattle.gos_lex.specs.ItemTexts.{ended}
@@ -169,15 +170,15 @@ IsNumber n = n ≤ 4294967295
 abbrev pub IsWritablePart : Part → Type 0
 IsWritablePart Skip = Unit {0}
 IsWritablePart (Lit w k) = IsWidth w × (k < 2 ^ w)
-IsWritablePart (Seq v) = v ≤ 32
+IsWritablePart (Seq v) = v ≤ GREATEST_WIDTH
 IsWritablePart Par = Unit {0}
-IsWritablePart (If v) = v ≤ 32
+IsWritablePart (If v) = v ≤ GREATEST_WIDTH
 IsWritablePart While = Unit {0}
 IsWritablePart (Op op w) = IsWidth w
 IsWritablePart (Not w) = IsWidth w
 IsWritablePart (Assign w) = IsWidth w
 IsWritablePart (Deref w) = IsWidth w
-IsWritablePart (Local w v) = IsWidth w × (v ≤ 32)
+IsWritablePart (Local w v) = IsWidth w × (v ≤ GREATEST_WIDTH)
 IsWritablePart (Share t) = HasWidths t
 
 abbrev pub IsWritableImport : Imported → Type 0

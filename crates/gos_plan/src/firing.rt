@@ -5,12 +5,12 @@ ghost use Rattle.gos_plan.specs.Kinds as kinds;
 ghost use Rattle.gos_plan.specs.Kinds.{contact};
 ghost use Rattle.gos_model.specs.Terms.{result_of, complement};
 ghost use Rattle.gos_plan.specs.Seen.{operation_of, part_of};
-ghost use Rattle.gos_plan.specs.Ranges.{IsSmall, IsInRange};
+ghost use Rattle.gos_plan.specs.Ranges.{IsSmall, IsInRange, HasBranch};
 ghost use Rattle.gos_plan.specs.Firing.{Rest, Both, Body, Req, Ans, at, put, firing, same_slot, row_for, shared_rows, share_rows};
 ghost use Rattle.gos_plan.specs.OneFiring.{phase_of, state_of, slot_of, fired_of, at_value};
 
 use crate::kinds::{Kind, Op2};
-use gos_types::{Handshake, NoMemory, Role, Ty, handshakes};
+use gos_types::{Handshake, NoMemory, Role, Ty, difference, greatest, handshakes, sum};
 use std::alloc::Global;
 
 /// What a part is at. `Rest` is idle, and a Share is always at rest.
@@ -70,7 +70,7 @@ pub struct Firing {
 }
 
 /// What a part in this state does with the token that lies at a slot and has this value. `None`: the state doesn't take it.
-/// `Err` is want of memory alone.
+/// `Err` is want of memory alone. The number of a Share, a branch, has at most 32 bits; no other number has a bound.
 pub fn fire(
     alloc: Global,
     kind: &Kind,
@@ -79,7 +79,7 @@ pub fn fire(
     value: u64,
 ) -> Result<Option<Firing>, NoMemory>
     requires kind { IsInRange kind.now }
-    requires numbers { (state.number < 2 ^ 32) × (value < 2 ^ 32) }
+    requires branch { HasBranch kind.now state.number }
     ensures { IfOk result (λ f. fired_of f ≡ at_value value (firing (part_of kind.now) (state_of state) (slot_of slot))) }
 {
     let firing = match kind {
@@ -259,8 +259,7 @@ fn tested(number: u64, value: u64) -> Option<Firing>
 
 // What an operator does.
 fn operate(op: Op2, w: u32, q: State, slot: Slot, value: u64) -> Option<Firing>
-    requires width { w ≤ 32 }
-    requires numbers { (q.number < 2 ^ 32) × (value < 2 ^ 32) }
+    requires width { w ≤ 64 }
     ensures { fired_of result ≡ at_value value (firing (kinds.Op (operation_of op) w) (state_of q) (slot_of slot)) }
 {
     match q.phase {
@@ -278,16 +277,14 @@ fn operate(op: Op2, w: u32, q: State, slot: Slot, value: u64) -> Option<Firing>
     }
 }
 
-// What an operator computes from operands of at most 32 bits.
+// What an operator computes.
 fn computed(op: Op2, w: u32, a: u64, b: u64) -> u64
-    requires width { w ≤ 32 }
-    requires numbers { (a < 2 ^ 32) × (b < 2 ^ 32) }
+    requires { w ≤ 64 }
     ensures { result ≡ result_of (operation_of op) w a b }
 {
-    let power = 1u64 << w;
     match op {
-        Op2::Add => (a + b) % power,
-        Op2::Sub => (a + power).saturating_sub(b) % power,
+        Op2::Add => sum(w, a, b),
+        Op2::Sub => difference(w, a, b),
         Op2::And => a & b,
         Op2::Or => a | b,
         Op2::Xor => a ^ b,
@@ -298,7 +295,7 @@ fn computed(op: Op2, w: u32, a: u64, b: u64) -> u64
 
 // What a Not does.
 fn invert(w: u32, q: State, slot: Slot, value: u64) -> Option<Firing>
-    requires width { w ≤ 32 }
+    requires width { w ≤ 64 }
     ensures { fired_of result ≡ at_value value (firing (kinds.Not w) (state_of q) (slot_of slot)) }
 {
     match q.phase {
@@ -312,10 +309,10 @@ fn invert(w: u32, q: State, slot: Slot, value: u64) -> Option<Firing>
 
 // All w bits turned.
 fn turned(w: u32, a: u64) -> u64
-    requires { w ≤ 32 }
+    requires { w ≤ 64 }
     ensures { result ≡ complement w a }
 {
-    ((1u64 << w) - 1).saturating_sub(a)
+    greatest(w).saturating_sub(a)
 }
 
 // What an Assign does.

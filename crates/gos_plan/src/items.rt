@@ -5,10 +5,14 @@ ghost use Rattle.gos_plan.specs.TextItems.{Reads, Fails, exactly, number_in, any
 
 use crate::fault::ObjectFault;
 use gos_lex::{Cursor, Name};
+use gos_types::GREATEST_WIDTH;
 use std::alloc::Global;
 
 /// The greatest number of a part, an import or a handshake, and the greatest count.
 pub const LAST_NUMBER: u64 = 4_294_967_295;
+
+/// The greatest width.
+pub const LAST_WIDTH: u64 = GREATEST_WIDTH as u64;
 
 /// Passes exactly these bytes.
 pub fn exact(cursor: &mut Cursor, bytes: &[u8]) -> Result<(), ObjectFault>

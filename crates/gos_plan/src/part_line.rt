@@ -1,5 +1,5 @@
 // The line of a part: its word, and the numbers or the type behind it.
-ghost use Rattle.std.specs.Prelude.{◌≡◌, ◌-◌, ◌^◌, ◌≤◌, IfOk, IfErr, length};
+ghost use Rattle.std.specs.Prelude.{◌≡◌, ◌≤◌, IfOk, IfErr, length};
 ghost use Rattle.gos_plan.specs.Seen.{part_of};
 ghost use Rattle.gos_plan.specs.Ranges.{IsInRange};
 ghost use Rattle.gos_types.specs.Widths.{IsWidth};
@@ -7,11 +7,12 @@ ghost use Rattle.gos_plan.specs.TextItems.{Reads, Fails};
 ghost use Rattle.gos_plan.specs.ObjectItems.{bare_part, sized_part, body, literal_numbers, local_numbers, part_operands, part_line};
 
 use crate::fault::ObjectFault;
-use crate::items::number;
+use crate::items::{LAST_WIDTH, number};
 use crate::kinds::Kind;
 use crate::types::ty;
 use crate::word::{BareWord, BodyWord, PartWord, SizedWord, body_word, part_word};
 use gos_lex::Cursor;
+use gos_types::greatest;
 use std::alloc::Global;
 
 /// Passes the line of a part.
@@ -34,7 +35,7 @@ fn operands(alloc: Global, cursor: &mut Cursor, word: PartWord) -> Result<Kind, 
     match word {
         PartWord::Bare(word) => Ok(bare(word)),
         PartWord::Sized(word) => {
-            let w = number(cursor, 1, 32, b'\n')?;
+            let w = number(cursor, 1, LAST_WIDTH, b'\n')?;
             Ok(sized(word, w as u32))
         }
         PartWord::Lit => {
@@ -87,17 +88,9 @@ fn literal(cursor: &mut Cursor) -> Result<(u32, u64), ObjectFault>
     ensures read { IfOk result (λ v. Reads literal_numbers cursor.old cursor.new (v.0, v.1)) }
     ensures wrong { IfErr result (Fails literal_numbers cursor.old.text cursor.old.at) }
 {
-    let w = number(cursor, 1, 32, b' ')?;
+    let w = number(cursor, 1, LAST_WIDTH, b' ')?;
     let k = number(cursor, 0, greatest(w as u32), b'\n')?;
     Ok((w as u32, k))
-}
-
-// The greatest number of so many bits.
-fn greatest(w: u32) -> u64
-    requires { IsWidth w }
-    ensures { result ≡ 2 ^ w - 1 }
-{
-    (1u64 << w) - 1
 }
 
 // Passes the width of a Local, and the bits of what it runs.
@@ -105,7 +98,7 @@ fn local(cursor: &mut Cursor) -> Result<(u32, u32), ObjectFault>
     ensures read { IfOk result (λ v. Reads local_numbers cursor.old cursor.new (v.0, v.1)) }
     ensures wrong { IfErr result (Fails local_numbers cursor.old.text cursor.old.at) }
 {
-    let w = number(cursor, 1, 32, b' ')?;
+    let w = number(cursor, 1, LAST_WIDTH, b' ')?;
     let v = run_bits(cursor)?;
     Ok((w as u32, v))
 }
@@ -118,7 +111,7 @@ fn run_bits(cursor: &mut Cursor) -> Result<u32, ObjectFault>
     match body_word(cursor)? {
         BodyWord::Com => Ok(0),
         BodyWord::Exp => {
-            let v = number(cursor, 1, 32, b'\n')?;
+            let v = number(cursor, 1, LAST_WIDTH, b'\n')?;
             Ok(v as u32)
         }
     }

@@ -7,7 +7,7 @@ ghost use Rattle.gos_plan.specs.TextItems.{Reads, Fails};
 ghost use Rattle.gos_plan.specs.ObjectItems.{shakes, least, type_word, typed, forks, sized_by, type_operands};
 
 use crate::fault::ObjectFault;
-use crate::items::{exact, number};
+use crate::items::{LAST_WIDTH, exact, number};
 use crate::word::{TypeWord, type_letters};
 use gos_lex::Cursor;
 use gos_types::{Ty, count};
@@ -100,7 +100,7 @@ fn width(cursor: &mut Cursor, end: u8) -> Result<u32, ObjectFault>
     ensures wrong { IfErr result (Fails (sized_by end) cursor.old.text cursor.old.at) }
 {
     exact(cursor, b" ")?;
-    let w = number(cursor, 1, 32, end)?;
+    let w = number(cursor, 1, LAST_WIDTH, end)?;
     Ok(w as u32)
 }
 

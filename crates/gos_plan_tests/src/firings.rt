@@ -1,6 +1,9 @@
 // Small plans, fired step by step by the slow program.
+ghost use Rattle.std.specs.Prelude.{IsTrue};
+ghost use Rattle.gos_plan.specs.Ranges.{HasBranch};
+
 use gos_plan::{
-    End, Firing, ObjectFault, Phase, Plan, Puts, Slot, State, Token, fire, read_object,
+    End, Firing, Kind, ObjectFault, Phase, Plan, Puts, Slot, State, Token, fire, read_object,
 };
 use gos_types::NoMemory;
 use std::alloc::{AllocError, Global};
@@ -103,10 +106,20 @@ fn fired(
 ) -> Result<Option<Firing>, NoMemory> {
     let parts = plan.parts();
     let at = part as usize;
-    if at < parts.len() && state.number < 4_294_967_296 && value < 4_294_967_296 {
+    if at < parts.len() && has_branch(&parts[at], state.number) {
         fire(alloc, &parts[at], state, slot, value)
     } else {
         Ok(None)
+    }
+}
+
+// Whether the number is that of a branch, where the part is a Share.
+fn has_branch(kind: &Kind, number: u64) -> bool
+    ensures { IsTrue result → HasBranch kind.now number }
+{
+    match kind {
+        Kind::Share(_) => number < 2,
+        _ => true,
     }
 }
 

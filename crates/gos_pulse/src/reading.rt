@@ -15,6 +15,7 @@ use crate::event_table::EventTable;
 use crate::fault::PulseFault;
 use gos_lex::{count_lines, next_line};
 use gos_netlist::Netlist;
+use gos_types::fits;
 use std::alloc::Global;
 
 /// The longest pulse file, in bytes.
@@ -145,17 +146,7 @@ fn value_for(bits: u32, written: Option<u64>) -> Option<u64>
 {
     match written {
         None if bits == 0 => Some(0),
-        Some(value) if bits != 0 && has_at_most(bits, value) => Some(value),
+        Some(value) if bits != 0 && fits(value, bits) => Some(value),
         _ => None,
     }
-}
-
-// Whether a number has at most so many bits.
-fn has_at_most(bits: u32, value: u64) -> bool
-    ensures { IsTrue result ↔ (value < 2 ^ bits) }
-{
-    if bits >= u64::BITS {
-        return true;
-    }
-    value < 1 << bits
 }

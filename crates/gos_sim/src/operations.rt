@@ -7,6 +7,7 @@ ghost use Rattle.gos_netlist.specs.Settling.{at, shown};
 ghost use Rattle.gos_sim.specs.inner.Ready.{IsCellWithin};
 
 use gos_netlist::{Gate, NetId};
+use gos_types::greatest;
 
 /// The nets that a step of two pins reads.
 #[derive(Clone, Copy)]
@@ -297,8 +298,7 @@ fn turned(width: u32, a: u32) -> u32
     requires { width ≤ 32 }
     ensures { result ≡ 2 ^ width - 1 - a }
 {
-    let limit = 1u64 << width;
-    (limit - 1).saturating_sub(u64::from(a)) as u32
+    greatest(width).saturating_sub(u64::from(a)) as u32
 }
 
 // The sum in so many bits.
@@ -306,8 +306,7 @@ fn sum(width: u32, a: u32, b: u32) -> u32
     requires { width ≤ 32 }
     ensures { result ≡ (a + b) % 2 ^ width }
 {
-    let limit = 1u64 << width;
-    ((u64::from(a) + u64::from(b)) % limit) as u32
+    lowest(width, u64::from(a) + u64::from(b))
 }
 
 // The difference in so many bits.
@@ -315,6 +314,14 @@ fn difference(width: u32, a: u32, b: u32) -> u32
     requires { width ≤ 32 }
     ensures { result ≡ (a + 2 ^ width - b) % 2 ^ width }
 {
-    let limit = 1u64 << width;
-    ((u64::from(a) + limit).saturating_sub(u64::from(b)) % limit) as u32
+    let next = greatest(width) + 1;
+    lowest(width, (u64::from(a) + next).saturating_sub(u64::from(b)))
+}
+
+// The lowest bits of a number, so many of them.
+fn lowest(width: u32, number: u64) -> u32
+    requires { width ≤ 32 }
+    ensures { result ≡ number % 2 ^ width }
+{
+    (number & greatest(width)) as u32
 }

@@ -1,6 +1,7 @@
 // Laws of the definitions. Each is the contract of a function that does nothing.
 ghost use Rattle.gos_types.specs.Handshakes.{TurningTwice};
 ghost use Rattle.gos_types.specs.Sides.{PairsHaveSides, FunctionsHaveSides};
+ghost use Rattle.gos_types.specs.Widths.{HaveGreatest, WiderHasRoom, GreatestAre, NextAreWider, GreatestIsWidth};
 
 /// Handshakes turned twice are the handshakes themselves.
 pub fn turning_twice()
@@ -12,4 +13,14 @@ pub fn turning_twice()
 pub fn sides()
     ensures pair { PairsHaveSides }
     ensures function { FunctionsHaveSides }
+{}
+
+/// Of each width there is a greatest number, and a wider one has room for it. At 1, 32, 63 and 64 bits these are said in
+/// digits. The greatest width is one, and its greatest number is the greatest of all.
+pub fn greatest_numbers()
+    ensures greatest { HaveGreatest }
+    ensures room { WiderHasRoom }
+    ensures digits { GreatestAre }
+    ensures next { NextAreWider }
+    ensures width { GreatestIsWidth }
 {}

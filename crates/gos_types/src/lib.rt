@@ -3,7 +3,8 @@
 // A type says which handshakes the holder of a term has with the rest of the circuit. Every other crate takes
 // both from here: `handshakes` is the list that places, ports and parts are numbered by.
 //
-// Read `types.rt` first (what a type is), then `shakes.rt` (its handshakes), then `text.rt` (how it is printed).
+// Read `types.rt` first (what a type is), then `widths.rt` (its numbers), `shakes.rt` (its handshakes) and `text.rt` (how it is
+// printed).
 // The definitions stand in `specs`, in the order of `specs/Lib.antt`.
 #![tactic(auto)]
 
@@ -12,9 +13,11 @@ mod laws;
 mod shakes;
 mod text;
 mod types;
+mod widths;
 
 pub use fault::NoMemory;
-pub use laws::{sides, turning_twice};
+pub use laws::{greatest_numbers, sides, turning_twice};
 pub use shakes::{Handshake, Role, Step, count, handshakes};
 pub use text::print_ty;
-pub use types::{Ty, copy, is_ground, is_width, same};
+pub use types::{Ty, copy, is_ground, same};
+pub use widths::{GREATEST_NUMBER, GREATEST_WIDTH, difference, fits, greatest, is_width, sum};

@@ -1,12 +1,11 @@
 // What a type is, and the questions about one that need no memory.
 ghost use Rattle.std.specs.Prelude.{◌≡◌, ◌↔◌, IsTrue, IfOk};
 ghost use Rattle.gos_types.specs.Types.{type_of, IsGround};
-ghost use Rattle.gos_types.specs.Widths.{IsWidth};
 
 use crate::fault::NoMemory;
 use std::alloc::Global;
 
-/// A type of the source language. Widths are in bits; 1 to 32 are used, and any number is kept.
+/// A type of the source language. Widths are in bits; those to the greatest are used, and any number is kept.
 #[derive(Debug, Drop)]
 pub enum Ty {
     /// A command.
@@ -19,13 +18,6 @@ pub enum Ty {
     Pair(Box<Ty>, Box<Ty>),
     /// A function, from its argument to its outcome.
     Fun(Box<Ty>, Box<Ty>),
-}
-
-/// Whether a number may be a width: 1 to 32 bits.
-pub fn is_width(width: u32) -> bool
-    ensures { IsTrue result ↔ IsWidth width }
-{
-    1 <= width && width <= 32
 }
 
 /// Whether two types are the same.

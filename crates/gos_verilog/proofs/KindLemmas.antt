@@ -1,9 +1,11 @@
 -- The lines of cells, kind by kind: what their numbers make.
 use Rattle.std.proofs.Common.{◌≡◌, ℕ, ◌-◌, ◌^◌, ◌<◌, ◌≤◌, List, [], ◌∷◌, ◌++◌, refl, sym, ◌∙◌, ap, subst, arith, codes}
 use Rattle.std.proofs.Math.Nat.{one-le-pow}
+use Rattle.std.specs.List.{AllByRecursion}
 use Rattle.gos_lex.specs.Items.{Misses}
 use Rattle.gos_lex.proofs.SequenceLemmas.{misses_as}
-use Rattle.gos_netlist.specs.Nets.{Function, Const, Not, And, Or, Xor, Mux, Add, Sub, Eq, Less, Gate, Reg}
+use Rattle.gos_netlist.specs.Nets.{Function, Input, Const, Not, And, Or, Xor, Mux, Add, Sub, Eq, Less, Gate, Reg, pins}
+use Rattle.gos_netlist.specs.Writable.{IsNumber, OperandsFit}
 use Rattle.gos_verilog.specs.declared.cell_line.Kind.{Kind}
 use Rattle.gos_verilog.specs.declared.cell_line.Kind.TheVariants as kinds
 use Rattle.gos_verilog.specs.Lines.{driver_of}
@@ -107,6 +109,22 @@ is_made kinds.Eq i w ns fit =
     binary_made kinds.Eq i w (codes "==" ++ codes " n") ns fit (λ a b is_a is_b. record { kind_is = (refl, (is_a, (is_b, tt))); text = binary_text i a b (codes "==") })
 is_made kinds.Less i w ns fit =
     binary_made kinds.Less i w (codes "<" ++ codes " n") ns fit (λ a b is_a is_b. record { kind_is = (refl, (is_a, (is_b, tt))); text = binary_text i a b (codes "<") })
+
+-- the nets of a function that fits are nets
+pub nets_fit : (w : ℕ) (f : Function) → OperandsFit w f → AllByRecursion IsNumber (pins f)
+nets_fit w Input fits = tt
+nets_fit w (Const k) fits = tt
+nets_fit w (Not a) fits = fits
+nets_fit w (And a b) fits = fits
+nets_fit w (Or a b) fits = fits
+nets_fit w (Xor a b) fits = fits
+nets_fit w (Mux s a b) fits = fits
+nets_fit w (Add a b) fits = fits
+nets_fit w (Sub a b) fits = fits
+nets_fit w (Eq a b) fits = fits
+nets_fit w (Less a b) fits = fits
+nets_fit w (Gate s a) fits = fits
+nets_fit w (Reg a) fits = fits
 
 -- a line of this kind, by its slots
 pub record IsUnmade (kind : Kind) (i w : ℕ) (f : Function) : Type 0 where

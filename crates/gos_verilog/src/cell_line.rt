@@ -1,8 +1,11 @@
 // The lines that drive the nets of cells, but those of Input cells. `Err` is the place of the first byte that can't go on
 // as the line, or the end of the text.
-ghost use Rattle.std.specs.Prelude.{◌≡◌, ◌≤◌, ◌^◌, ◌-◌, [], IfOk, IfErr, get_or, length, codes};
+ghost use Rattle.std.specs.Prelude.{◌≡◌, ◌≤◌, [], IfOk, IfErr, get_or, length, codes};
 ghost use Rattle.gos_lex.specs.Items.{Misses};
+ghost use Rattle.std.specs.List.{AllByRecursion};
+ghost use Rattle.gos_netlist.specs.Nets.{pins};
 ghost use Rattle.gos_netlist.specs.Seen.{function_of};
+ghost use Rattle.gos_netlist.specs.Writable.{IsNumber};
 ghost use Rattle.gos_types.specs.Widths.{IsWidth};
 ghost use Rattle.gos_lex.specs.ItemTexts.{Passed};
 ghost use Rattle.gos_verilog.specs.Lines.{driver_of};
@@ -10,9 +13,10 @@ ghost use Rattle.gos_verilog.specs.inner.Slots.{FitSlots, line_text, IsLine};
 ghost use Rattle.gos_verilog.specs.inner.CellLines as lines;
 ghost use Rattle.gos_verilog.specs.inner.CellLines.{HasKind};
 
-use crate::slots::{Numbers, Slot, line};
+use crate::slots::{LAST_NET, Numbers, Slot, line};
 use gos_lex::Cursor;
 use gos_netlist::{Gate, NetId};
+use gos_types::greatest;
 use std::alloc::Global;
 
 /// What kind of function drives a net.
@@ -182,6 +186,7 @@ pub fn target(i: u32) -> Slot<'static>
 pub fn exactly(before: &[u8], n: u32, end: u8) -> Slot
     ensures { result ≡ lines.exactly before.now n end }
 {
+    let n = u64::from(n);
     Slot {
         before,
         low: n,
@@ -197,48 +202,46 @@ fn net_behind(before: &[u8], end: u8) -> Slot
     Slot {
         before,
         low: 0,
-        high: u32::MAX,
+        high: LAST_NET,
         end,
     }
 }
 
-// The greatest number of so many bits.
-fn greatest(width: u32) -> u32
-    requires { IsWidth width }
-    ensures { result ≡ 2 ^ width - 1 }
-{
-    ((1u64 << width) - 1) as u32
-}
-
 // The gate of this kind with the numbers of its line.
-fn gate(kind: Kind, numbers: &[u32]) -> Gate
+fn gate(kind: Kind, numbers: &[u64]) -> Gate
+    requires { AllByRecursion IsNumber (pins (lines.made kind numbers.now)) }
     ensures { function_of result ≡ lines.made kind numbers.now }
 {
-    let first = net_at(numbers, 1);
-    let second = net_at(numbers, 2);
-    let third = net_at(numbers, 3);
     match kind {
-        Kind::Const => Gate::Const(u64::from(second.0)),
-        Kind::Not => Gate::Not(first),
-        Kind::And => Gate::And(first, second),
-        Kind::Or => Gate::Or(first, second),
-        Kind::Xor => Gate::Xor(first, second),
-        Kind::Mux => Gate::Mux(first, second, third),
-        Kind::Add => Gate::Add(first, second),
-        Kind::Sub => Gate::Sub(first, second),
-        Kind::Eq => Gate::Eq(first, second),
-        Kind::Less => Gate::Less(first, second),
-        Kind::Gate => Gate::Gate(first, second),
-        Kind::Reg => Gate::Reg(third),
+        Kind::Const => Gate::Const(number_at(numbers, 2)),
+        Kind::Not => Gate::Not(net_at(numbers, 1)),
+        Kind::And => Gate::And(net_at(numbers, 1), net_at(numbers, 2)),
+        Kind::Or => Gate::Or(net_at(numbers, 1), net_at(numbers, 2)),
+        Kind::Xor => Gate::Xor(net_at(numbers, 1), net_at(numbers, 2)),
+        Kind::Mux => Gate::Mux(net_at(numbers, 1), net_at(numbers, 2), net_at(numbers, 3)),
+        Kind::Add => Gate::Add(net_at(numbers, 1), net_at(numbers, 2)),
+        Kind::Sub => Gate::Sub(net_at(numbers, 1), net_at(numbers, 2)),
+        Kind::Eq => Gate::Eq(net_at(numbers, 1), net_at(numbers, 2)),
+        Kind::Less => Gate::Less(net_at(numbers, 1), net_at(numbers, 2)),
+        Kind::Gate => Gate::Gate(net_at(numbers, 1), net_at(numbers, 2)),
+        Kind::Reg => Gate::Reg(net_at(numbers, 3)),
     }
 }
 
-// The net of the number at this place of a line; net 0 where there is none.
-fn net_at(numbers: &[u32], place: usize) -> NetId
-    ensures { result.0 ≡ get_or numbers.now place 0 }
+// The number at this place of a line; 0 where there is none.
+fn number_at(numbers: &[u64], place: usize) -> u64
+    ensures { result ≡ get_or numbers.now place 0 }
 {
     match numbers.get(place) {
-        Some(number) => NetId(*number),
-        None => NetId(0),
+        Some(number) => *number,
+        None => 0,
     }
+}
+
+// The net of the number at this place of a line.
+fn net_at(numbers: &[u64], place: usize) -> NetId
+    requires { IsNumber (get_or numbers.now place 0) }
+    ensures { result.0 ≡ get_or numbers.now place 0 }
+{
+    NetId(number_at(numbers, place) as u32)
 }

@@ -187,7 +187,7 @@ fn net_line(
             let net = PortNet {
                 name: name.to_vec(alloc)?,
                 input,
-                width: numbers[0] + 1,
+                width: numbers[0] as u32 + 1,
                 cell: NetId(0),
             };
             Ok((net, cursor.at()))
@@ -197,22 +197,22 @@ fn net_line(
 }
 
 // The least last bit of a net in this role.
-fn least_of(role: Role, last: u32) -> u32
+fn least_of(role: Role, last: u32) -> u64
     ensures { result ≡ lefts.least_of role last }
 {
     match role {
-        Role::WriteValue => last,
+        Role::WriteValue => u64::from(last),
         _ => 0,
     }
 }
 
 // The greatest last bit of a net in this role.
-fn most_of(role: Role, last: u32) -> u32
+fn most_of(role: Role, last: u32) -> u64
     ensures { result ≡ lefts.most_of role last }
 {
     match role {
         Role::AnsValue => 31,
-        Role::WriteValue => last,
+        Role::WriteValue => u64::from(last),
         _ => 0,
     }
 }
@@ -296,7 +296,7 @@ fn declared_as(alloc: Global, rest: &[u8], i: u32, register: bool) -> Result<(Sh
     ];
     let numbers = line(alloc, &mut cursor, &slots, b"\n")?;
     let shape = Shape {
-        width: numbers[0] + 1,
+        width: numbers[0] as u32 + 1,
         register,
     };
     Ok((shape, cursor.at()))

@@ -176,7 +176,7 @@ fn source_name(rest: &[u8], i: u32) -> Result<&[u8], usize>
 {
     let mut cursor = Cursor::new(rest);
     pass(&mut cursor, b"  assign n")?;
-    number(&mut cursor, i, i, b' ')?;
+    number(&mut cursor, i as u64, i as u64, b' ')?;
     pass(&mut cursor, b"= ")?;
     Ok(name_at(rest, cursor.at()))
 }

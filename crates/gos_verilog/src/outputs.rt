@@ -14,7 +14,7 @@ use crate::fault::VFault;
 use crate::head::word;
 use crate::inputs::Inputs;
 use crate::port_net::PortNet;
-use crate::slots::{Slot, framed, line};
+use crate::slots::{LAST_NET, Slot, framed, line};
 use gos_lex::Cursor;
 use gos_netlist::NetId;
 use std::alloc::Global;
@@ -76,11 +76,11 @@ fn output(alloc: Global, cursor: &mut Cursor, name: &[u8]) -> Result<NetId, VFau
     let slots = [Slot {
         before: &before,
         low: 0,
-        high: u32::MAX,
+        high: LAST_NET,
         end: b';',
     }];
     match line(alloc, cursor, &slots, b"\n") {
-        Ok(numbers) => Ok(NetId(numbers[0])),
+        Ok(numbers) => Ok(NetId(numbers[0] as u32)),
         Err(at) => Err(VFault::Form { at }),
     }
 }

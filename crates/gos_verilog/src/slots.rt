@@ -14,12 +14,15 @@ use smallvec::SmallVec;
 use std::alloc::Global;
 use std::marker::Model;
 
+/// The greatest number of a net.
+pub const LAST_NET: u64 = 4_294_967_295;
+
 /// A word, a number of a range, and the byte that ends it.
 #[derive(Drop)]
 pub struct Slot<'a> {
     pub before: &'a [u8],
-    pub low: u32,
-    pub high: u32,
+    pub low: u64,
+    pub high: u64,
     pub end: u8,
 }
 
@@ -32,7 +35,7 @@ impl<'a> Model for Slot<'a> {
 }
 
 /// The numbers of a line: four at most.
-pub type Numbers = SmallVec<u32, 4>;
+pub type Numbers = SmallVec<u64, 4>;
 
 /// Passes a line of these slots and this word behind them, and gives its numbers.
 pub fn line(
@@ -73,7 +76,7 @@ fn slots_of(alloc: Global, cursor: &mut Cursor, slots: &[Slot]) -> Result<Number
 }
 
 // Passes a slot.
-fn pass_slot(cursor: &mut Cursor, slot: &Slot) -> Result<u32, usize>
+fn pass_slot(cursor: &mut Cursor, slot: &Slot) -> Result<u64, usize>
     requires { IsRightSlot slot.now }
     ensures range { IfOk result (IsSlot slot.now) }
     ensures passed { IfOk result (λ n. Passed cursor.old cursor.new (slot_text slot.now n)) }
@@ -85,7 +88,7 @@ fn pass_slot(cursor: &mut Cursor, slot: &Slot) -> Result<u32, usize>
 }
 
 /// Passes a number of the range, and the byte that ends it.
-pub fn number(cursor: &mut Cursor, low: u32, high: u32, end: u8) -> Result<u32, usize>
+pub fn number(cursor: &mut Cursor, low: u64, high: u64, end: u8) -> Result<u64, usize>
     requires range { low ≤ high }
     requires no_digit { is_ascii_digit end ≡ false }
     ensures text { cursor.new.text ≡ cursor.old.text }
@@ -95,9 +98,9 @@ pub fn number(cursor: &mut Cursor, low: u32, high: u32, end: u8) -> Result<u32, 
     ensures stands { (n : ℕ) (x : List ℕ) → low ≤ n → n ≤ high → Rest cursor.old (decimal n ++ (end ∷ x))
         → MatchResult result (λ found. (found ≡ n) × Rest cursor.new x) (λ _. ⊥) }
 {
-    let n = cursor.number(low as u64, high as u64)?;
+    let n = cursor.number(low, high)?;
     cursor.word(&[end])?;
-    Ok(n as u32)
+    Ok(n)
 }
 
 /// Passes exactly these bytes.

@@ -3,9 +3,15 @@ use Rattle.std.proofs.Common.{[]}
 use Rattle.gos_verilog.specs.inner.Slots.{line_text}
 use Rattle.gos_verilog.specs.inner.CellLines.{kind_slots, kind_tail, made}
 use Rattle.gos_netlist.proofs.PassedLemmas.{passed_as}
-use Rattle.gos_verilog.proofs.KindLemmas.{is_made, no_kind}
+use Rattle.gos_verilog.proofs.KindLemmas.{is_made, nets_fit, no_kind}
 use Rattle.std.proofs.lemmas.Result.{err_from_is_err_and}
 use Rattle.gos_verilog.proofs.cell_line.kind_line.Goals as goal
+
+pub gate-requires : goal.gate-requires
+gate-requires c =
+    let ns = c.in_ok-numbers.numbers.items in
+    let is = is_made c.args.kind c.args.i c.args.width ns c.in_ok-numbers.ensures.fit in
+    rw c.deref.ensures (nets_fit c.args.width (made c.args.kind ns) is.kind_is.1)
 
 pub returns-clause-kind : goal.returns-clause-kind
 returns-clause-kind c =
