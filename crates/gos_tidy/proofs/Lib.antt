@@ -13,7 +13,7 @@ pub mod OrderLemmas
 pub mod StillLemmas
 pub mod TidiedLemmas
 pub mod SmallTidyLemmas
-pub mod PowerLemmas
+pub mod ChangeLemmas
 pub mod ReadLemmas
 pub mod RootLemmas
 pub mod MarkLemmas
@@ -21,3 +21,7 @@ pub mod PartLemmas
 pub mod PortLemmas
 pub mod LeftLemmas
 pub mod WholeLemmas
+pub mod PlaceLemmas
+pub mod SizeLemmas
+pub mod BreachLemmas
+pub mod RoundLemmas

@@ -77,4 +77,4 @@ leads_out cells ports fit n (IsPin _ m d at_m pin leads) c there other =
 pub tidied : (net other : Netlist) → IsAccepted net → Reduces net other → IsTidy other.cells (all_outputs other.ports) → IsTidied net other
 tidied net other accepted reduces tidy =
     let still = reduced_again net other accepted reduces in
-    record { alike = still.alike; fewer = still.fewer; tidy = tidy; order = still.order; reduced = reduces }
+    record { alike = still.alike; accepted = still.accepted; fewer = still.fewer; tidy = tidy; order = still.order; reduced = reduces }

@@ -1,11 +1,12 @@
 -- Netlists that nobody outside can tell apart, and what it means that one is another one made tidy.
 --
--- Read first: Ends, Reduced, Tidy; PortRules of gos_netcheck; RunProtocol and Pace of gos_pace.
+-- Read first: Ends, Reduced, Tidy; PortRules and Accepted of gos_netcheck; RunProtocol and Pace of gos_pace.
 use Rattle.std.specs.Prelude.{◌≡◌, ◌⊎◌, ℕ, ◌<◌, ◌≤◌, List, Some, slice_get, length, map}
 use Rattle.gos_types.specs.Types.{Type'}
 use Rattle.gos_model.specs.Moves.{Program}
 use Rattle.gos_netlist.specs.Nets.{Const, Cell, Side, NetPort, Netlist}
 use Rattle.gos_netlist.specs.Settling.{Numbers, at, IsRun}
+use Rattle.gos_netcheck.specs.Accepted.{IsAccepted}
 use Rattle.gos_netcheck.specs.PortRules.{all_inputs}
 use Rattle.gos_pace.specs.RunProtocol.{InputsInRange}
 use Rattle.gos_pace.specs.Pace.{KeepsPaceAlways}
@@ -55,6 +56,7 @@ pub record KeepsOrder (cells others : List Cell) (places : List ℕ) : Type 0 wh
 -- the second netlist is the first one, made tidy
 pub record IsTidied (net other : Netlist) : Type 0 where
   pub alike : IsAlike net other
+  pub accepted : IsAccepted other
   pub fewer : length other.cells ≤ length net.cells
   pub tidy : IsTidy other.cells (all_outputs other.ports)
   pub order : (places : List ℕ) × KeepsOrder net.cells other.cells places

@@ -1,5 +1,5 @@
 // What a gate of constants shows.
-ghost use Rattle.std.specs.Prelude.{◌≡◌, ℕ, ◌+◌, ◌-◌, ◌%◌, ◌^◌, ◌<◌, ◌≤◌, IsNone, IsSome, IfSome, MatchOption, ◌↔◌, map, nat_eq, if◌then◌else◌};
+ghost use Rattle.std.specs.Prelude.{◌≡◌, ℕ, ◌-◌, ◌^◌, ◌<◌, ◌≤◌, IsNone, IsSome, IfSome, MatchOption, ◌↔◌, map, nat_eq, if◌then◌else◌};
 ghost use Rattle.gos_netlist.specs.Nets.{Const};
 ghost use Rattle.gos_netlist.specs.Seen.{cell_of, function_of};
 ghost use Rattle.gos_tidy.specs.Mapped.{IsConst};
@@ -8,6 +8,7 @@ ghost use Rattle.gos_tidy.specs.inner.Reading.{FoldsTo, first_of, second_of, thi
 
 use crate::renaming::cell_at;
 use gos_netlist::{Cell, Gate, NetId};
+use gos_types::{difference, greatest, sum};
 
 // The nets of a gate that may fold: its first, second and third, where the last one stands for those that it lacks. None
 // where it names no net, or is a register.
@@ -63,35 +64,7 @@ fn complement(width: u32, a: u64) -> u64
     requires { width ≤ 64 }
     ensures { result ≡ 2 ^ width - 1 - a }
 {
-    (two_to(width) - 1).saturating_sub(u128::from(a)) as u64
-}
-
-// The sum, without its carry.
-fn sum(width: u32, a: u64, b: u64) -> u64
-    requires { width ≤ 64 }
-    ensures { result ≡ (a + b) % 2 ^ width }
-{
-    ((u128::from(a) + u128::from(b)) % two_to(width)) as u64
-}
-
-// The difference, without its borrow.
-fn difference(width: u32, a: u64, b: u64) -> u64
-    requires { width ≤ 64 }
-    ensures { result ≡ (a + 2 ^ width - b) % 2 ^ width }
-{
-    let size = two_to(width);
-    ((u128::from(a) + size).saturating_sub(u128::from(b)) % size) as u64
-}
-
-// How many numbers have at most so many bits.
-#[tactic(auto, using(crate::proofs::PowerLemmas::small_power))]
-fn two_to(width: u32) -> u128
-    requires { width ≤ 64 }
-    ensures value { result ≡ 2 ^ width }
-    ensures some { 0 < result }
-    ensures within { result ≤ 2 ^ 64 }
-{
-    1u128 << width
+    greatest(width).saturating_sub(a)
 }
 
 // The number of a net whose cell is a constant.

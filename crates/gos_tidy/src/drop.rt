@@ -5,6 +5,7 @@ ghost use Rattle.gos_netlist.specs.Settling.{at};
 ghost use Rattle.gos_netcheck.specs.Accepted.{IsAccepted};
 ghost use Rattle.gos_tidy.specs.Ends.{with_nets};
 ghost use Rattle.gos_tidy.specs.Reduced.{IsQuotient, IsReduced};
+ghost use Rattle.gos_tidy.specs.inner.Changes.{size};
 ghost use Rattle.gos_tidy.specs.inner.Marks.{AreMarks};
 ghost use Rattle.gos_tidy.specs.Tidy.{AllLead};
 ghost use Rattle.gos_tidy.specs.inner.Places.{AreNumbers, ArePlaced, port_nets};
@@ -33,6 +34,7 @@ pub(crate) fn left(alloc: Global, net: &Netlist, quotient: &Quotient) -> Result<
     requires merged { IsQuotient net.now.cells (map cell_of quotient.now.cells.items) (at quotient.now.map.items) quotient.now.roots.items }
     ensures reduced { IfOk result (λ other. IsReduced net.now other) }
     ensures lead { IfOk result (λ other. AllLead other.cells (port_nets other.ports)) }
+    ensures size { IfOk result (λ other. size other.cells ≤ size (map cell_of quotient.now.cells.items)) }
 {
     let ends = ends_of(alloc, &net.ports, &quotient.map)?;
     let marks = marked(alloc, &quotient.cells, &ends)?;

@@ -5,6 +5,8 @@
 // change is left; and `Alike` that nobody outside can tell two netlists apart. `laws.rt` has the theorems.
 #![tactic(auto)]
 
+mod breach;
+mod change;
 mod classes;
 mod constants;
 mod drop;
@@ -20,9 +22,7 @@ mod slots;
 mod users;
 
 ghost use Rattle.std.specs.Prelude.{◌≡◌, IfOk, IfErr};
-ghost use Rattle.gos_tidy.specs.Laws.{IsStill};
-ghost use Rattle.gos_tidy.specs.Ends.{all_outputs};
-ghost use Rattle.gos_tidy.specs.Tidy.{AllLead};
+ghost use Rattle.gos_tidy.specs.Alike.{IsTidied};
 
 use crate::rounds::rounds;
 use gos_netcheck::{Checked, NetFault, accept};
@@ -30,10 +30,10 @@ use gos_types::NoMemory;
 pub use laws::{mapped_cells, reduced_netlists, small_netlists, unlike_netlists};
 use std::alloc::Global;
 
-/// The netlist with fewer cells: nobody outside can tell them apart. `Err` is want of memory alone, and hands the netlist back.
+/// The netlist, made tidy: nobody outside can tell them apart, and of its cells none is equal to another one, a gate of constants,
+/// a net of its own, or leads nowhere. `Err` is want of memory alone, and hands the netlist back.
 pub fn tidy(alloc: Global, net: Checked) -> Result<Checked, Checked>
-    ensures still { IfOk result (λ other. IsStill net other) }
-    ensures lead { IfOk result (λ other. AllLead other.cells (all_outputs other.ports)) }
+    ensures tidied { IfOk result (IsTidied net) }
     ensures back { IfErr result (λ same. same ≡ net) }
 {
     match rounds(alloc, &net) {

@@ -142,7 +142,8 @@ fn has_width(cells: &[Cell], net: u32, width: u32) -> bool
     }
 }
 
-fn is_input(gate: Gate) -> bool
+// Whether a gate is an input.
+pub(crate) fn is_input(gate: Gate) -> bool
     ensures { IsTrue result ↔ (function_of gate ≡ Input) }
 {
     matches!(gate, Gate::Input)

@@ -1,26 +1,38 @@
 // The rounds in which a netlist is made smaller.
-ghost use Rattle.std.specs.Prelude.{◌<◌, ◌^◌, IfOk, length};
+ghost use Rattle.std.specs.Prelude.{◌<◌, ◌≤◌, ◌^◌, IfOk, IfSome, IsNone, length, map};
+ghost use Rattle.gos_netlist.specs.Seen.{cell_of};
+ghost use Rattle.gos_netlist.specs.Settling.{at};
 ghost use Rattle.gos_netcheck.specs.Accepted.{IsAccepted};
-ghost use Rattle.gos_tidy.specs.Reduced.{IsReduced};
-ghost use Rattle.gos_tidy.specs.Laws.{IsStill};
+ghost use Rattle.gos_tidy.specs.Alike.{IsTidied};
+ghost use Rattle.gos_tidy.specs.Reduced.{IsQuotient, IsReduced};
 ghost use Rattle.gos_tidy.specs.Tidy.{AllLead};
+ghost use Rattle.gos_tidy.specs.inner.Breaches.{AllFirm, IsBreach};
+ghost use Rattle.gos_tidy.specs.inner.Changes.{AreSound, size};
 ghost use Rattle.gos_tidy.specs.inner.Places.{port_nets};
 
+use crate::breach::{Breach, Change, first_breach};
+use crate::change::{with_number, without};
 use crate::drop::left;
 use crate::merge::{merged, whole};
+use crate::quotient::Quotient;
 use gos_netcheck::Checked;
-use gos_netlist::{NetId, Netlist};
+use gos_netlist::{Cell, NetId, Netlist};
 use gos_types::NoMemory;
 use std::alloc::Global;
 
-// The netlist, made smaller in rounds.
+// The netlist, made tidy: first all cells are merged that a guess of classes takes together, and then they are changed one by one
+// until none may be. Where the guess is as good as it can be, none may be after the first round.
 pub(crate) fn rounds(alloc: Global, net: &Checked) -> Result<Netlist, NoMemory>
-    ensures still { IfOk result (λ other. IsStill net.now other) }
-    ensures lead { IfOk result (λ other. AllLead other.cells (port_nets other.ports)) }
+    ensures tidied { IfOk result (IsTidied net.now) }
     ensures few { IfOk result (λ other. length other.cells < 2 ^ 32) }
 {
-    let other = first_round(alloc, net.netlist(), net.schedule())?;
-    Ok(other)
+    let mut other = first_round(alloc, net.netlist(), net.schedule())?;
+    loop {
+        match next_round(alloc, &other)? {
+            Some(next) => other = next,
+            None => return Ok(other),
+        }
+    }
 }
 
 // The netlist, whose cells can be evaluated in this order, with all its cells merged at once.
@@ -36,5 +48,50 @@ fn first_round(alloc: Global, net: &Netlist, order: &[NetId]) -> Result<Netlist,
             let quotient = whole(alloc, &net.cells)?;
             left(alloc, net, &quotient)
         }
+    }
+}
+
+// The netlist with its first cell changed that may be; None where none may.
+fn next_round(alloc: Global, net: &Netlist) -> Result<Option<Netlist>, NoMemory>
+    requires accepted { IsAccepted net.now }
+    requires few { length net.now.cells < 2 ^ 32 }
+    ensures reduced { IfOk result (λ found. IfSome found (IsReduced net.now)) }
+    ensures lead { IfOk result (λ found. IfSome found (λ other. AllLead other.cells (port_nets other.ports))) }
+    ensures smaller { IfOk result (λ found. IfSome found (λ other. size other.cells < size net.now.cells)) }
+    ensures firm { IfOk result (λ found. IsNone found → AllFirm net.now.cells) }
+{
+    match next_quotient(alloc, &net.cells)? {
+        Some(quotient) => Ok(Some(left(alloc, net, &quotient)?)),
+        None => Ok(None),
+    }
+}
+
+// The cells with the first one changed that may be; None where none may.
+fn next_quotient(alloc: Global, cells: &[Cell]) -> Result<Option<Quotient>, NoMemory>
+    requires sound { AreSound (map cell_of cells.now) }
+    requires few { length cells.now < 2 ^ 32 }
+    ensures right { IfOk result (λ found. IfSome found (λ q. IsQuotient (map cell_of cells.now) (map cell_of q.cells.items) (at q.map.items) q.roots.items)) }
+    ensures few { IfOk result (λ found. IfSome found (λ q. length q.cells.items ≤ length cells.now)) }
+    ensures smaller { IfOk result (λ o. IfSome o (λ q. size (map cell_of q.cells.items) < size (map cell_of cells.now))) }
+    ensures firm { IfOk result (λ found. IsNone found → AllFirm (map cell_of cells.now)) }
+{
+    match first_breach(alloc, cells)? {
+        Some(breach) => Ok(Some(changed(alloc, cells, breach)?)),
+        None => Ok(None),
+    }
+}
+
+// The cells with one changed.
+fn changed(alloc: Global, cells: &[Cell], breach: Breach) -> Result<Quotient, NoMemory>
+    requires sound { AreSound (map cell_of cells.now) }
+    requires few { length cells.now < 2 ^ 32 }
+    requires breach { IsBreach (map cell_of cells.now) breach }
+    ensures quotient { IfOk result (λ q. IsQuotient (map cell_of cells.now) (map cell_of q.cells.items) (at q.map.items) q.roots.items) }
+    ensures few { IfOk result (λ q. length q.cells.items ≤ length cells.now) }
+    ensures smaller { IfOk result (λ q. size (map cell_of q.cells.items) < size (map cell_of cells.now)) }
+{
+    match breach.change {
+        Change::Number(number) => with_number(alloc, cells, breach.net, number),
+        Change::Net(to) => without(alloc, cells, breach.net, to),
     }
 }

@@ -9,6 +9,8 @@ use Rattle.gos_netlist.specs.Settling.{at}
 use Rattle.gos_netcheck.specs.CellRules.{NetsExist}
 use Rattle.gos_tidy.specs.inner.Places.{port_nets}
 use Rattle.gos_tidy.proofs.LeftLemmas.{quotient_nets, ends_low, all_low, ends_are, ports_are, is_left, left_reduced, left_lead}
+use Rattle.gos_tidy.proofs.PartLemmas.{left_part}
+use Rattle.gos_tidy.proofs.SizeLemmas.{part_size}
 use Rattle.gos_tidy.proofs.drop.left.Goals as goal
 
 pub marked-requires-clause-nets : goal.marked-requires-clause-nets
@@ -71,3 +73,18 @@ returns-clause-lead c =
     c.in_ok-numbers.numbers.places.items (map cell_of c.in_ok-cells.cells.items) c.in_ok-ports.ports.items all
     (ports_are c.in_ok-ports.ports.items numbers c.deref-11.result.now targets c.deref-10.result.now c.args.net.now.ports c.net.inside.ports.items
     c.deref-9.result.now c.in_ok-ports.ensures c.deref-11.ensures.value c.deref-10.ensures.value c.deref-9.ensures.value ports)
+
+pub returns-clause-size : goal.returns-clause-size
+returns-clause-size c =
+    let targets = c.args.quotient.now.map.items in
+    let numbers = c.in_ok-numbers.numbers.numbers.items in
+    let ports : c.args.net.now.ports ≡ c.net.inside.ports.items = sym (ap (λ (x : Netlist). x.ports) c.net.view_is) in
+    let ends = ends_are c.in_ok-ends.ends.items c.deref-4.result.now targets c.deref-2.result.now c.args.net.now.ports
+    c.net.inside.ports.items c.deref.result.now c.deref-4.ensures.value c.in_ok-ends.ensures c.deref-2.ensures.value c.deref.ensures.value ports in
+    let all = is_left c.args.quotient.now.cells.items c.deref-3.result.now c.deref-6.result.now (map (at targets) (port_nets c.args.net.now.ports)) c.deref-4.result.now
+    c.in_ok-marks.marks.items c.deref-5.result.now numbers c.deref-7.result.now c.in_ok-numbers.numbers.places.items c.deref-8.result.now
+    (map cell_of c.in_ok-cells.cells.items) c.deref-3.ensures.value c.deref-6.ensures.value ends c.deref-5.ensures.value c.deref-7.ensures.value
+    c.deref-8.ensures.value c.in_ok-marks.ensures c.in_ok-numbers.ensures c.in_ok-cells.ensures in
+    part_size (map cell_of c.in_ok-cells.cells.items) (map cell_of c.args.quotient.now.cells.items) (at c.in_ok-numbers.numbers.places.items)
+    (left_part (map cell_of c.args.quotient.now.cells.items) (map (at targets) (port_nets c.args.net.now.ports)) c.in_ok-marks.marks.items numbers
+    c.in_ok-numbers.numbers.places.items (map cell_of c.in_ok-cells.cells.items) all)
