@@ -39,6 +39,15 @@ outputs_from a held (i ∷ is) =
 abbrev pub outputs_of : Gates → List Bits → List Bits
 outputs_of a = outputs_from a (replicate (length a.latches) false)
 
+-- what the latches hold in these cycles, from these on
+abbrev pub latches_from : Gates → Bits → List Bits → List Bits
+latches_from a held [] = []
+latches_from a held (i ∷ is) = held ∷ latches_from a (map (shown_by (all_shown a i held)) a.latches) is
+
+-- what they hold in a run
+abbrev pub latches_of : Gates → List Bits → List Bits
+latches_of a = latches_from a (replicate (length a.latches) false)
+
 -- how many variables there are before the gates
 abbrev pub sources : Gates → ℕ
 sources a = a.inputs + length a.latches

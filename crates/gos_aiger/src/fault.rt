@@ -1,6 +1,18 @@
-// Why a text is none of gates.
+// Why a netlist is not lowered, and why a text is none of gates.
+use gos_types::NoMemory;
 use std::alloc::{AllocError, AllocFailed};
 use thiserror::Error;
+
+/// Why a netlist is not lowered to gates.
+#[derive(Debug, Drop, Error)]
+pub enum GateFault {
+    /// Its cells and their pins have so many bits together: more than 2,000,000.
+    #[error("the netlist has {bits} bits")]
+    TooLarge { bits: u64 },
+    /// There was no memory left.
+    #[error("out of memory")]
+    NoMemory,
+}
 
 /// Why a text is refused as a circuit of gates. Places count bytes from 0.
 #[derive(Debug, Drop, Error)]
@@ -11,6 +23,39 @@ pub enum AagFault {
     /// There was no memory left.
     #[error("out of memory")]
     NoMemory,
+}
+
+impl From<NoMemory> for GateFault {
+    ghost use Rattle.std.specs.Prelude.{◌≡◌};
+    ghost use Rattle.gos_aiger.specs.declared.fault.GateFault.TheVariants.{NoMemory as OutOfMemory};
+
+    ghost from_gives = { λ _ e. e ≡ OutOfMemory };
+
+    fn from(_e: NoMemory) -> GateFault {
+        GateFault::NoMemory
+    }
+}
+
+impl From<AllocError> for GateFault {
+    ghost use Rattle.std.specs.Prelude.{◌≡◌};
+    ghost use Rattle.gos_aiger.specs.declared.fault.GateFault.TheVariants.{NoMemory as OutOfMemory};
+
+    ghost from_gives = { λ _ e. e ≡ OutOfMemory };
+
+    fn from(_e: AllocError) -> GateFault {
+        GateFault::NoMemory
+    }
+}
+
+impl<T: Drop> From<AllocFailed<T>> for GateFault {
+    ghost use Rattle.std.specs.Prelude.{◌≡◌};
+    ghost use Rattle.gos_aiger.specs.declared.fault.GateFault.TheVariants.{NoMemory as OutOfMemory};
+
+    ghost from_gives = { λ _ e. e ≡ OutOfMemory };
+
+    fn from(_e: AllocFailed<T>) -> GateFault {
+        GateFault::NoMemory
+    }
 }
 
 impl From<AllocError> for AagFault {

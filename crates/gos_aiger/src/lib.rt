@@ -7,16 +7,25 @@
 #![tactic(auto)]
 
 mod aig;
+mod draft;
 mod fault;
 mod header;
 mod item;
+mod kinds;
+mod laws;
+mod laying;
+mod lowering;
+mod order;
 mod printing;
 mod reading;
 mod sections;
+mod sources;
 mod text_laws;
 
 pub use aig::Aig;
-pub use fault::AagFault;
+pub use fault::{AagFault, GateFault};
+pub use laws::small_lowered;
+pub use lowering::lower;
 pub use printing::print_aag;
 pub use reading::read_aag;
 pub use text_laws::{one_answer, reads_back, small_circuits};

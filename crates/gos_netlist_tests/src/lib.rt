@@ -17,6 +17,8 @@ mod driving;
 #[cfg(test)]
 mod lines;
 #[cfg(test)]
+mod lowering;
+#[cfg(test)]
 mod netlists;
 #[cfg(test)]
 mod plain;
