@@ -16,7 +16,7 @@ use Rattle.gos_ties.specs.declared.points.Point.{Point}
 use Rattle.gos_ties.specs.declared.points.Tie.{Tie}
 use Rattle.gos_ties.specs.Ties.{point, at, Meet, Path, here, along, Connects, joint, Has}
 use Rattle.gos_compile.specs.Wiring.{all_ties}
-use Rattle.gos_compile.specs.SmallPlans.{skip_plan, SkipIsPlanned, same_term, same_plan, SameIsPlanned, two_imports, both_term, both_plan, BothIsPlanned}
+use Rattle.gos_compile.specs.SmallPlans.{skip_plan, SkipIsPlanned, same_term, same_plan, SameIsPlanned, two_imports, both_term, both_plan, BothIsPlanned, TurnedIsNotPlanned}
 
 -- the plan of skip
 
@@ -45,6 +45,7 @@ skip_is_planned =
       parts = refl;
       right = (((0, 0, refl, refl), refl, refl), tt);
       joints = λ a b. (sound a b, complete a b);
+      order = (omega arith, tt);
     }
   where
     one : Connects (all_ties [] (Closed Com [] terms.Skip)) skip_plan (ResultEnd 0) (PartEnd 0 0)
@@ -82,6 +83,7 @@ same_is_planned =
       parts = refl;
       right = (((0, 0, refl, refl), refl, refl), tt);
       joints = λ a b. (sound a b, complete a b);
+      order = (omega arith, tt);
     }
   where
     one : Connects (all_ties [] same_term) same_plan (ResultEnd 1) (ResultEnd 0)
@@ -181,6 +183,7 @@ both_is_planned =
       parts = refl;
       right = (((0, 0, refl, refl), refl, refl), (((0, 0, refl, refl), refl, refl), (((0, 0, refl, refl), refl, refl), tt)));
       joints = λ a b. (sound a b, complete a b);
+      order = (omega arith, (omega arith, (omega arith, tt)));
     }
   where
     run : Connects (all_ties two_imports both_term) both_plan (ResultEnd 0) (PartEnd 0 2)
@@ -216,3 +219,6 @@ both_is_planned =
     complete a b (q, v, one_asks, other_serves, path) =
         pick a b (both_asks a q v one_asks) (both_serves b q v other_serves)
         (path_class (all_ties two_imports both_term) (refl, (refl, (refl, (refl, (refl, tt))))) (at a) (at b) path)
+
+pub turned_is_not_planned : TurnedIsNotPlanned
+turned_is_not_planned planned = let (first, (second, rest)) = planned.order in omega (arith, second)

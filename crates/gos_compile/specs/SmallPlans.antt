@@ -49,3 +49,13 @@ both_plan =
 
 abbrev pub BothIsPlanned : Type 0
 BothIsPlanned = IsPlanOf two_imports Com 17 both_term both_plan
+
+-- the same joints in another order are not its plan: the result's end stands in the first tie of the term
+abbrev pub both_turned : Plan
+both_turned =
+    record both_plan {
+      joints = joint (PartEnd 0 0) (ImportEnd 0 0) ∷ joint (ResultEnd 0) (PartEnd 0 2) ∷ joint (PartEnd 0 1) (ImportEnd 1 0) ∷ [];
+    }
+
+abbrev pub TurnedIsNotPlanned : Type 0
+TurnedIsNotPlanned = IsPlanOf two_imports Com 17 both_term both_turned → ⊥

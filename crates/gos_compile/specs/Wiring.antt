@@ -1,6 +1,6 @@
 -- The wiring of a typed term: which ends of its plan meet.
 --
--- Read first: Nodes and Linearity of gos_check; Plans of gos_plan; Ties of gos_ties. A handshake of a node leads to a point: an end of
+-- Read first: Nodes and Linearity of gos_check; Plans of gos_plan; Ties and Order of gos_ties. A handshake of a node leads to a point: an end of
 -- the plan, or a handshake of a number or within a node, where two ties meet. There is a joint for each two ends that
 -- a path of ties connects (`Connects`). `Place`, `Point` and `Tie` are those of gos_ties.
 use Rattle.std.specs.Prelude.{◌≡◌, ◌↔◌, ℕ, zero, suc, ◌+◌, ◌-◌, List, [], ◌∷◌, ◌++◌, length, take, drop, nat_eq, if◌then◌else◌}
@@ -19,6 +19,7 @@ use Rattle.gos_ties.specs.declared.points.Place.TheVariants as places
 use Rattle.gos_ties.specs.declared.points.Point.{Point}
 use Rattle.gos_ties.specs.declared.points.Tie.{Tie}
 use Rattle.gos_ties.specs.Ties.{point, tie, Connects, joint, Has}
+use Rattle.gos_ties.specs.Order.{AreInOrder}
 use Rattle.gos_realises.specs.realises.Regular.{count}
 
 -- n points of a place, from handshake h on
@@ -209,7 +210,8 @@ all_parts is m = parts_of (all_types is m) m
 abbrev pub all_ties : Imports → Numbered → List Tie
 all_ties is m = import_ties 0 is ++ ties_of (all_types is m) 0 0 m (row places.Result 0 (count (type_of_node m)))
 
--- The plan of a module with these imports, this result, this weight and this term.
+-- The plan of a module with these imports, this result, this weight and this term. Its joints stand in the order of the term's
+-- ties, so that there is one.
 pub record IsPlanOf (is : Imports) (t : Type') (w : ℕ) (m : Numbered) (p : Plan) : Type 0 where
   pub imports : p.imports ≡ is
   pub outcome : p.outcome ≡ t
@@ -217,3 +219,8 @@ pub record IsPlanOf (is : Imports) (t : Type') (w : ℕ) (m : Numbered) (p : Pla
   pub parts : p.parts ≡ all_parts is m
   pub right : IsRight p
   pub joints : (a b : End) → Has p.joints (joint a b) ↔ Connects (all_ties is m) p a b
+  pub order : AreInOrder (all_ties is m) p.joints
+
+-- a module has one plan
+abbrev pub PlanIsOne : Type 0
+PlanIsOne = (is : Imports) (t : Type') (w : ℕ) (m : Numbered) (p q : Plan) → IsPlanOf is t w m p → IsPlanOf is t w m q → p ≡ q

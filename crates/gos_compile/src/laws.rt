@@ -1,14 +1,21 @@
 // What the definitions give. Each theorem is the contract of a function that does nothing.
-ghost use Rattle.gos_compile.specs.SmallPlans.{SkipIsPlanned, SameIsPlanned, BothIsPlanned};
+ghost use Rattle.gos_compile.specs.SmallPlans.{SkipIsPlanned, SameIsPlanned, BothIsPlanned, TurnedIsNotPlanned};
 ghost use Rattle.gos_compile.specs.Typed.{CheckedIsTyped, SkipIsNoExpression, SkipIsTyped};
+ghost use Rattle.gos_compile.specs.Wiring.{PlanIsOne};
 
 use gos_model::types_of_terms;
 
-/// The plans of `skip`, of `fun a : com . a`, and of `c ; d` with two imports.
+/// The plans of `skip`, of `fun a : com . a`, and of `c ; d` with two imports, whose joints stand in no other order.
 pub fn small_plans()
     ensures skip { SkipIsPlanned }
     ensures same { SameIsPlanned }
     ensures both { BothIsPlanned }
+    ensures turned { TurnedIsNotPlanned }
+{}
+
+/// A module has one plan.
+pub fn one_plan()
+    ensures { PlanIsOne }
 {}
 
 /// Each node of a checked module's term has the types of its form's row.

@@ -15,5 +15,5 @@ mod types;
 mod walk;
 mod wires;
 
-pub use laws::{small_plans, typed_terms};
+pub use laws::{one_plan, small_plans, typed_terms};
 pub use plans::compile;

@@ -24,9 +24,10 @@ use gos_ties::tied_plan;
 use gos_types::{NoMemory, copy};
 use std::alloc::Global;
 
-/// The plan of a checked module: its parts, and a joint for each two ends that its wiring connects. It is slim: it has at
-/// most two joints for each unit of its weight, and its parts and their handshakes are at most four. The text of a plan
-/// with at most 64 imports is one that `read_object` reads. `Err` is want of memory alone.
+/// The plan of a checked module: its parts, and a joint for each two ends that its wiring connects, in the order of the
+/// wiring's ties. A module has one. It is slim: it has at most two joints for each unit of its weight, and its parts and
+/// their handshakes are at most four. The text of a plan with at most 64 imports is one that `read_object` reads. `Err` is
+/// want of memory alone.
 pub fn compile(alloc: Global, program: &Linear) -> Result<Plan, NoMemory>
     ensures plan { IfOk result (λ plan. IsPlanOf (program_in program.now).imports (type_of program.now.result) program.now.weight
         (node_seen program.now.term) (plan_of plan)) }

@@ -5,10 +5,11 @@ use Rattle.std.proofs.lemmas.Bool.{cases_lt}
 use Rattle.std.proofs.lemmas.Option.{slice_get_within}
 use Rattle.gos_model.specs.Typing.{Imported}
 use Rattle.gos_model.proofs.NumberLemmas.{number_cases}
+use Rattle.gos_ties.proofs.OrderLemmas.{one_order}
 use Rattle.gos_plan.specs.Plans.{Plan}
 use Rattle.gos_plan.specs.Seen.{SeenPlan}
 use Rattle.gos_plan.specs.Size.{plan_size}
-use Rattle.gos_plan.specs.Joining.{LeftImport, all_left, all_weight, IsJoining, JoiningIsOne}
+use Rattle.gos_plan.specs.Joining.{Wiring, LeftImport, all_left, all_weight, origin, IsJoining, IsSameButOrder, JoiningIsOne}
 use Rattle.gos_link.specs.declared.build.Instance.{Instance}
 use Rattle.gos_link.specs.declared.build.Bind.{Bind}
 use Rattle.gos_link.specs.declared.build.Build.{Build}
@@ -16,10 +17,14 @@ use Rattle.gos_link.specs.declared.services.Service.{Service}
 use Rattle.gos_link.specs.declared.fault.LinkFault.{LinkFault}
 use Rattle.gos_link.specs.declared.fault.LinkFault.TheVariants as faults
 use Rattle.gos_link.specs.Services.{instance_named, BindsOn}
-use Rattle.gos_link.specs.Linked.{Port, IsDone, IsFirstHigher, IsSecond, IsPlaced, IsNamed, IsGrounded, IsLight, IsWrongWhole, count_ports, first_unplaced, outcome_of, plans_of, ports_of, whole_of}
+use Rattle.gos_link.specs.Linked.{Port, IsDone, IsFirstHigher, IsSecond, IsPlaced, IsNamed, IsGrounded, IsLight, IsWrongWhole, count_ports, first_unplaced, outcome_of, plans_of, ports_of, whole_of, wiring_of}
+use Rattle.gos_link.specs.Order.{ends_from, position_in, AreInOrder}
 use Rattle.gos_link.specs.Answers.{IsSameFault, LinkedIsOne, HasOneFault, LinkedHasNoFault}
 use Rattle.gos_link.proofs.PortLemmas.{same_at}
 use Rattle.gos_link.proofs.FewLemmas.{same_size}
+use Rattle.gos_link.proofs.ServiceLemmas.{in_contained, contains_in}
+use Rattle.gos_link.proofs.JoinedLemmas.{has_in, in_has}
+use Rattle.gos_link.proofs.SeenLemmas.{binds_too}
 use Rattle.gos_link.proofs.StageLemmas.{both_are, same_some, some_none, one_stage, never_passes, one_meaning, one_wrong, right_or_wrong}
 
 -- how bind lines end
@@ -256,14 +261,34 @@ module _ (joins_one : JoiningIsOne) (b : Build) (ps : List SeenPlan) (ss : List 
       let (m, low, one) = stops f wrong in never_passes Passed down Stopped clash m 7 f low one (root, p, light, joining, small)
 
 pub linked_is_one : JoiningIsOne → LinkedIsOne
-linked_is_one joins_one b ps p q one other =
-    let (same, ends) = binds_agree b.instances.items ps [] b.binds.items one.services other.services None None one.binds other.binds in
-    let roots : one.root ≡ other.root =
-    same_some (instance_named b.instances.items b.root) one.root other.root one.light.grounded.named.placed.finds_root
-    other.light.grounded.named.placed.finds_root in
-    joins_one (whole_of ps other.services other.root) p q
-    (subst (λ (ss : List Service). IsJoining (whole_of ps ss other.root) p) same
-    (subst (λ (k : ℕ). IsJoining (whole_of ps one.services k) p) roots one.joining)) other.joining
+linked_is_one joins_one b ps qs p q seen one other = λ i.
+    record { weight = alike.weight i; imports = alike.imports i; outcome = alike.outcome i; parts = alike.parts i; joints = joints i }
+  where
+    services : one.services ≡ other.services
+    services =
+        (binds_agree b.instances.items qs [] b.binds.items one.services other.services None None
+        (binds_too ps qs seen b.instances.items [] b.binds.items one.services one.binds) other.binds).0
+
+    roots : one.root ≡ other.root
+    roots =
+        same_some (instance_named b.instances.items b.root) one.root other.root one.light.grounded.named.placed.finds_root
+        other.light.grounded.named.placed.finds_root
+
+    wirings : whole_of ps one.services one.root ≡ whole_of qs other.services other.root
+    wirings = λ i. wiring_of (seen i) (services i) (roots i)
+
+    alike : IsSameButOrder p q
+    alike = joins_one (whole_of qs other.services other.root) p q (subst (λ (w : Wiring). IsJoining w p) wirings one.joining) other.joining
+
+    order : AreInOrder (whole_of qs other.services other.root) p.joints
+    order = subst (λ (w : Wiring). AreInOrder w p.joints) wirings one.order
+
+    joints : p.joints ≡ q.joints
+    joints =
+        one_order (λ j. position_in (ends_from 0 (plans_of qs)) (origin (whole_of qs other.services other.root) j.asking)) 0 0 p.joints q.joints
+        order other.order
+        (λ j h. in_has q.joints j (in_contained q.joints j ((alike.joints j).0 (contains_in p.joints j (has_in p.joints j h)))))
+        (λ j h. in_has p.joints j (in_contained p.joints j ((alike.joints j).1 (contains_in q.joints j (has_in q.joints j h)))))
 
 pub has_one_fault : JoiningIsOne → HasOneFault
 has_one_fault joins_one b ps f g (inl (ss, one)) (inl (ts, other)) = (binds_agree b.instances.items ps [] b.binds.items ss ts (Some f) (Some g) one other).1

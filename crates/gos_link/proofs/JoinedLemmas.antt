@@ -20,12 +20,12 @@ use Rattle.gos_link.proofs.PathLemmas.{path_tied, tied_path}
 use Rattle.gos_link.proofs.WalkLemmas.{ends_turn}
 
 -- the joints of gos_ties are in the list
-has_in : (js : List Joint) (j : Joint) → tied.Has js j → In js j
+pub has_in : (js : List Joint) (j : Joint) → tied.Has js j → In js j
 has_in [] j h = absurd h
 has_in (k ∷ js) j (inl e) = inl e
 has_in (k ∷ js) j (inr h) = inr (has_in js j h)
 
-in_has : (js : List Joint) (j : Joint) → In js j → tied.Has js j
+pub in_has : (js : List Joint) (j : Joint) → In js j → tied.Has js j
 in_has [] j h = absurd h
 in_has (k ∷ js) j (inl e) = inl e
 in_has (k ∷ js) j (inr h) = inr (in_has js j h)

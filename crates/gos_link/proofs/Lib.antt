@@ -16,11 +16,14 @@ mod WalkLemmas
 mod CountLemmas
 pub mod BoundLemmas
 mod JoinedLemmas
+mod OrderLemmas
+mod SmallOrderLemmas
 mod FewLemmas
 mod TieLemmas
 mod JudgeLemmas
 mod WholeLemmas
 mod StageLemmas
+mod SeenLemmas
 mod AnswerLemmas
 mod ReadingLemmas
 pub mod CountedLemmas

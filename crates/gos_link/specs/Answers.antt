@@ -1,11 +1,11 @@
 -- That a build file is one build, and that a build has one answer.
 --
--- Read first: BuildFile, Linked; Joining of gos_plan (`IsSameButOrder`). Laws of these definitions, for all texts and all plans.
+-- Read first: BuildFile, Linked. Laws of these definitions, for all texts and all plans.
 use Rattle.std.specs.Prelude.{◌≡◌, ◌≤◌, ◌+◌, ℕ, List, [], ◌∷◌, None, length}
 use Rattle.gos_types.specs.Types.{Type', type_of}
 use Rattle.gos_plan.specs.Plans.{Plan, IsRight}
 use Rattle.gos_plan.specs.Seen.{SeenPlan}
-use Rattle.gos_plan.specs.Joining.{IsJoining, IsSameButOrder}
+use Rattle.gos_plan.specs.Joining.{IsJoining}
 use Rattle.gos_link.specs.declared.build.Build.{Build}
 use Rattle.gos_link.specs.declared.services.Service.{Service}
 use Rattle.gos_link.specs.declared.fault.LinkFault.{LinkFault}
@@ -43,9 +43,11 @@ abbrev pub IsSameFault : LinkFault → LinkFault → Type 0
 IsSameFault (faults.TypeDiffers line want got) other = IsDifference line (type_of want) (type_of got) other
 IsSameFault fault other = fault ≡ other
 
--- a build has one linked plan at most, but for the order of its joints; or one fault, and not both
+-- A build has one linked plan at most, or one fault, and not both. Plans that are seen as one may have their types in other places
+-- of memory.
 abbrev pub LinkedIsOne : Type 0
-LinkedIsOne = (b : Build) (ps : List SeenPlan) (p q : Plan) → IsLinked b ps p → IsLinked b ps q → IsSameButOrder p q
+LinkedIsOne =
+    (b : Build) (ps qs : List SeenPlan) (p q : Plan) → plans_of ps ≡ plans_of qs → IsLinked b ps p → IsLinked b qs q → p ≡ q
 
 abbrev pub HasOneFault : Type 0
 HasOneFault = (b : Build) (ps : List SeenPlan) (fault other : LinkFault) → IsUnlinked b ps fault → IsUnlinked b ps other → IsSameFault fault other

@@ -1,7 +1,7 @@
 -- What a build's linked plan is, and why a build is not linked.
 --
--- Read first: Services; Joining of gos_plan. The linked plan is the joining of the instances' plans along the imports that
--- are served.
+-- Read first: Services, Order; Joining of gos_plan. The linked plan is the joining of the instances' plans along the imports that
+-- are served, and its joints stand in the order of these plans.
 use Rattle.std.specs.Prelude.{◌≡◌, ◌≢◌, ◌<◌, ◌≤◌, ◌+◌, ◌⊎◌, ◌||◌, ℕ, zero, suc, Bool, true, false, List, [], ◌∷◌, ◌++◌, Option, Some, None, length, map, slice_get, nat_eq, if◌then◌else◌}
 use Rattle.gos_types.specs.Types.{Type', Com, Exp, Var, Pair, Fun, IsGround}
 use Rattle.gos_lex.specs.Lines.{Word}
@@ -17,6 +17,7 @@ use Rattle.gos_link.specs.declared.services.Service.{Service}
 use Rattle.gos_link.specs.declared.fault.LinkFault.{LinkFault}
 use Rattle.gos_link.specs.declared.fault.LinkFault.TheVariants as faults
 use Rattle.gos_link.specs.Services.{instance_named, first_used, BindsOn}
+use Rattle.gos_link.specs.Order.{AreInOrder}
 
 -- a plan within the limits of an object file
 pub record KeepsLimits (p : Plan) : Type 0 where
@@ -164,6 +165,7 @@ pub record IsLinked (b : Build) (ps : List SeenPlan) (p : Plan) : Type 0 where
   pub binds : BindsOn b.instances.items ps [] b.binds.items services None
   pub light : IsLight b ps services root
   pub joining : IsJoining (whole_of ps services root) p
+  pub order : AreInOrder (whole_of ps services root) p.joints
   pub small : plan_size p ≤ 5000000
   pub few : count_ports p ≤ 65536
 

@@ -5,6 +5,7 @@ ghost use Rattle.gos_plan.specs.Seen.{part_of, import_of, plan_of};
 ghost use Rattle.gos_plan.specs.Ranges.{IsInRange, IsSmall};
 ghost use Rattle.gos_plan.specs.Joining.{IsJoining, all_parts, all_weight};
 ghost use Rattle.gos_link.specs.Linked.{whole_of};
+ghost use Rattle.gos_link.specs.Order.{AreInOrder};
 ghost use Rattle.gos_link.specs.inner.Opens.{open_seen};
 ghost use Rattle.gos_link.specs.inner.Counts.{AreCounted, IsCountable};
 ghost use Rattle.gos_link.specs.inner.Wired.{AreJoinable};
@@ -108,7 +109,7 @@ fn outcome_of(plan: &Plan) -> &Ty
     plan.result()
 }
 
-/// The joining of plans along services. `Err` is want of memory alone.
+/// The joining of plans along services, its joints in the order of these plans. `Err` is want of memory alone.
 pub(crate) fn join(
     alloc: Global,
     plans: &[Plan],
@@ -118,6 +119,7 @@ pub(crate) fn join(
     requires joinable { AreJoinable (map plan_of plans.now) services.now root }
     requires counted { AreCounted (map plan_of plans.now) services.now }
     ensures joining { IfOk result (λ plan. IsJoining (whole_of plans.now services.now root) (plan_of plan)) }
+    ensures order { IfOk result (λ plan. AreInOrder (whole_of plans.now services.now root) (plan_of plan).joints) }
     ensures countable { IfOk result (λ plan. IsCountable (plan_of plan)) }
 {
     let opens = opens_of(alloc, plans, services)?;

@@ -1,6 +1,7 @@
 // What the definitions give for every build file and every build. Each theorem is the contract of a function that does nothing.
 
 ghost use Rattle.gos_link.specs.Answers.{BuildHasNoWrongLine, HasOneFault, HasOneWrongLine, IsOneBuild, JointsAreFew, LinkedHasNoFault, LinkedIsOne};
+ghost use Rattle.gos_link.specs.SmallOrders.{FirstComesFirst, SecondIsNotFirst};
 
 use gos_plan::one_joining;
 
@@ -11,7 +12,7 @@ pub fn one_build()
     ensures either { BuildHasNoWrongLine }
 {}
 
-/// A build has one linked plan at most, but for the order of its joints, or one fault, and not both.
+/// A build has one linked plan at most, or one fault, and not both.
 pub fn one_answer()
     ensures linked { LinkedIsOne }
     ensures fault { HasOneFault }
@@ -23,4 +24,10 @@ pub fn one_answer()
 /// The joining of a build's plans has no more joints than these have together.
 pub fn few_joints()
     ensures { JointsAreFew }
+{}
+
+/// Of two plans that are joined the joints at which the first asks come first.
+pub fn small_orders()
+    ensures first { FirstComesFirst }
+    ensures second { SecondIsNotFirst }
 {}

@@ -25,6 +25,6 @@ mod whole;
 pub use build::{Bind, Build, Instance};
 pub use fault::LinkFault;
 pub use file_name::FileName;
-pub use laws::{few_joints, one_answer, one_build};
+pub use laws::{few_joints, one_answer, one_build, small_orders};
 pub use linking::link;
 pub use reading::read_build;

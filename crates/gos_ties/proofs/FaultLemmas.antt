@@ -1,7 +1,7 @@
 -- A plan whose joints are right is refused for want of memory alone.
 use Rattle.std.specs.Prelude.{◌≡◌}
 use Rattle.std.proofs.Common.{refl}
-use Rattle.gos_plan.specs.Plans.{Joint, IsRight}
+use Rattle.gos_plan.specs.Plans.{IsRight}
 use Rattle.gos_plan.specs.declared.fault.ObjectFault.{ObjectFault}
 use Rattle.gos_plan.specs.declared.fault.ObjectFault.TheVariants as faults
 use Rattle.gos_plan.specs.Faults.{IsFault}

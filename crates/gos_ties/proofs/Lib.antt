@@ -7,4 +7,5 @@ pub mod JointLemmas
 mod PlanLemmas
 pub mod ThinLemmas
 pub mod RightLemmas
+pub mod OrderLemmas
 mod FaultLemmas

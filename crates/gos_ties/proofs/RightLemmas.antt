@@ -16,6 +16,7 @@ use Rattle.gos_ties.specs.Ties.{at, Meet, Path, here, along, Connects, joint, Ha
 use Rattle.gos_ties.specs.inner.Joined.{far_at}
 use Rattle.gos_ties.specs.inner.Found.{bare, code, IsTied, do_fit, found_from, found, all_found, far_by, AreTables}
 use Rattle.gos_ties.specs.Counted.{once, meetings, IsThin}
+use Rattle.gos_ties.specs.Order.{points_of}
 use Rattle.gos_ties.proofs.CodeLemmas.{codes_tell, path_leads}
 use Rattle.gos_ties.proofs.JointLemmas.{end_tells, at_end, from_ends, all_at, role_or, not_both, path_ends, joints_found}
 use Rattle.gos_ties.proofs.PlanLemmas.{bare_connects}
@@ -36,20 +37,16 @@ path_back : (ts : List Tie) (a b : Point) → Path ts a b → Path ts b a
 path_back ts a b (here _) = here a
 path_back ts a b (along _ c _ m p) = path_on ts b c a (path_back ts c b p) (along c a a (meet_back ts a c m) (here a))
 
--- the points of ties, in order
-abbrev points : List Tie → List Point
-points [] = []
-points (t ∷ ts) = t.one ∷ t.other ∷ points ts
-
-abbrev at_points : Plan → (Point → Point) → List Point → List Joint
+-- the joints that are found at points
+abbrev pub at_points : Plan → (Point → Point) → List Point → List Joint
 at_points p far [] = []
 at_points p far (q ∷ qs) = found p far q ++ at_points p far qs
 
-all_at_points : (p : Plan) (far : Point → Point) (ts : List Tie) → all_found p far ts ≡ at_points p far (points ts)
+pub all_at_points : (p : Plan) (far : Point → Point) (ts : List Tie) → all_found p far ts ≡ at_points p far (points_of ts)
 all_at_points p far [] = refl
 all_at_points p far (t ∷ ts) = ap (λ (js : List Joint). found p far t.one ++ (found p far t.other ++ js)) (all_at_points p far ts)
 
-points_occur : (q : Point) (ts : List Tie) → occurs q (points ts) ≡ meetings q ts
+pub points_occur : (q : Point) (ts : List Tie) → occurs q (points_of ts) ≡ meetings q ts
 points_occur q [] = refl
 points_occur q (t ∷ ts) = let h = points_occur q ts in omega (arith, h)
 
@@ -62,12 +59,12 @@ each_more : (t : Tie) (ts : List Tie) (qs : List Point) → Each (IsTied ts) qs 
 each_more t ts [] h = tt
 each_more t ts (q ∷ qs) (i, h) = (inr (inr i), each_more t ts qs h)
 
-each_tied : (ts : List Tie) → Each (IsTied ts) (points ts)
+each_tied : (ts : List Tie) → Each (IsTied ts) (points_of ts)
 each_tied [] = tt
-each_tied (t ∷ ts) = (inl refl, (inr (inl refl), each_more t ts (points ts) (each_tied ts)))
+each_tied (t ∷ ts) = (inl refl, (inr (inl refl), each_more t ts (points_of ts) (each_tied ts)))
 
 -- at a point a joint is found, or none
-from_cases : (p : Plan) (x y : Option End) → (found_from p x y ≡ []) ⊎ ((a : End) × (b : End) × (found_from p x y ≡ joint a b ∷ []))
+pub from_cases : (p : Plan) (x y : Option End) → (found_from p x y ≡ []) ⊎ ((a : End) × (b : End) × (found_from p x y ≡ joint a b ∷ []))
 from_cases p None y = inl refl
 from_cases p (Some a) None = inl refl
 from_cases p (Some a) (Some b) = by (do_fit (contact_at p a) (contact_at p b))
@@ -194,5 +191,5 @@ right_joints s ts t thin tables is =
     (all_at p (far_by t) ts (joint a b) q tied h)))
     in
     subst (λ (js : List Joint). AreRight (plan_of s) [] js) (sym (is ∙ all_at_points p (far_by t) ts))
-    (right_points ts p (plan_of s) (far_by t) sound (apart_ends ts t (plan_of s) tables) (points ts) (each_tied ts)
+    (right_points ts p (plan_of s) (far_by t) sound (apart_ends ts t (plan_of s) tables) (points_of ts) (each_tied ts)
     (λ a. let all = points_occur (at a) ts in let few = thin.ends (at a) a (at_end a) in omega (arith, all, few)) [] (λ k i. absurd i))

@@ -10,6 +10,7 @@ ghost use Rattle.gos_ties.specs.Ties.{joint, Has, Connects};
 ghost use Rattle.gos_plan.specs.Seen.{joint_of, plan_of};
 ghost use Rattle.gos_ties.specs.inner.Contacts.{asked};
 ghost use Rattle.gos_ties.specs.Counted.{IsThin};
+ghost use Rattle.gos_ties.specs.Order.{AreInOrder};
 ghost use Rattle.gos_ties.specs.inner.Found.{bare, AreTables, do_fit, far_by, found, all_found, joints_seen};
 
 use crate::contacts::contact_at;
@@ -126,7 +127,8 @@ fn joints_of(
 }
 
 /// The joints that ties make in a plan of these imports, this result and these parts: one for each two ends that a path of
-/// ties connects, of which the one asks and the other serves. They are right. `Err` is want of memory alone.
+/// ties connects, of which the one asks and the other serves. They are right, and stand in the order of their asking ends in the
+/// ties. `Err` is want of memory alone.
 pub(crate) fn tied_joints(
     alloc: Global,
     imports: &[PlanImport],
@@ -139,6 +141,7 @@ pub(crate) fn tied_joints(
         → Has (map joint_of joints.items) (joint a b) ↔ Connects ties.now (bare imports.now outcome.now parts.now) a b) }
     ensures right { IfOk result (λ joints. (weight : ℕ)
         → IsRight (plan_of (record { weight = weight; imports = imports.now; outcome = outcome.now; parts = parts.now; joints = joints.items }))) }
+    ensures order { IfOk result (λ joints. AreInOrder ties.now (map joint_of joints.items)) }
 {
     let tables = tables_of(alloc, ties)?;
     let joints = joints_of(alloc, imports, outcome, parts, &tables, ties)?;

@@ -7,6 +7,7 @@ ghost use Rattle.gos_plan.specs.Ranges.{AreInRange};
 ghost use Rattle.gos_plan.specs.Seen.{plan_of};
 ghost use Rattle.gos_ties.specs.Ties.{joint, Has, Connects};
 ghost use Rattle.gos_ties.specs.Counted.{IsThin};
+ghost use Rattle.gos_ties.specs.Order.{AreInOrder};
 
 use crate::joints::tied_joints;
 use crate::points::Tie;
@@ -15,7 +16,8 @@ use gos_types::{NoMemory, Ty};
 use std::alloc::Global;
 
 /// The plan of these values whose joints the ties make: one for each two ends that a path of ties connects, of which the one
-/// asks and the other serves. `Err` is want of memory alone: a plan is refused for a joint that is wrong, and all are right.
+/// asks and the other serves, in the order in which the ends that ask stand in the ties. `Err` is want of memory alone: a plan is
+/// refused for a joint that is wrong, and all are right.
 pub fn tied_plan(
     alloc: Global,
     weight: u64,
@@ -32,6 +34,7 @@ pub fn tied_plan(
     ensures parts { IfOk result (λ plan. plan.parts ≡ parts.items) }
     ensures right { IfOk result (λ plan. IsRight (plan_of plan)) }
     ensures joints { IfOk result (λ plan. (a b : AnEnd) → Has (plan_of plan).joints (joint a b) ↔ Connects ties.now (plan_of plan) a b) }
+    ensures order { IfOk result (λ plan. AreInOrder ties.now (plan_of plan).joints) }
 {
     let joints = tied_joints(alloc, &imports, &outcome, &parts, ties)?;
     match make(alloc, weight, imports, outcome, parts, joints) {

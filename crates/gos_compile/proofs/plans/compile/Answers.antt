@@ -81,7 +81,7 @@ returns c =
     in
     let plan : IsPlanOf is (type_of c.args.program.now.result) c.args.program.now.weight m (plan_of s) =
     is_plan is (type_of c.args.program.now.result) c.args.program.now.weight m s c.deref.result.now imports outcome (made.weight ∙ c.weight.ensures) parts
-    made.right ties made.joints
+    made.right ties made.joints made.order
     in
     let slim : IsSlim (plan_of s) = is_slim c.types_of_terms.ensures.node c.args.program.now c.term.ensures.checked (plan_of s) plan in
     let (few, joined) = few_parts c.args.program.now c.term.ensures.checked (plan_of s) plan.weight slim in

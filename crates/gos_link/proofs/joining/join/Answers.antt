@@ -14,13 +14,15 @@ use Rattle.gos_plan.specs.Joining.{LeftImport, IsJoining}
 use Rattle.gos_ties.specs.declared.points.Tie.{Tie}
 use Rattle.gos_ties.specs.Counted.{IsThin}
 use Rattle.gos_ties.specs.Ties.{Connects, Has, joint}
+use Rattle.gos_ties.specs.Order.{AreInOrder}
 use Rattle.gos_link.specs.declared.opens.Open.{Open}
 use Rattle.gos_link.specs.Linked.{outcome_of, whole_of}
 use Rattle.gos_link.specs.inner.Opens.{open_seen}
 use Rattle.gos_link.proofs.ServiceLemmas.{opens_left}
 use Rattle.gos_link.proofs.CountLemmas.{thin}
 use Rattle.gos_link.proofs.CountedLemmas.{countable}
-use Rattle.gos_link.proofs.JoinedLemmas.{is_joining}
+use Rattle.gos_link.proofs.JoinedLemmas.{Bears, is_joining}
+use Rattle.gos_link.proofs.OrderLemmas.{in_order}
 use Rattle.gos_link.proofs.joining.join.Goals as goal
 
 pub tied_plan-requires-clause-thin : goal.tied_plan-requires-clause-thin
@@ -59,12 +61,16 @@ returns c =
     let outcome : type_of s.outcome ≡ outcome_of (slice_get ps c.args.root) =
     ap (λ (t : Ty). type_of t) made.outcome
     ∙ (c.in_ok-outcome.ensures ∙ (ap (λ (t : Ty). type_of t) c.outcome_of.ensures.value ∙ ap (λ (o : Option Plan). outcome_of o) (sym at_root))) in
+    let bears : Bears ps c.args.services.now c.args.root c.requires.joinable c.in_ok-ties.ensures.right (plan_of s) =
+    record { parts = parts; imports = imports; outcome = outcome } in
     let joining : IsJoining (whole_of c.args.plans.now c.args.services.now c.args.root) (plan_of s) =
     is_joining ps c.args.services.now c.args.root c.requires.joinable c.in_ok-ties.ensures.right s
-    (record { parts = parts; imports = imports; outcome = outcome }) (made.weight ∙ c.weight_of-weight.ensures) made.right
+    bears (made.weight ∙ c.weight_of-weight.ensures) made.right
     (subst (λ (ts : List Tie). (a b : End) → Has (plan_of s).joints (joint a b) ↔ Connects ts (plan_of s) a b)
     (c.deref-2.ensures.value ∙ c.in_ok-ties.ensures.ties) made.joints) in
     record {
       joining = joining;
+      order = in_order ps c.args.services.now c.args.root c.requires.joinable c.in_ok-ties.ensures.right (plan_of s) bears made.right
+          (subst (λ (ts : List Tie). AreInOrder ts (plan_of s).joints) (c.deref-2.ensures.value ∙ c.in_ok-ties.ensures.ties) made.order);
       countable = countable ps c.args.services.now c.args.root (plan_of s) c.requires.joinable c.in_ok-ties.ensures.right c.requires.counted joining;
     }

@@ -1,9 +1,11 @@
-use Rattle.std.proofs.Common.{List, sym, subst}
+use Rattle.std.proofs.Common.{List, map, sym, subst}
 use Rattle.gos_plan.specs.Plans.{Joint}
+use Rattle.gos_plan.specs.Seen.{joint_of}
 use Rattle.gos_ties.specs.Ties.{Has, joint}
-use Rattle.gos_ties.specs.inner.Found.{bare}
+use Rattle.gos_ties.specs.inner.Found.{bare, far_by}
 use Rattle.gos_ties.proofs.JointLemmas.{joints_found}
 use Rattle.gos_ties.proofs.RightLemmas.{right_joints}
+use Rattle.gos_ties.proofs.OrderLemmas.{in_order}
 use Rattle.gos_ties.proofs.joints.tied_joints.Goals as goal
 
 pub returns-clause-joints : goal.returns-clause-joints
@@ -23,3 +25,8 @@ returns-clause-right c = λ weight.
     right_joints
     (record { weight = weight; imports = c.args.imports.now; outcome = c.args.outcome.now; parts = c.args.parts.now; joints = c.in_ok-joints.joints.items })
     c.args.ties.now c.in_ok-tables.tables c.requires c.in_ok-tables.ensures c.in_ok-joints.ensures
+
+pub returns-clause-order : goal.returns-clause-order
+returns-clause-order c =
+    in_order (bare c.args.imports.now c.args.outcome.now c.args.parts.now) (far_by c.in_ok-tables.tables) c.args.ties.now
+    (map joint_of c.in_ok-joints.joints.items) c.requires c.in_ok-joints.ensures
