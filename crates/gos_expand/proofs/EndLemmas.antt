@@ -5,16 +5,15 @@ use Rattle.std.proofs.lemmas.Option.{get_or_from_slice_get}
 use Rattle.gos_types.specs.Types.{type_of}
 use Rattle.gos_netlist.specs.Nets.{Take, NetPort}
 use Rattle.gos_types.specs.Events.{Request, Answer}
-use Rattle.gos_plan.specs.declared.kinds.Kind.{Kind}
 use Rattle.gos_plan.specs.declared.plan.PlanImport.{PlanImport}
-use Rattle.gos_plan.specs.Kinds.{Part, Contact, contacts_of, part_contacts}
+use Rattle.gos_plan.specs.Kinds.{Part, Contact, contacts_of}
 use Rattle.gos_model.specs.Typing.{Imported}
-use Rattle.gos_plan.specs.Plans.{PartEnd, ImportEnd, Plan, contacts_of_part, contacts_of_import}
-use Rattle.gos_plan.specs.Seen.{part_of, import_of}
-use Rattle.gos_expand.specs.Gates.{outs_of, part_size}
-use Rattle.gos_expand.specs.Laid.{nets_out, outs_if, request_start, answer_nets, leaves, laid_port, taken}
+use Rattle.gos_plan.specs.Plans.{ImportEnd, Plan, contacts_of_import}
+use Rattle.gos_plan.specs.Seen.{import_of}
+use Rattle.gos_expand.specs.Gates.{part_size}
+use Rattle.gos_expand.specs.Laid.{request_start, answer_nets, leaves, laid_port, taken}
 use Rattle.gos_expand.specs.Blocks.{nets_from, token_size, total}
-use Rattle.gos_expand.specs.Starts.{Keep, bits_if, ports_of, port_size, port_start, part_start, parts_start}
+use Rattle.gos_expand.specs.Starts.{Keep, bits_if, ports_of, port_size, port_start, part_start}
 use Rattle.gos_expand.specs.inner.Numbering.{starts, laid_size}
 use Rattle.gos_expand.proofs.BlockLemmas.{start_of, total_within, take_one}
 use Rattle.gos_expand.proofs.PortLemmas.{taken_port, port_there}
@@ -24,25 +23,14 @@ is_there : (o : Option Contact) → IsSome o → (c : Contact) × (o ≡ Some c)
 is_there None some = absurd (cc some)
 is_there (Some c) some = (c, refl)
 
--- at a part's end there is a part, which has the handshake
-pub part_known : (ks : List Kind) (i h : ℕ) → IsSome (slice_get (contacts_of_part (slice_get (map part_of ks) i)) h)
-    → (k : Kind) × (c : Contact) × (slice_get ks i ≡ Some k) × (slice_get (part_contacts (part_of k)) h ≡ Some c)
-part_known [] i h some = absurd (cc some)
-part_known (k ∷ ks) zero h some = let found = is_there (slice_get (part_contacts (part_of k)) h) some in (k, found.0, refl, found.1)
-part_known (k ∷ ks) (suc i) h some = part_known ks i h some
-
--- and so it is with imports
+-- at an import's end there is an import, which has the handshake
 pub import_known : (is : List PlanImport) (i h : ℕ) → IsSome (slice_get (contacts_of_import (slice_get (map import_of is) i)) h)
     → (x : PlanImport) × (c : Contact) × (slice_get is i ≡ Some x) × (slice_get (contacts_of (type_of x.ty)) h ≡ Some c)
 import_known [] i h some = absurd (cc some)
 import_known (x ∷ xs) zero h some = let found = is_there (slice_get (contacts_of (type_of x.ty)) h) some in (x, found.0, refl, found.1)
 import_known (x ∷ xs) (suc i) h some = import_known xs i h some
 
--- where the part begins
-pub part_begins : (keep : Keep) (p : Plan) (items : List ℕ) (i : ℕ) (k : Part) → items ≡ starts (λ _ k. part_size k) 0 (parts_start keep p) p.parts → slice_get p.parts i ≡ Some k
-    → slice_get items i ≡ Some (part_start keep p i)
-part_begins keep p items i k is there = ap (λ (ns : List ℕ). slice_get ns i) is ∙ start_of (λ _ k. part_size k) 0 (parts_start keep p) i p.parts k there
-
+-- where a part ends
 pub part_ends_within : (keep : Keep) (p : Plan) (i : ℕ) (k : Part) → slice_get p.parts i ≡ Some k → part_start keep p i + part_size k ≤ laid_size keep p
 part_ends_within keep p i k there = let within = total_within (λ _ k. part_size k) 0 i p.parts k there in omega (arith, within)
 
@@ -71,16 +59,7 @@ index_there [] i m d there = absurd (cc there)
 index_there (n ∷ ns) zero m d there = cc there
 index_there (n ∷ ns) (suc i) m d there = index_there ns i m d there
 
--- the part, or the import, that was looked up
-pub kind_here : (ps items : List Kind) (i h : ℕ) (k : Kind) → items ≡ ps → IsSome (slice_get (contacts_of_part (slice_get (map part_of ps) i)) h) → k ≡ get_or items i k
-    → (slice_get ps i ≡ Some k) × ((c : Contact) × (slice_get (part_contacts (part_of k)) h ≡ Some c))
-kind_here ps items i h k same some is =
-    let known = part_known ps i h some in
-    let found : known.0 ≡ k = sym (is ∙ (ap (λ (ks : List Kind). get_or ks i k) same ∙ get_or_from_slice_get ps i known.0 k known.2)) in (
-      known.2 ∙ ap (λ (x : Kind). Some x) found,
-      (known.1, subst (λ (x : Kind). slice_get (part_contacts (part_of x)) h ≡ Some known.1) found known.3),
-    )
-
+-- the import that was looked up
 pub import_here : (ps items : List PlanImport) (i h : ℕ) (x : PlanImport) → items ≡ ps → IsSome (slice_get (contacts_of_import (slice_get (map import_of ps) i)) h) → x ≡ get_or items i x
     → (slice_get ps i ≡ Some x) × ((c : Contact) × (slice_get (contacts_of (type_of x.ty)) h ≡ Some c))
 import_here ps items i h x same some is =
@@ -91,11 +70,6 @@ import_here ps items i h x same some is =
     )
 
 -- what leaves there
-pub part_leaves_here : (keep : Keep) (p : Plan) (i h base : ℕ) (k : Part) → slice_get p.parts i ≡ Some k → base ≡ part_start keep p i
-    → nets_out (slice_get (outs_of k base) h) ≡ leaves keep p (PartEnd i h)
-part_leaves_here keep p i h base k there at =
-    ap (λ (b : ℕ). nets_out (slice_get (outs_of k b) h)) at ∙ sym (ap (λ (o : Option Part). nets_out (slice_get (outs_if o (part_start keep p i)) h)) there)
-
 pub import_leaves_here : (keep : Keep) (p : Plan) (i h start request size answer ask : ℕ) (x : Imported) (c : Contact) → slice_get p.imports i ≡ Some x → slice_get (contacts_of x.ty) h ≡ Some c
     → answer ≡ c.answer_bits → ask ≡ c.ask_bits → start ≡ port_start p (i + 1) → request ≡ request_start start (contacts_of x.ty) h → size ≡ token_size ask
     → nets_from answer (request + size) ≡ leaves keep p (ImportEnd i h)

@@ -3,62 +3,17 @@ use Rattle.std.specs.Prelude.{Some, IsSome}
 use Rattle.std.proofs.Common.{get_or, ◌≡◌, ℕ, ◌+◌, ◌≤◌, List, map, ap, subst, arith, ◌∙◌, slice_get}
 use Rattle.std.proofs.lemmas.Option.{get_or_from_slice_get}
 use Rattle.gos_types.specs.Types.{type_of}
-use Rattle.gos_plan.specs.declared.kinds.Kind.{Kind}
 use Rattle.gos_plan.specs.declared.plan.PlanImport.{PlanImport}
 use Rattle.gos_plan.specs.declared.plan.End as declared
 use Rattle.gos_plan.specs.declared.plan.End.TheVariants as ends
-use Rattle.gos_plan.specs.Kinds.{Contact, contacts_of, part_contacts}
+use Rattle.gos_plan.specs.Kinds.{Contact, contacts_of}
 use Rattle.gos_plan.specs.Plans.{contact_at}
-use Rattle.gos_plan.specs.Seen.{SeenPlan, plan_of, part_of, import_of, end_of}
+use Rattle.gos_plan.specs.Seen.{SeenPlan, plan_of, import_of, end_of}
 use Rattle.gos_expand.specs.declared.numbering.Numbering.{Numbering}
-use Rattle.gos_expand.specs.Gates.{part_size}
-use Rattle.gos_expand.specs.Starts.{part_start, port_start}
+use Rattle.gos_expand.specs.Starts.{port_start}
 use Rattle.gos_expand.specs.inner.Numbering.{IsNumbered, keep_in}
 use Rattle.gos_expand.proofs.BlockLemmas.{there_mapped}
-use Rattle.gos_expand.proofs.EndLemmas.{part_known, import_known, kind_here, import_here, part_begins, part_ends_within, import_begins, import_ends_within}
-
--- the kind at the end of a part
-pub record PartHere (plan : SeenPlan) (n : Numbering) (i h : ℕ) (k : Kind) : Type 0 where
-  pub listed : slice_get plan.parts i ≡ Some k
-  pub there : slice_get (map part_of plan.parts) i ≡ Some (part_of k)
-  pub contact : Contact
-  pub shake : slice_get (part_contacts (part_of k)) h ≡ Some contact
-  pub begins : slice_get n.parts.items i ≡ Some (part_start (keep_in n) (plan_of plan) i)
-
-part_with : (plan : SeenPlan) (n : Numbering) (i h : ℕ) (k : Kind) → IsNumbered (plan_of plan) n → slice_get plan.parts i ≡ Some k → (c : Contact) × (slice_get (part_contacts (part_of k)) h ≡ Some c)
-    → PartHere plan n i h k
-part_with plan n i h k numbered listed shake =
-    let there = there_mapped part_of i plan.parts k listed in
-    record {
-      listed = listed;
-      there = there;
-      contact = shake.0;
-      shake = shake.1;
-      begins = part_begins (keep_in n) (plan_of plan) n.parts.items i (part_of k) numbered.of_parts there;
-    }
-
--- there is one, and it is the one that the program looks up
-pub some_part : (plan : SeenPlan) (n : Numbering) (e : declared.End) (i h : ℕ) → IsNumbered (plan_of plan) n → IsSome (contact_at (plan_of plan) (end_of e)) → e ≡ ends.Part i h
-    → (k : Kind) × PartHere plan n i h k
-some_part plan n e i h numbered some is =
-    let known = part_known plan.parts i h (subst (λ (d : declared.End). IsSome (contact_at (plan_of plan) (end_of d))) is some) in
-    (known.0, part_with plan n i h known.0 numbered known.2 (known.1, known.3))
-
-pub this_part : (plan : SeenPlan) (n : Numbering) (e : declared.End) (i h : ℕ) (items : List Kind) (k : Kind) → IsNumbered (plan_of plan) n → IsSome (contact_at (plan_of plan) (end_of e)) → e ≡ ends.Part i h
-    → items ≡ plan.parts → k ≡ get_or items i k → PartHere plan n i h k
-this_part plan n e i h items k numbered some is same found =
-    let here = kind_here plan.parts items i h k same (subst (λ (d : declared.End). IsSome (contact_at (plan_of plan) (end_of d))) is some) found in
-    part_with plan n i h k numbered here.0 here.1
-
-pub part_base : {plan : SeenPlan} {n : Numbering} {i h : ℕ} {k : Kind} (items : List ℕ) → PartHere plan n i h k → items ≡ n.parts.items → get_or items i 0 ≡ part_start (keep_in n) (plan_of plan) i
-part_base {plan} {n} {i} {h} {k} items here same =
-    ap (λ (ns : List ℕ). get_or ns i 0) same ∙ get_or_from_slice_get n.parts.items i (part_start (keep_in n) (plan_of plan) i) 0 here.begins
-
-pub part_low : {plan : SeenPlan} {n : Numbering} {i h : ℕ} {k : Kind} (items : List ℕ) → PartHere plan n i h k → items ≡ n.parts.items → IsNumbered (plan_of plan) n → get_or items i 0 + part_size (part_of k) ≤ 4000000000
-part_low {plan} {n} {i} {h} {k} items here same numbered =
-    let base = part_base items here same in
-    let within = part_ends_within (keep_in n) (plan_of plan) i (part_of k) here.there in
-    omega (arith, base, within, numbered.whole, numbered.room)
+use Rattle.gos_expand.proofs.EndLemmas.{import_known, import_here, import_begins, import_ends_within}
 
 -- the import at the end of one
 pub record ImportHere (plan : SeenPlan) (n : Numbering) (i h : ℕ) (x : PlanImport) : Type 0 where

@@ -5,6 +5,7 @@ pub mod PlaceLemmas
 pub mod PortLemmas
 pub mod ArriveLemmas
 pub mod LeafLemmas
+pub mod DepartureLemmas
 pub mod PlacingLemmas
 pub mod CountLemmas
 pub mod EndLemmas
@@ -67,3 +68,4 @@ pub mod PolicyLemmas
 pub mod RankedCellLemmas
 pub mod SmallChoiceLemmas
 pub mod IntoLemmas
+pub mod OneLayoutLemmas

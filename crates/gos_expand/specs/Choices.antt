@@ -32,3 +32,8 @@ pub record KeepsFew (p : Plan) (keep : Keep) : Type 0 where
 abbrev pub IsLaidBy : Policy → Plan → List ℕ → Netlist → Type 0
 IsLaidBy All p root net = net ≡ laid keep_all p root
 IsLaidBy Few p root net = (keep : Keep) × KeepsFew p keep × (net ≡ laid keep p root)
+
+-- A policy gives a plan one netlist.
+abbrev pub LaidByIsOne : Type 0
+LaidByIsOne =
+    (policy : Policy) (p : Plan) (root : List ℕ) (net other : Netlist) → IsLaidBy policy p root net → IsLaidBy policy p root other → net ≡ other

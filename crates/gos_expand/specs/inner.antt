@@ -3,6 +3,7 @@
 pub mod Dispatch
 pub mod Tokens
 pub mod Arrivals
+pub mod Departures
 pub mod Numbering
 pub mod Outers
 pub mod Directions

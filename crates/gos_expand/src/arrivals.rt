@@ -4,7 +4,6 @@ ghost use Rattle.gos_types.specs.Types.{type_of};
 ghost use Rattle.gos_plan.specs.Kinds.{contacts_of, other_side, part_contacts};
 ghost use Rattle.gos_plan.specs.Seen.{plan_of, part_of, end_of};
 ghost use Rattle.gos_plan.specs.Contacts.{contact_held};
-ghost use Rattle.gos_gates.specs.Gates.{bits_out};
 ghost use Rattle.gos_plan.specs.Tokens.{bits_of, way_taken};
 ghost use Rattle.gos_expand.specs.inner.Arrivals.{new_arrival, arrival_in, arrival_at, AreAt, filled_if, Fills};
 
@@ -42,16 +41,6 @@ impl Arrival {
         match self.contact.role {
             Role::Serve => self.contact.ask_bits,
             Role::Ask => self.contact.answer_bits,
-        }
-    }
-
-    // How many bits what goes into the circuit there has.
-    pub(crate) fn bits_out(&self) -> u32
-        ensures { result ≡ bits_out self.now.contact.role (contact_held self.now.contact) }
-    {
-        match self.contact.role {
-            Role::Serve => self.contact.answer_bits,
-            Role::Ask => self.contact.ask_bits,
         }
     }
 }

@@ -1,6 +1,7 @@
 // What the definitions give for every plan, and for a small one. Each theorem is the contract of a function that does
 // nothing.
 ghost use Rattle.gos_expand.specs.Acceptance.{LaidIsAccepted, AllCutCycles, LaidIsSmall};
+ghost use Rattle.gos_expand.specs.Choices.{LaidByIsOne};
 ghost use Rattle.gos_expand.specs.Facts.{FactsMakeLists};
 ghost use Rattle.gos_expand.specs.Into.{LaysIntoNone};
 ghost use Rattle.gos_expand.specs.Kept.{AllKeep, AllKeepPaths, AreFew};
@@ -35,6 +36,11 @@ pub fn small_choices()
     ensures all { AllAreTooMany }
     ensures one { RingKeepsOne }
     ensures ring { NoneAreTooFew }
+{}
+
+/// A policy gives a plan one netlist: which registers are kept where few are is decided place by place.
+pub fn one_layout()
+    ensures { LaidByIsOne }
 {}
 
 /// `expand` is `expand_into` over a new pool: behind no cells the netlist of a plan is as it is. Behind its own netlist

@@ -28,9 +28,12 @@ ghost use Rattle.gos_expand.specs.Starts.{
 ghost use Rattle.gos_expand.specs.declared.arrivals.Origin.{Origin as AnOrigin};
 ghost use Rattle.gos_expand.specs.inner.Arrivals.{AreAt, Exist, or_else, by_way, start_by, start_by_ends, joined_start};
 ghost use Rattle.gos_expand.specs.Acceptance.{HasGroundPorts};
+ghost use Rattle.gos_expand.specs.inner.Tokens.{held_nets};
+ghost use Rattle.gos_expand.specs.inner.Departures.{departures_from};
 ghost use Rattle.gos_expand.specs.inner.Numbering.{IsNumbered, starts};
 
 use crate::arrivals::{Arrivals, Origin};
+use crate::departures::{Departures, part_departures};
 use crate::gates::gates_of;
 use crate::places::all_ends;
 use crate::tokens::token_size;
@@ -50,8 +53,8 @@ pub(crate) struct Numbering<'a> {
     pub loose: Vec<End>,
     // Where the result and each import begin.
     pub ports: Vec<u32>,
-    // Where each part begins.
-    pub parts: Vec<u32>,
+    // The nets of what goes out of each part.
+    pub departures: Departures,
     // Where the parts begin.
     pub parts_start: u32,
     // How many cells there are.
@@ -75,13 +78,13 @@ pub(crate) fn number<'a>(
     let loose_start = number_joints(&mut arrivals, plan, keep, joints_start);
     let loose = loose_ends(alloc, plan, &arrivals)?;
     let parts_start = number_loose(&mut arrivals, &loose, loose_start);
-    let (parts, size) = part_starts(alloc, plan, parts_start)?;
+    let (departures, size) = number_parts(alloc, plan, parts_start)?;
     Ok(Numbering {
         keep,
         arrivals,
         loose,
         ports,
-        parts,
+        departures,
         parts_start,
         size,
     })
@@ -266,22 +269,23 @@ pub(crate) fn bits_at(arrivals: &Arrivals, end: End) -> u32
     }
 }
 
-// Where the parts begin, and what comes behind them.
-fn part_starts(alloc: Global, plan: &Plan, from: u32) -> Result<(Vec<u32>, u32), NoMemory>
+// The nets of what goes out of the parts, the first of which begins at this net, and what comes behind them.
+fn number_parts(alloc: Global, plan: &Plan, from: u32) -> Result<(Departures, u32), NoMemory>
     requires ports { HasGroundPorts plan.now }
     requires size { plan_size (plan_of plan.now) ≤ 5000000 }
     requires room { from ≤ 1000000000 }
-    ensures starts { IfOk result (λ r. r.0.items ≡ starts (λ _ k. part_size k) 0 from (plan_of plan.now).parts) }
+    ensures departures { IfOk result (λ r. map (λ s. map held_nets s.items) r.0.parts.items ≡ departures_from from (plan_of plan.now).parts) }
     ensures next { IfOk result (λ r. r.1 ≡ from + total (λ _ k. part_size k) 0 (plan_of plan.now).parts) }
     ensures few { IfOk result (λ r. r.1 ≤ from + 24 * (length plan.now.parts + shakes_of (plan_of plan.now).parts)) }
 {
-    let mut starts = Vec::new(alloc);
+    let mut parts = Vec::new(alloc);
     let mut next = from;
     for kind in plan.parts() {
-        starts.push(next)?;
-        next += part_cells(kind);
+        let size = part_cells(kind);
+        parts.push(part_departures(alloc, kind, next)?)?;
+        next += size;
     }
-    Ok((starts, next))
+    Ok((Departures { parts }, next))
 }
 
 // How many cells a part has.

@@ -16,8 +16,9 @@ ghost use Rattle.gos_expand.specs.Acceptance.{HasGroundPorts};
 ghost use Rattle.gos_expand.specs.inner.Numbering.{IsNumbered, keep_in};
 ghost use Rattle.gos_expand.specs.inner.Outers.{outer_at};
 
+use crate::departures::no_wires;
 use crate::gates::gates_of;
-use crate::leaves::{arrives, leaves, no_wires};
+use crate::leaves::{arrives, leaves};
 use crate::numbering::{Numbering, bits_at, kept};
 use crate::places::{Place, shakes};
 use crate::tokens::{Nets, place_inputs, place_nothing, place_registers};

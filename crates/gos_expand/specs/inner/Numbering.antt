@@ -1,6 +1,6 @@
 -- Where the blocks of a plan's netlist begin, as the program keeps it.
 --
--- Read first: Arrivals, Acceptance. Between the functions of this crate.
+-- Read first: Arrivals, Departures, Acceptance. Between the functions of this crate.
 use Rattle.std.specs.Prelude.{◌≡◌, ℕ, zero, suc, ◌+◌, ◌≤◌, List, [], ◌∷◌, map}
 use Rattle.gos_plan.specs.Seen.{end_of}
 use Rattle.gos_plan.specs.Size.{plan_size}
@@ -11,7 +11,9 @@ use Rattle.gos_expand.specs.declared.numbering.Numbering.{Numbering}
 use Rattle.gos_expand.specs.Blocks.{total}
 use Rattle.gos_expand.specs.Gates.{part_size}
 use Rattle.gos_expand.specs.Starts.{Keep, chosen, port_size, ports_of, loose_ends, parts_start}
+use Rattle.gos_expand.specs.inner.Tokens.{held_nets}
 use Rattle.gos_expand.specs.inner.Arrivals.{AreAt, start_at}
+use Rattle.gos_expand.specs.inner.Departures.{departures_from}
 
 -- where each of these blocks begins, of which the first begins at net n
 abbrev pub starts : {A : Type 0} → (ℕ → A → ℕ) → ℕ → ℕ → List A → List ℕ
@@ -42,7 +44,7 @@ pub record IsNumbered (p : Plan) (n : Numbering) : Type 0 where
   pub of_arrivals : AreAt p (start_at (keep_in n) p) n.arrivals
   pub of_loose : map end_of n.loose.items ≡ loose_ends p
   pub of_ports : n.ports.items ≡ starts port_size 0 0 (ports_of p)
-  pub of_parts : n.parts.items ≡ starts (λ _ k. part_size k) 0 (parts_start (keep_in n) p) p.parts
+  pub of_departures : map (λ s. map held_nets s.items) n.departures.parts.items ≡ departures_from (parts_start (keep_in n) p) p.parts
   pub first_part : n.parts_start ≡ parts_start (keep_in n) p
   pub whole : n.size ≡ laid_size (keep_in n) p
   pub room : n.size ≤ 4000000000

@@ -7,7 +7,7 @@ use Rattle.gos_expand.specs.Blocks.{total}
 use Rattle.gos_expand.specs.Gates.{part_size}
 use Rattle.gos_expand.specs.Starts.{Keep, chosen, loose_size, loose_ends, loose_ends_start, parts_start}
 use Rattle.gos_expand.specs.inner.Arrivals.{AreAt, or_else, start_by_ends, joined_start}
-use Rattle.gos_expand.specs.inner.Numbering.{starts}
+use Rattle.gos_expand.specs.inner.Departures.{departures_from}
 use Rattle.gos_expand.proofs.numbering.number.Goals as goal
 
 pub returns-clause-numbered : goal.returns-clause-numbered
@@ -25,7 +25,7 @@ returns-clause-numbered c =
     let joints = c.number_joints-loose_start.ensures.few in
     let loose = c.number_loose-parts_start.ensures.few in
     let all_loose : length c.deref.result.now ≤ 2 * (length c.args.plan.now.imports + 1) + shakes_of p.parts = rw (c.deref.ensures.value) c.in_ok-loose.ensures.few in
-    let parts = c.in_ok-parts.ensures.few in
+    let parts = c.in_ok-departures.ensures.few in
     let size = c.requires.size in
     record {
       of_arrivals =
@@ -34,9 +34,9 @@ returns-clause-numbered c =
           (c.number_loose-parts_start.ensures.table p (joined_start keep p) joined));
       of_loose = c.in_ok-loose.ensures.ends;
       of_ports = c.in_ok-ports.ensures.starts;
-      of_parts = c.in_ok-parts.ensures.starts ∙ ap (λ (n : ℕ). starts (λ _ k. part_size k) 0 n p.parts) first;
+      of_departures = c.in_ok-departures.ensures.departures ∙ ap (λ (n : ℕ). departures_from n p.parts) first;
       first_part = first;
       room = omega (arith, ports, joints, loose, all_loose, parts, size, length-map c.args.plan.now.parts part_of, length-map c.args.plan.now.joints joint_of, length-map c.args.plan.now.imports import_of);
       few = omega (arith, ports, joints, loose, all_loose, parts, length-map c.args.plan.now.parts part_of, length-map c.args.plan.now.joints joint_of, length-map c.args.plan.now.imports import_of);
-      whole = c.in_ok-parts.ensures.next ∙ ap (λ (n : ℕ). n + total (λ _ k. part_size k) 0 p.parts) first;
+      whole = c.in_ok-departures.ensures.next ∙ ap (λ (n : ℕ). n + total (λ _ k. part_size k) 0 p.parts) first;
     }
