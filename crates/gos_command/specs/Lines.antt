@@ -30,6 +30,8 @@ use Rattle.gos_lex.specs.Lines.{Word}
 use Rattle.gos_pulse.specs.EventNames.{name_of_number}
 use Rattle.gos_pulse.specs.declared.fault.PulseFault.{PulseFault}
 use Rattle.gos_pulse.specs.declared.fault.PulseFault.TheVariants as pulse
+use Rattle.gos_aiger.specs.declared.fault.GateFault.{GateFault}
+use Rattle.gos_aiger.specs.declared.fault.GateFault.TheVariants as gates
 use Rattle.gos_command.specs.declared.status.Cause.{Cause}
 use Rattle.gos_command.specs.declared.status.Cause.TheVariants as causes
 use Rattle.gos_command.specs.declared.status.Fault.{Fault}
@@ -143,6 +145,10 @@ pulse_text of (pulse.Limit line) = counted (codes "P4 line ") line
 pulse_text of (pulse.Broken cycle event) = codes "P5 " ++ event_name of event ++ counted (codes " at cycle ") cycle
 pulse_text of pulse.NoMemory = []
 
+abbrev pub gates_text : GateFault → List ℕ
+gates_text (gates.TooLarge bits) = counted (codes "G1 bits ") bits
+gates_text gates.NoMemory = []
+
 abbrev pub cause_text : Option Netlist → Cause → List ℕ
 cause_text of (causes.Lex fault) = lex_text fault
 cause_text of (causes.Syntax fault) = syntax_text fault
@@ -152,6 +158,7 @@ cause_text of (causes.Link fault) = link_text fault
 cause_text of (causes.Net fault) = net_text fault
 cause_text of (causes.Refused fault) = refusal_text fault
 cause_text of (causes.Pulse fault) = pulse_text of fault
+cause_text of (causes.Gates fault) = gates_text fault
 
 -- the line of a fault, whose events are those of this netlist
 abbrev pub fault_line : Option Netlist → Fault → List ℕ
@@ -171,6 +178,9 @@ report_text (reports.Weight weight) = counted (codes "ok weight ") weight
 report_text (reports.Run run) = codes "ok" ++ run_text run
 report_text (reports.Build weight run) = counted (codes "ok weight ") weight ++ run_text run
 report_text (reports.Cells before after) = counted (codes "ok cells ") before ++ counted (codes " to ") after
+report_text (reports.Gates counts) =
+    counted (codes "ok inputs ") counts.inputs ++ counted (codes " latches ") counts.latches
+    ++ counted (codes " outputs ") counts.outputs ++ counted (codes " ands ") counts.ands
 
 -- its line
 abbrev pub report_line : Report → List ℕ

@@ -10,12 +10,14 @@ ghost use Rattle.gos_netlist.specs.NetText.{spaced};
 ghost use Rattle.gos_netlist.specs.Seen.{number_of};
 ghost use Rattle.gos_netcheck.specs.declared.fault.NetFault.TheVariants as net;
 ghost use Rattle.gos_pulse.specs.declared.fault.PulseFault.TheVariants as pulse;
+ghost use Rattle.gos_aiger.specs.declared.fault.GateFault.TheVariants as gates;
 ghost use Rattle.gos_command.specs.Ends.{IsRealCause};
-ghost use Rattle.gos_command.specs.Lines.{counted, lex_text, syntax_text, object_text, net_text, refusal_text, event_name, pulse_text, cause_text, fault_line};
+ghost use Rattle.gos_command.specs.Lines.{counted, lex_text, syntax_text, object_text, net_text, refusal_text, event_name, pulse_text, gates_text, cause_text, fault_line};
 
 use crate::check_text::check_text;
 use crate::link_text::link_text;
 use crate::status::Cause;
+use gos_aiger::GateFault;
 use gos_lex::LexFault;
 use gos_netcheck::NetFault;
 use gos_netlist::{NetId, NetTextFault, Netlist};
@@ -57,6 +59,7 @@ fn cause_text(alloc: Global, cause: &Cause, net: Option<&Netlist>) -> Result<Vec
         Cause::Net(fault) => net_text(alloc, fault),
         Cause::Refused(fault) => refusal_text(alloc, fault),
         Cause::Pulse(fault) => pulse_text(alloc, fault, net),
+        Cause::Gates(fault) => gates_text(alloc, fault),
     }
 }
 
@@ -130,6 +133,16 @@ fn cycle_text(alloc: Global, nets: &[NetId]) -> Result<Vec<u8>, NoMemory>
         add_count(alloc, &mut text, b" ", u64::from(net.0))?;
     }
     Ok(text)
+}
+
+fn gates_text(alloc: Global, fault: &GateFault) -> Result<Vec<u8>, NoMemory>
+    ensures cause { IfOk result (λ _. fault.now ≢ gates.NoMemory) }
+    ensures text { IfOk result (λ text. text.items ≡ gates_text fault.now) }
+{
+    match fault {
+        GateFault::TooLarge { bits } => counted(alloc, b"G1 bits ", *bits),
+        GateFault::NoMemory => Err(NoMemory),
+    }
 }
 
 fn pulse_text(alloc: Global, fault: &PulseFault, net: Option<&Netlist>) -> Result<Vec<u8>, NoMemory>

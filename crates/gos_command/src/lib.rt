@@ -7,7 +7,7 @@
 
 pub use ending::{finish, say};
 pub use files::{read_file, read_start, write_file};
-pub use report::{Counts, Report};
+pub use report::{Counts, GateCounts, Report};
 pub use status::{Cause, Fault, Status};
 pub use stop::{Rejection, Stop, reject};
 

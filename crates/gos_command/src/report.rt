@@ -19,6 +19,19 @@ pub struct Counts {
     pub unused: u64,
 }
 
+/// The numbers of a circuit of two-input gates and latches, as the header of an AIGER file has them.
+#[derive(Debug, Clone, Copy, PartialEq, Eq)]
+pub struct GateCounts {
+    /// How many input bits it has.
+    pub inputs: u64,
+    /// How many latches.
+    pub latches: u64,
+    /// How many output bits.
+    pub outputs: u64,
+    /// How many two-input gates.
+    pub ands: u64,
+}
+
 /// What a command tells when it is done.
 #[derive(Debug, Clone, Copy, PartialEq, Eq)]
 pub enum Report {
@@ -30,6 +43,8 @@ pub enum Report {
     Build { weight: u64, run: Counts },
     /// How many cells a netlist had, and how many are left of it.
     Cells { before: u64, after: u64 },
+    /// The numbers of a circuit of gates.
+    Gates(GateCounts),
 }
 
 /// The line of a command that is done.
@@ -54,6 +69,7 @@ fn told_text(alloc: Global, report: Report) -> Result<Vec<u8>, NoMemory>
             run,
         ),
         Report::Cells { before, after } => cells_text(alloc, before, after),
+        Report::Gates(counts) => gate_counts_text(alloc, counts),
     }
 }
 
@@ -73,5 +89,15 @@ fn cells_text(alloc: Global, before: u64, after: u64) -> Result<Vec<u8>, NoMemor
 {
     let mut text = counted(alloc, b"ok cells ", before)?;
     add_count(alloc, &mut text, b" to ", after)?;
+    Ok(text)
+}
+
+fn gate_counts_text(alloc: Global, counts: GateCounts) -> Result<Vec<u8>, NoMemory>
+    ensures { IfOk result (λ text. text.items ≡ report_text (reports.Gates counts)) }
+{
+    let mut text = counted(alloc, b"ok inputs ", counts.inputs)?;
+    add_count(alloc, &mut text, b" latches ", counts.latches)?;
+    add_count(alloc, &mut text, b" outputs ", counts.outputs)?;
+    add_count(alloc, &mut text, b" ands ", counts.ands)?;
     Ok(text)
 }

@@ -3,6 +3,7 @@
 ghost use Rattle.std.specs.Prelude.{◌≡◌};
 ghost use Rattle.gos_command.specs.Ends.{code_of};
 
+use gos_aiger::GateFault;
 use gos_check::CheckFault;
 use gos_lex::LexFault;
 use gos_link::{FileName, LinkFault};
@@ -31,6 +32,8 @@ pub enum Cause {
     Refused(NetFault),
     /// The pulse file is not read or not run.
     Pulse(PulseFault),
+    /// The netlist is not lowered to gates.
+    Gates(GateFault),
 }
 
 /// A file that was rejected.

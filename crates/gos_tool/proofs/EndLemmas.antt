@@ -18,12 +18,13 @@ use Rattle.gos_tool.specs.Calls.{read_source, read_build_file, compile_calls, li
 use Rattle.gos_tool.specs.objects.Checked.{IsSourceFault}
 use Rattle.gos_tool.specs.circuits.Linked.{RejectsLink}
 use Rattle.gos_tool.specs.netlists.Netlist.{IsNetFault}
+use Rattle.gos_tool.specs.netlists.Gates.{IsGatesFault}
 use Rattle.gos_tool.specs.simulate.Sim.{IsSimFault}
 use Rattle.gos_tool.specs.build.Headline.{Headline}
 use Rattle.gos_tool.specs.build.Paced.{HeadlineHolds}
 use Rattle.gos_tool.specs.demo.DemoFiles.{build_file, demo_files}
 use Rattle.gos_tool.specs.demo.Demo.{with_demo, with_files, names_of}
-use Rattle.gos_tool.specs.Command.{Command, Check, Compile, Link, Sim, Build, Demo, Tidy, Means}
+use Rattle.gos_tool.specs.Command.{Command, Check, Compile, Link, Sim, Build, Demo, Tidy, Gates, Means}
 use Rattle.gos_tool.proofs.WordLemmas.{levels_in, levels_back}
 use Rattle.gos_tool.specs.Causes.{IsOneOf, StopsFor}
 use Rattle.gos_tool.specs.Run.{Tells, kinds_of, IsDone, IsRejected, IsCutShort, KeepsOthers, CallsOf, EndsDone, EndsRejected, IsUnsaid, IsUntold}
@@ -53,7 +54,7 @@ with_one_file letter file =
 
 abbrev with_two_files : ℕ → Word → Word → Command
 with_two_files letter file made =
-    if nat_eq letter 109 then Compile file made else Tidy file made
+    if nat_eq letter 109 then Compile file made else (if nat_eq letter 100 then Tidy file made else Gates file made)
 
 abbrev read_back : List Word → Option Command
 read_back (verb ∷ file ∷ []) = Some (with_one_file (third verb) file)
@@ -69,6 +70,7 @@ is_read_back words (Sim net pulses trace) means = ap read_back means.0
 is_read_back words (Build own) means = ap read_back means.0
 is_read_back words (Demo levels) means = ap read_back means.0 ∙ ap (λ (n : ℕ). Some (Demo n)) (levels_back levels means.1.1)
 is_read_back words (Tidy net out) means = ap read_back means.0
+is_read_back words (Gates net out) means = ap read_back means.0
 
 -- words are one command at most
 pub same_meaning : (words : List Word) (c d : Command) → Means words c → Means words d → c ≡ d
@@ -198,7 +200,7 @@ link_rejected own old new (Err (stops.Rejected rejection)) kept why = (kept, why
 link_rejected own old new (Err stops.StoreFailed) kept why = tt
 link_rejected own old new (Err stops.NoMemory) kept why = tt
 
--- and of `tidy`
+-- and of `tidy` and `gates`
 pub tidy_rejected : (net out : Word) (old new : Option Files) (ended : Result Report Stop)
     → IfErr ended (λ stop. IfStopped stop (λ fault line. new ≡ old)) → IfErr ended (λ stop. IfStopped stop (λ fault line. fault.file ≡ net))
     → IfErr ended (λ stop. IfStopped stop (λ fault line. IfSome old (λ files. IsNetFault files net fault line)))
@@ -207,6 +209,15 @@ tidy_rejected net out old new (Ok report) kept file why = tt
 tidy_rejected net out old new (Err (stops.Rejected rejection)) kept file why = (kept, file, why)
 tidy_rejected net out old new (Err stops.StoreFailed) kept file why = tt
 tidy_rejected net out old new (Err stops.NoMemory) kept file why = tt
+
+pub gates_rejected : (net out : Word) (old new : Option Files) (ended : Result Report Stop)
+    → IfErr ended (λ stop. IfStopped stop (λ fault line. new ≡ old)) → IfErr ended (λ stop. IfStopped stop (λ fault line. fault.file ≡ net))
+    → IfErr ended (λ stop. IfStopped stop (λ fault line. IfSome old (λ files. IsGatesFault files net fault line)))
+    → IfErr ended (λ stop. IfStopped stop (IsRejected (Gates net out) old new))
+gates_rejected net out old new (Ok report) kept file why = tt
+gates_rejected net out old new (Err (stops.Rejected rejection)) kept file why = (kept, file, why)
+gates_rejected net out old new (Err stops.StoreFailed) kept file why = tt
+gates_rejected net out old new (Err stops.NoMemory) kept file why = tt
 
 -- where all calls were made, some were
 short_by_build : (first : List StoreCall) (files : Option Files) (own : Word) (rest : built.Build → List StoreCall) (old new : Calls)
@@ -223,6 +234,7 @@ short_of (Build own) files old new made = short_by_build [] files own build_call
 short_of (Demo levels) files old new made =
     short_by_build (write_calls (names_of (demo_files levels))) (with_files (demo_files levels) files) (build_file levels).name build_calls old new made
 short_of (Tidy net out) files old new made = all_made (rewrite_calls net out) old new made
+short_of (Gates net out) files old new made = all_made (rewrite_calls net out) old new made
 
 -- how far a command came is told by its status, where its line may be unsaid
 calls_at : (c : Command) (status : Status) (end : Ending) (files : Option Files) (old new : Calls) → status_ending status ≡ end → CallsOf c end files old new

@@ -3,6 +3,7 @@ use Rattle.std.specs.Prelude.{◌≡◌, ◌⊎◌, ℕ, List, [], ◌∷◌}
 use Rattle.gos_link.specs.declared.fault.LinkFault.{LinkFault}
 use Rattle.gos_link.specs.declared.fault.LinkFault.TheVariants as links
 use Rattle.gos_command.specs.declared.report.Counts.{Counts}
+use Rattle.gos_command.specs.declared.report.GateCounts.{GateCounts}
 use Rattle.gos_command.specs.declared.report.Report.{Report}
 use Rattle.gos_command.specs.declared.report.Report.TheVariants as reports
 use Rattle.gos_command.specs.declared.status.Cause.{Cause}
@@ -34,6 +35,7 @@ kind_of (causes.Link fault) = kind_of_link fault
 kind_of (causes.Net fault) = OfNetlist
 kind_of (causes.Refused fault) = OfNetlist
 kind_of (causes.Pulse fault) = OfPulses
+kind_of (causes.Gates fault) = OfNetlist
 
 -- the cause is of one of these kinds
 abbrev pub IsOneOf : List Kind → Cause → Type 0
@@ -46,7 +48,7 @@ StopsFor kinds (stops.Rejected rejection) = IsOneOf kinds rejection.fault.cause
 StopsFor kinds stops.StoreFailed = Unit {0}
 StopsFor kinds stops.NoMemory = Unit {0}
 
--- what a line tells: a weight, the numbers of a run, or both; how many cells, before and after
+-- what a line tells: a weight, the numbers of a run, or both; how many cells, before and after; the numbers of a circuit of gates
 abbrev pub TellsWeight : Report → Type 0
 TellsWeight report = (weight : ℕ) × (report ≡ reports.Weight weight)
 
@@ -58,3 +60,6 @@ TellsBoth report = (weight : ℕ) × (counts : Counts) × (report ≡ reports.Bu
 
 abbrev pub TellsCells : Report → Type 0
 TellsCells report = (before after : ℕ) × (report ≡ reports.Cells before after)
+
+abbrev pub TellsGates : Report → Type 0
+TellsGates report = (counts : GateCounts) × (report ≡ reports.Gates counts)

@@ -15,6 +15,7 @@ pub data Command : Type 0 where
   Build : (own : Word) → Command
   Demo : (levels : ℕ) → Command
   Tidy : (net out : Word) → Command
+  Gates : (net out : Word) → Command
 
 -- the words as their bytes
 abbrev pub texts : List (String Global) → List Word
@@ -32,6 +33,7 @@ Means words (Sim net pulses trace) =
 Means words (Build own) = (words ≡ codes "build" ∷ own ∷ []) × IsFileName own
 Means words (Demo levels) = (words ≡ codes "demo" ∷ decimal levels ∷ []) × IsLevelCount levels
 Means words (Tidy net out) = (words ≡ codes "tidy" ∷ net ∷ out ∷ []) × IsFileName net × IsFileName out × (out ≢ net)
+Means words (Gates net out) = (words ≡ codes "gates" ∷ net ∷ out ∷ []) × IsFileName net × IsFileName out × (out ≢ net)
 
 -- the words are no command
 abbrev pub MeanNothing : List Word → Type 0
@@ -41,4 +43,4 @@ MeanNothing words = (c : Command) → Means words c → ⊥
 abbrev pub usage_line : List ℕ
 usage_line =
     codes "usage: gos check SRC | compile SRC OBJ | link BUILD | sim NET PULSES TRACE | build BUILD | demo N"
-    ++ codes " | tidy NET OUT" ++ 10 ∷ []
+    ++ codes " | tidy NET OUT | gates NET OUT" ++ 10 ∷ []

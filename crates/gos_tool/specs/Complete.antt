@@ -9,8 +9,8 @@ use Rattle.gos_tool.specs.objects.Checked.{SaysModule}
 use Rattle.gos_tool.specs.circuits.Complete.{AreRightToLink}
 use Rattle.gos_tool.specs.simulate.Complete.{AreRightToRun}
 use Rattle.gos_tool.specs.build.Complete.{AreRightToBuild}
-use Rattle.gos_tool.specs.netlists.Complete.{IsRightToTidy}
-use Rattle.gos_tool.specs.Command.{Command, Check, Compile, Link, Sim, Build, Demo, Tidy}
+use Rattle.gos_tool.specs.netlists.Complete.{IsRightToTidy, IsRightToLower}
+use Rattle.gos_tool.specs.Command.{Command, Check, Compile, Link, Sim, Build, Demo, Tidy, Gates}
 use Rattle.gos_tool.specs.Run.{IsRejected}
 
 -- The files, as they are when the command begins, are right for it. A demo writes its own. Of the files that are left only the
@@ -23,6 +23,7 @@ AreRight (Sim net pulses trace) files new = AreRightToRun files net pulses
 AreRight (Build own) files new = AreRightToBuild files new own
 AreRight (Demo levels) files new = Unit {0}
 AreRight (Tidy net out) files new = IsRightToTidy (bytes_at files net)
+AreRight (Gates net out) files new = IsRightToLower (bytes_at files net)
 
 -- a command rejects no file where they are right
 abbrev pub RightIsNotRejected : Type 0

@@ -1,6 +1,6 @@
 -- How the tool's commands end.
 --
--- Read first: Command; Checked and Compiled of objects; Linked of circuits; Sim of simulate; Built of build; Demo of demo; Tidy of netlists; Lines
+-- Read first: Command; Checked and Compiled of objects; Linked of circuits; Sim of simulate; Built of build; Demo of demo; Tidy and Gates of netlists; Lines
 -- of gos_command. `old` and `new` are the files of the store before and after, `written` and `printed` the bytes of the sink.
 use Rattle.std.specs.Prelude.{◌≡◌, ◌⊎◌, ℕ, List, [], ◌∷◌, Option, None, IfSome}
 use Rattle.gos_outside.specs.Files.{Files, SameBut}
@@ -14,19 +14,20 @@ use Rattle.gos_command.specs.Ends.{IsTold}
 use Rattle.gos_command.specs.declared.report.Report.{Report}
 use Rattle.gos_command.specs.declared.status.Fault.{Fault}
 use Rattle.gos_tool.specs.Calls.{read_source, compile_calls, link_calls, sim_calls, build_calls, rewrite_calls, GoesByBuild}
-use Rattle.gos_tool.specs.Causes.{Kind, OfSource, OfObject, OfBuild, OfSize, OfNetlist, OfPulses, IsOneOf, TellsWeight, TellsRun, TellsBoth, TellsCells}
+use Rattle.gos_tool.specs.Causes.{Kind, OfSource, OfObject, OfBuild, OfSize, OfNetlist, OfPulses, IsOneOf, TellsWeight, TellsRun, TellsBoth, TellsCells, TellsGates}
 use Rattle.gos_tool.specs.objects.Checked.{IsChecked, IsSourceFault}
 use Rattle.gos_tool.specs.objects.Compiled.{IsCompiled, IsCompileCall}
 use Rattle.gos_tool.specs.circuits.Linked as linking
 use Rattle.gos_tool.specs.circuits.Linked.{IsLinkDone, RejectsLink, IsLinkCall, IsLinkCutShort}
 use Rattle.gos_tool.specs.netlists.Netlist.{IsNetFault}
 use Rattle.gos_tool.specs.netlists.Tidy.{IsTidyDone, IsTidyCall}
+use Rattle.gos_tool.specs.netlists.Gates.{AreGatesDone, IsGatesFault, IsGatesCall}
 use Rattle.gos_tool.specs.simulate.Sim.{IsSimDone, IsSimFault, IsSimCall}
 use Rattle.gos_tool.specs.build.Built as building
 use Rattle.gos_tool.specs.build.Built.{IsBuilt, RejectsBuild, IsBuildCall, IsBuildCutShort}
 use Rattle.gos_tool.specs.demo.Demo as showing
 use Rattle.gos_tool.specs.demo.Demo.{IsDemoDone, IsDemoCall, IsDemoCutShort, CallsOfDemo}
-use Rattle.gos_tool.specs.Command.{Command, Check, Compile, Link, Sim, Build, Demo, Tidy, Means}
+use Rattle.gos_tool.specs.Command.{Command, Check, Compile, Link, Sim, Build, Demo, Tidy, Gates, Means}
 
 -- what the command's line tells, where it is done
 abbrev pub Tells : Command → Report → Type 0
@@ -37,6 +38,7 @@ Tells (Sim net pulses trace) report = TellsRun report
 Tells (Build own) report = TellsBoth report
 Tells (Demo levels) report = TellsBoth report
 Tells (Tidy net out) report = TellsCells report
+Tells (Gates net out) report = TellsGates report
 
 -- The kinds of causes for which it may reject a file. `build` and `demo` read no object and no netlist, and what they compile is never
 -- too large.
@@ -48,6 +50,7 @@ kinds_of (Sim net pulses trace) = OfNetlist ∷ OfPulses ∷ []
 kinds_of (Build own) = OfSource ∷ OfBuild ∷ OfPulses ∷ []
 kinds_of (Demo levels) = OfSource ∷ OfBuild ∷ OfPulses ∷ []
 kinds_of (Tidy net out) = OfNetlist ∷ []
+kinds_of (Gates net out) = OfNetlist ∷ []
 
 -- all that the command is to do is done, with this report
 abbrev pub IsDone : Command → Option Files → Option Files → Report → Type 0
@@ -58,6 +61,7 @@ IsDone (Sim net pulses trace) old new report = IsSimDone old new net pulses trac
 IsDone (Build own) old new report = IfSome old (λ files. IsBuilt files new own report)
 IsDone (Demo levels) old new report = IfSome old (λ files. IsDemoDone files new levels report)
 IsDone (Tidy net out) old new report = IsTidyDone old new net out report
+IsDone (Gates net out) old new report = AreGatesDone old new net out report
 
 -- The command rejects a file for this fault, with this line: the first that it finds. `demo` rejects none where the store tells its
 -- files.
@@ -72,6 +76,8 @@ IsRejected (Build own) old new fault line = IfSome old (λ files. RejectsBuild f
 IsRejected (Demo levels) old new fault line = old ≡ None
 IsRejected (Tidy net out) old new fault line =
     (new ≡ old) × (fault.file ≡ net) × IfSome old (λ files. IsNetFault files net fault line)
+IsRejected (Gates net out) old new fault line =
+    (new ≡ old) × (fault.file ≡ net) × IfSome old (λ files. IsGatesFault files net fault line)
 
 -- The command makes this call of the store, after all that is judged before it was right, and this is what it wrote before.
 abbrev pub IsCall : Command → Option Files → Option Files → LastFault → Type 0
@@ -82,6 +88,7 @@ IsCall (Sim net pulses trace) old new fault = IsSimCall old new net pulses trace
 IsCall (Build own) old new fault = IfSome old (λ files. IsBuildCall files new own fault)
 IsCall (Demo levels) old new fault = IfSome old (λ files. IsDemoCall files new levels fault)
 IsCall (Tidy net out) old new fault = IsTidyCall old new net out fault
+IsCall (Gates net out) old new fault = IsGatesCall old new net out fault
 
 -- What the command leaves where memory runs out before its end: the first of its files, each as where all is done.
 abbrev pub IsCutShort : Command → Option Files → Option Files → Type 0
@@ -92,6 +99,7 @@ IsCutShort (Sim net pulses trace) old new = new ≡ old
 IsCutShort (Build own) old new = IfSome old (λ files. IsBuildCutShort files new own)
 IsCutShort (Demo levels) old new = IfSome old (λ files. IsDemoCutShort files new levels)
 IsCutShort (Tidy net out) old new = new ≡ old
+IsCutShort (Gates net out) old new = new ≡ old
 
 -- all files but those that the command writes are as they were
 abbrev pub KeepsOthers : Command → Option Files → Option Files → Type 0
@@ -102,6 +110,7 @@ KeepsOthers (Sim net pulses trace) old new = SameBut trace old new
 KeepsOthers (Build own) old new = building.KeepsUnnamed own old new
 KeepsOthers (Demo levels) old new = OthersSame (showing.written_by levels) old new
 KeepsOthers (Tidy net out) old new = SameBut out old new
+KeepsOthers (Gates net out) old new = SameBut out old new
 
 -- The calls of the store that the command makes, up to where it ends.
 abbrev pub CallsOf : Command → Ending → Option Files → Calls → Calls → Type 0
@@ -112,6 +121,7 @@ CallsOf (Sim net pulses trace) ending files old new = AreMade ending (sim_calls 
 CallsOf (Build own) ending files old new = GoesByBuild ending [] files own build_calls old new
 CallsOf (Demo levels) ending files old new = CallsOfDemo ending files levels old new
 CallsOf (Tidy net out) ending files old new = AreMade ending (rewrite_calls net out) old new
+CallsOf (Gates net out) ending files old new = AreMade ending (rewrite_calls net out) old new
 
 -- the words are a command, which is done, and the line that tells so was printed
 pub record EndsDone (words : List Word) (old new : Option Files) (written printed : Option (List ℕ)) : Type 0 where

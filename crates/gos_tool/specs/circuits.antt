@@ -6,4 +6,5 @@ pub mod Objects
 pub mod Plans
 pub mod Linked
 pub mod Complete
+pub mod Repeated
 pub mod inner

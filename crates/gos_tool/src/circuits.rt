@@ -6,7 +6,7 @@
 // specs/circuits/Objects and specs/circuits/Linked, and with which programs a circuit keeps pace in specs/circuits/Paced.
 
 pub use build_file::build_in;
-pub use laws::{every_choice, paced_circuits, right_links, small_circuits};
+pub use laws::{every_choice, one_link, paced_circuits, right_links, small_circuits};
 pub use laying::circuit;
 pub use linking::link_build;
 pub use objects::plans_in;

@@ -11,7 +11,7 @@ ghost use Rattle.gos_tool.specs.Run.{IsDone, IsRejected, IsCall, IsCutShort, Kee
 use crate::build::build;
 use crate::circuits::link_build;
 use crate::demo::{demo, levels_of};
-use crate::netlists::tidy_net;
+use crate::netlists::{gates_of, tidy_net};
 use crate::objects::{check_source, compile_source};
 use crate::simulate::sim;
 use gos_command::{Report, Stop};
@@ -50,6 +50,11 @@ pub enum Command<'a> {
     },
     /// `tidy NET OUT`.
     Tidy {
+        net: &'a [u8],
+        out: &'a [u8],
+    },
+    /// `gates NET OUT`.
+    Gates {
         net: &'a [u8],
         out: &'a [u8],
     },
@@ -107,6 +112,12 @@ fn two_files_of<'a>(verb: &[u8], read: &'a [u8], written: &'a [u8]) -> Option<Co
     }
     if verb == b"tidy".as_slice() {
         return Some(Command::Tidy {
+            net: read,
+            out: written,
+        });
+    }
+    if verb == b"gates".as_slice() {
+        return Some(Command::Gates {
             net: read,
             out: written,
         });
@@ -178,5 +189,6 @@ pub fn run_command<S: Store>(
         Command::Build { own } => build(alloc, own, store),
         Command::Demo { levels } => demo(alloc, levels, store),
         Command::Tidy { net, out } => tidy_net(alloc, net, out, store),
+        Command::Gates { net, out } => gates_of(alloc, net, out, store),
     }
 }

@@ -1,8 +1,6 @@
-// Worked builds, and files that are refused; and a store and a sink that fail.
-use crate::running::{Left, events, held, ran, words_of};
+// Worked builds, and files that are refused.
+use crate::running::{Left, ran};
 use crate::texts::{ONE, SKIP_OBJECT, TWO};
-use gos_outside::{MemorySink, MemoryStore, SureSink, SureStore};
-use gos_tool::run;
 use std::alloc::{AllocError, Global};
 use std::test::Fail;
 
@@ -274,64 +272,7 @@ fn build_file_is_told_by_its_line(rt: HostRuntime) -> Result<(), Fail> {
 fn no_words_are_answered_with_the_usage(rt: HostRuntime) -> Result<(), Fail> {
     let left = ran(rt.alloc(), &[], &[])?;
     let usage =
-        b"usage: gos check SRC | compile SRC OBJ | link BUILD | sim NET PULSES TRACE | build BUILD | demo N | tidy NET OUT\n";
+        b"usage: gos check SRC | compile SRC OBJ | link BUILD | sim NET PULSES TRACE | build BUILD | demo N | tidy NET OUT | gates NET OUT\n";
     assert!(rt; left.ended(1, usage));
-    Ok(())
-}
-
-// How much is left of the second object where this call fails: nothing, the first half where its write does, or all.
-fn object_length(call: u64) -> usize {
-    if call < 5 {
-        0
-    } else if call == 5 {
-        SKIP_OBJECT.len() / 2
-    } else {
-        SKIP_OBJECT.len()
-    }
-}
-
-// Whether a build of two instances, of whose calls of the store this one fails, ends and leaves what it should.
-fn ends_at(alloc: Global, call: u64) -> Result<bool, AllocError> {
-    let files: [(&[u8], &[u8]); 4] = [
-        (b"b.txt", TWO),
-        (b"main.gos", b"import e : com export e : com"),
-        (b"k.gos", b"export skip : com"),
-        (b"in.pls", RUN),
-    ];
-    let words = words_of(alloc, &BUILD)?;
-    let mut store = MemoryStore::new(held(alloc, &files)?, vec![in alloc; call]?);
-    let mut out = SureSink::new(alloc);
-    let code = run(alloc, words.as_slice(), &mut store, &mut out).code();
-    let wanted = if call < 10 { 3 } else { 0 };
-    let told = code == wanted && out.bytes().is_empty() == (call < 10);
-    let object = SKIP_OBJECT.get(..object_length(call)).unwrap_or(b"");
-    let kept = store.get(b"k.obj").unwrap_or(b"") == object;
-    Ok(told && kept && store.get(b"out.v").is_some() == (call > 6))
-}
-
-// A build of two instances makes nine calls of the store: it reads the build file, reads a source and writes its object
-// twice, writes netlist and Verilog text, reads the pulse file, and writes the trace.
-#[test]
-fn each_failing_call_is_told(rt: HostRuntime) -> Result<(), Fail> {
-    for call in 1..11u64 {
-        assert!(rt; ends_at(rt.alloc(), call)?);
-    }
-    Ok(())
-}
-
-// The status and the trace of a build whose line can't be printed.
-fn built_with_no_line(alloc: Global) -> Result<(u8, Vec<u8>), AllocError> {
-    let files: [(&[u8], &[u8]); 3] = [(b"b.txt", ONE), (b"main.gos", SOURCE), (b"in.pls", PULSES)];
-    let words = words_of(alloc, &BUILD)?;
-    let mut store = SureStore::new(held(alloc, &files)?);
-    let mut broken = MemorySink::new(alloc, vec![in alloc; 1]?);
-    let code = run(alloc, words.as_slice(), &mut store, &mut broken).code();
-    Ok((code, events(alloc, store.get(b"out.trc").unwrap_or(b""))?))
-}
-
-#[test]
-fn failing_line_is_told(rt: HostRuntime) -> Result<(), Fail> {
-    let (code, trace) = built_with_no_line(rt.alloc())?;
-    assert!(rt; code == 4 && trace.as_slice() == EVENTS);
     Ok(())
 }

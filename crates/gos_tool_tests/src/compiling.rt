@@ -1,7 +1,6 @@
-// Sources that are compiled, some that are refused, and stores that fail.
+// Sources that are compiled, and some that are refused.
 use crate::running::{Held, held, told_line, told_weight};
-use gos_command::{Report, Stop};
-use gos_outside::{MemoryStore, SureStore};
+use gos_outside::SureStore;
 use gos_tool::objects::{check_source, compile_source};
 use std::alloc::{AllocError, Global};
 use std::test::Fail;
@@ -91,21 +90,5 @@ fn faults_are_told_and_nothing_is_written(rt: HostRuntime) -> Result<(), Fail> {
     for (source, line) in FAULTS.iter() {
         assert!(rt; is_refused(rt.alloc(), source.as_bytes(), line.as_bytes())?);
     }
-    Ok(())
-}
-
-// How a compilation ends, of whose calls of the store this one fails.
-fn ended_at(alloc: Global, call: u64) -> Result<Result<Report, Stop>, AllocError> {
-    let mut store = MemoryStore::new(with_source(alloc, SEQUENCE)?, vec![in alloc; call]?);
-    Ok(compile_source(alloc, b"a.gos", b"a.obj", &mut store))
-}
-
-// A compilation reads a source and writes its object.
-#[test]
-fn failing_calls_end_the_command(rt: HostRuntime) -> Result<(), Fail> {
-    for call in 1..3u64 {
-        assert!(rt; matches!(ended_at(rt.alloc(), call)?, Err(Stop::StoreFailed)));
-    }
-    assert!(rt; told_weight(ended_at(rt.alloc(), 3)?) == Some(17));
     Ok(())
 }

@@ -1,8 +1,7 @@
 // Builds that are linked, and some that are refused.
 use crate::running::{Held, held, told_line, told_weight};
 use crate::texts::{ONE, SKIP_OBJECT, TWO};
-use gos_command::Stop;
-use gos_outside::{MemoryStore, SureStore};
+use gos_outside::SureStore;
 use gos_tool::circuits::link_build;
 use std::alloc::{AllocError, Global};
 use std::test::Fail;
@@ -67,26 +66,6 @@ const FAULTS: [(&[u8], &[u8], &[u8]); 5] = [
 fn faults_are_told_in_their_order(rt: HostRuntime) -> Result<(), Fail> {
     for (build, object, line) in FAULTS.iter() {
         assert!(rt; is_refused(rt.alloc(), build, object, line)?);
-    }
-    Ok(())
-}
-
-// Whether linking, of whose calls of the store this one fails, ends and leaves what it should.
-fn fails_at(alloc: Global, call: u64) -> Result<bool, AllocError> {
-    let files = with_build(alloc, ONE, &[(b"main.obj".as_slice(), SKIP_OBJECT)])?;
-    let mut store = MemoryStore::new(files, vec![in alloc; call]?);
-    let failed = matches!(
-        link_build(alloc, b"b.txt", &mut store),
-        Err(Stop::StoreFailed)
-    );
-    let written = store.get(b"out.net").is_some() == (call > 2);
-    Ok(failed && written)
-}
-
-#[test]
-fn failing_calls_end_the_command(rt: HostRuntime) -> Result<(), Fail> {
-    for call in 1..5u64 {
-        assert!(rt; fails_at(rt.alloc(), call)?);
     }
     Ok(())
 }

@@ -1,4 +1,4 @@
-// Worked rows of the command `tidy`: netlists, and what is written and printed.
+// Worked rows of the commands `tidy` and `gates`: netlists, and what is written and printed.
 use crate::running::{Left, ran};
 use std::alloc::{AllocError, Global};
 use std::test::Fail;
@@ -22,35 +22,66 @@ const NONE: &str = "gosnet 1\ncells 4\ninput 1\n";
 const RING: &str =
     "gosnet 1\ncells 4\ninput 1\nor 1 0 2\nand 1 1 0\nreg 1 1\nports 1\ngive main com 0 3\nend\n";
 
-// Runs `tidy` over this netlist.
-fn tidied(alloc: Global, net: &[u8]) -> Result<Left, AllocError> {
+// Runs a command from this netlist to another file.
+fn rewritten(alloc: Global, verb: &str, net: &[u8]) -> Result<Left, AllocError> {
     let files: [(&[u8], &[u8]); 1] = [(b"a.net", net)];
-    ran(alloc, &["tidy", "a.net", "out"], &files)
+    ran(alloc, &[verb, "a.net", "out"], &files)
 }
 
-// Netlists, and the line and the file that is written.
-const DONE: [(&str, &str, &str); 3] = [
-    (LATCH, "ok cells 4 to 3\n", LATCH_TIDY),
-    (LATCH_TIDY, "ok cells 3 to 3\n", LATCH_TIDY),
-    (FOLDED, "ok cells 6 to 2\n", FOLDED_TIDY),
+// Commands and netlists, and the status, the line and the file that is written.
+const DONE: [(&str, &str, &str, &str); 5] = [
+    ("tidy", LATCH, "ok cells 4 to 3\n", LATCH_TIDY),
+    ("tidy", LATCH_TIDY, "ok cells 3 to 3\n", LATCH_TIDY),
+    ("tidy", FOLDED, "ok cells 6 to 2\n", FOLDED_TIDY),
+    (
+        "gates",
+        FOLDED_TIDY,
+        "ok inputs 1 latches 1 outputs 1 ands 0\n",
+        "aag 2 1 1 1 0\n2\n4 2\n4\n",
+    ),
+    (
+        "gates",
+        LATCH,
+        "ok inputs 1 latches 2 outputs 1 ands 1\n",
+        "aag 4 1 2 1 1\n2\n4 9\n6 9\n6\n8 5 3\n",
+    ),
 ];
 
 #[test]
-fn netlists_are_made_tidy(rt: HostRuntime) -> Result<(), Fail> {
-    for (net, line, made) in DONE.iter() {
-        let left = tidied(rt.alloc(), net.as_bytes())?;
+fn netlists_are_rewritten(rt: HostRuntime) -> Result<(), Fail> {
+    for (verb, net, line, made) in DONE.iter() {
+        let left = rewritten(rt.alloc(), verb, net.as_bytes())?;
         assert!(rt; left.ended(0, line.as_bytes()) && left.holds(b"out", made.as_bytes()));
     }
     Ok(())
 }
 
 #[test]
-fn wrong_netlists_are_not_made_tidy(rt: HostRuntime) -> Result<(), Fail> {
-    let none = tidied(rt.alloc(), NONE.as_bytes())?;
-    assert!(rt; none.ended(2, b"a.net: N1 at 25\n") && !none.has(b"out"));
-    let ring = tidied(rt.alloc(), RING.as_bytes())?;
-    assert!(rt; ring.ended(2, b"a.net: K1 cycle 1 2\n") && !ring.has(b"out"));
-    let same = ran(rt.alloc(), &["tidy", "a.net", "a.net"], &[])?;
-    assert!(rt; same.has_code(1));
+fn wrong_netlists_are_not_rewritten(rt: HostRuntime) -> Result<(), Fail> {
+    for verb in ["tidy", "gates"] {
+        let none = rewritten(rt.alloc(), verb, NONE.as_bytes())?;
+        assert!(rt; none.ended(2, b"a.net: N1 at 25\n") && !none.has(b"out"));
+        let ring = rewritten(rt.alloc(), verb, RING.as_bytes())?;
+        assert!(rt; ring.ended(2, b"a.net: K1 cycle 1 2\n") && !ring.has(b"out"));
+        let same = ran(rt.alloc(), &[verb, "a.net", "a.net"], &[])?;
+        assert!(rt; same.has_code(1));
+    }
+    Ok(())
+}
+
+// A netlist of 2,000,099 bits: this many cells of 32 bits with two pins each.
+fn large(alloc: Global) -> Result<Vec<u8>, AllocError> {
+    let mut text = b"gosnet 1\ncells 20837\ninput 1\nconst 32 1\n".to_vec(alloc)?;
+    for _ in 0..20834 {
+        text.extend_from_slice(b"or 32 1 1\n")?;
+    }
+    text.extend_from_slice(b"reg 1 0\nports 1\ngive main com 0 20836\nend\n")?;
+    Ok(text)
+}
+
+#[test]
+fn netlist_that_is_too_large_is_not_lowered(rt: HostRuntime) -> Result<(), Fail> {
+    let left = rewritten(rt.alloc(), "gates", large(rt.alloc())?.as_slice())?;
+    assert!(rt; left.ended(2, b"a.net: G1 bits 2000099\n") && !left.has(b"out"));
     Ok(())
 }

@@ -25,7 +25,7 @@ fn object_is_linked(rt: HostRuntime) -> Result<(), Fail> {
 }
 
 // Objects that are rejected, and the line that each is told.
-const OBJECTS: [(&str, &str); 7] = [
+const OBJECTS: [(&str, &str); 10] = [
     (
         "gosobj 1\nweight 5\nimports 0\nresult com\nparts 1\nskip\njoints 1\nr.0 p0.0\nend\n\n",
         "main.obj: O1 at 74\n",
@@ -41,6 +41,18 @@ const OBJECTS: [(&str, &str); 7] = [
     (
         "gosobj 1\nweight 5\nimports 65\nresult com\nparts 1\nskip\njoints 1\nr.0 p0.0\nend\n",
         "main.obj: O3 limit at 26\n",
+    ),
+    (
+        "gosobj 1\nweight 5\nimports 4294967296\nresult com\nparts 1\nskip\njoints 1\nr.0 p0.0\nend\n",
+        "main.obj: O3 limit at 26\n",
+    ),
+    (
+        "gosobj 1\nweight 5\nimports 0\nresult com\nparts 16385\nskip\njoints 1\nr.0 p0.0\nend\n",
+        "main.obj: O3 limit at 45\n",
+    ),
+    (
+        "gosobj 1\nweight 5\nimports 0\nresult com\nparts 1\nskip\njoints 65537\nr.0 p0.0\nend\n",
+        "main.obj: O3 limit at 59\n",
     ),
     (
         "gosobj 1\nweight 5\nimports 0\nresult com\nparts 1\nskip\njoints 1\nr.0 p1.0\nend\n",

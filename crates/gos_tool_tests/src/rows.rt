@@ -187,7 +187,7 @@ fn netlists_are_run(rt: HostRuntime) -> Result<(), Fail> {
 }
 
 // Netlists that are rejected, and the line that each is told.
-const NETLISTS: [(&str, &str); 11] = [
+const NETLISTS: [(&str, &str); 12] = [
     (
         "gosnet 1\ncells 4\ninput 1\nor 1 0 2\nand 1 1 0\nreg 1 1\nports 1\ngive main com 0 3\nend\n",
         "a.net: K1 cycle 1 2\n",
@@ -195,6 +195,10 @@ const NETLISTS: [(&str, &str); 11] = [
     (
         "gosnet 1\ncells 5000001\ninput 1\nor 1 0 2\nreg 1 1\nreg 1 1\nports 1\ngive main com 0 3\nend\n",
         "a.net: N2 limit at 15\n",
+    ),
+    (
+        "gosnet 1\ncells 4\ninput 1\nor 1 0 2\nreg 1 1\nreg 1 1\nports 65537\ngive main com 0 3\nend\n",
+        "a.net: N2 limit at 56\n",
     ),
     (
         "gosnet 1\ncells 4\ninput 1\nconst 1 2\nreg 1 1\nreg 1 1\nports 1\ngive main com 0 3\nend\n",

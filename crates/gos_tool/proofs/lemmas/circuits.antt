@@ -9,3 +9,4 @@ pub mod WidthLemmas
 pub mod PacedLemmas
 pub mod SameBuildLemmas
 pub mod CompleteLemmas
+pub mod RepeatedLemmas

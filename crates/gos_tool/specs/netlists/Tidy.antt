@@ -1,28 +1,24 @@
 -- The command `tidy NET OUT`.
 --
--- Read first: Netlist; Alike, Tidy and Laws of gos_tidy.
+-- Read first: Netlist; Tidy and Alike of gos_tidy.
 use Rattle.std.specs.Prelude.{◌≡◌, ◌⊎◌, length, Option, IfSome}
 use Rattle.gos_outside.specs.Files.{Files, SameBut, bytes_at, with_file}
 use Rattle.gos_outside.specs.Faults.{LastFault, ReadFault, WriteFault}
 use Rattle.gos_lex.specs.Lines.{Word}
 use Rattle.gos_netlist.specs.Nets.{Netlist}
 use Rattle.gos_netlist.specs.NetText.{text_of}
-use Rattle.gos_tidy.specs.Ends.{all_outputs}
-use Rattle.gos_tidy.specs.Tidy.{AllLead}
-use Rattle.gos_tidy.specs.Laws.{IsStill}
+use Rattle.gos_tidy.specs.Alike.{IsTidied}
 use Rattle.gos_command.specs.declared.report.Report.{Report}
 use Rattle.gos_command.specs.declared.report.Report.TheVariants as reports
 use Rattle.gos_tool.specs.netlists.Netlist.{SaysNet}
 
--- All is done: the netlist file says an accepted netlist, and the text of one is written that is alike to it, has no more cells, and
--- of which each cell leads to an output. The line tells how many
+-- All is done: the netlist file says an accepted netlist, and the text of this one, made tidy, is written. The line tells how many
 -- cells both have.
 pub record IsTidyDone (old new : Option Files) (net out : Word) (report : Report) : Type 0 where
   pub circuit : Netlist
   pub tidied : Netlist
   pub says : IfSome old (λ files. SaysNet (bytes_at files net) circuit)
-  pub still : IsStill circuit tidied
-  pub lead : AllLead tidied.cells (all_outputs tidied.ports)
+  pub tidy : IsTidied circuit tidied
   pub wrote : new ≡ with_file out (text_of tidied) old
   pub tells : report ≡ reports.Cells (length circuit.cells) (length tidied.cells)
 

@@ -2,13 +2,15 @@
 
 ghost use Rattle.gos_tool.specs.circuits.Complete.{LinkIsNotRejected, EmptyIsNoBuild};
 ghost use Rattle.gos_tool.specs.circuits.Paced.{EveryChoiceKeepsPace, EveryChoiceOfModule, LinkedCircuitsKeepPace, ModuleCircuitsKeepPace, OpenCircuitsKeepPace};
+ghost use Rattle.gos_tool.specs.circuits.Repeated.{CircuitIsOne, LinkMakesOne};
 ghost use Rattle.gos_tool.specs.circuits.SmallPaced.{CallHasPorts, FunctionHasNone};
 
-use gos_expand::cycles_are_lists;
+use gos_expand::{cycles_are_lists, one_layout};
 use gos_link::one_build;
 use gos_linked::laws::keeping::keeps_pace;
 use gos_linked::laws::linked::linked_modules;
 use gos_supplies::laws::ports::ports;
+use gos_verilog::one_text;
 
 /// The netlist of a slim plan keeps pace with each program that the plan realises, whichever directions of joints keep their
 /// registers, where it has no combinational cycle: so does what `expand_with` gives for any choice. So it is with the program
@@ -39,6 +41,18 @@ pub fn small_circuits()
     ensures call { CallHasPorts }
     ensures function { FunctionHasNone }
 {}
+
+/// A plan has one circuit. Where `link` is done twice with the same files, it leaves the same files and tells the same.
+pub fn one_link()
+    ensures circuit { CircuitIsOne }
+    ensures link { LinkMakesOne }
+{
+    one_build();
+    gos_plan::one_answer();
+    gos_link::one_answer();
+    one_layout();
+    one_text();
+}
 
 /// Files that are right for `link` are not rejected. An empty build file is not right.
 pub fn right_links()

@@ -3,7 +3,7 @@ use Rattle.std.specs.Prelude.{IfErr}
 use Rattle.gos_command.specs.Ends.{IfStopped}
 use Rattle.gos_tool.specs.Run.{IsRejected, IsCall}
 use Rattle.gos_tool.specs.inner.CommandSeen.{meant}
-use Rattle.gos_tool.proofs.EndLemmas.{sim_rejected, compile_rejected, link_rejected, tidy_rejected}
+use Rattle.gos_tool.proofs.EndLemmas.{sim_rejected, compile_rejected, link_rejected, tidy_rejected, gates_rejected}
 use Rattle.gos_tool.proofs.command.run_command.Goals as goal
 
 pub returns-in-Sim-clause-failed_call : goal.returns-in-Sim-clause-failed_call
@@ -49,3 +49,14 @@ returns-in-Tidy-clause-rejected g c =
     let new = g.S.Store.contents c.tidy_net.new.store in
     subst (λ command. IfErr c.tidy_net.result (λ stop. IfStopped stop (IsRejected (meant command) old new))) (sym c.in-Tidy.is)
     (tidy_rejected c.in-Tidy.net.now c.in-Tidy.out.now old new c.tidy_net.result c.tidy_net.ensures.rejected_files c.tidy_net.ensures.file c.tidy_net.ensures.rejected)
+
+pub returns-in-Gates-clause-failed_call : goal.returns-in-Gates-clause-failed_call
+returns-in-Gates-clause-failed_call g c = λ failed.
+    subst (λ command. IsCall (meant command) (g.S.Store.contents c.args.store.now) (g.S.Store.contents c.gates_of.new.store) (g.S.Store.last_fault c.gates_of.new.store)) (sym c.in-Gates.is) (c.gates_of.ensures.failed_call failed)
+
+pub returns-in-Gates-clause-rejected : goal.returns-in-Gates-clause-rejected
+returns-in-Gates-clause-rejected g c =
+    let old = g.S.Store.contents c.args.store.now in
+    let new = g.S.Store.contents c.gates_of.new.store in
+    subst (λ command. IfErr c.gates_of.result (λ stop. IfStopped stop (IsRejected (meant command) old new))) (sym c.in-Gates.is)
+    (gates_rejected c.in-Gates.net.now c.in-Gates.out.now old new c.gates_of.result c.gates_of.ensures.rejected_files c.gates_of.ensures.file c.gates_of.ensures.rejected)

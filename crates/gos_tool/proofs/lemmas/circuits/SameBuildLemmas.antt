@@ -22,7 +22,7 @@ abbrev name_in : Option RootLine → Word
 name_in None = []
 name_in (Some root) = root.name
 
-abbrev file_in : Option Word → Word
+abbrev pub file_in : Option Word → Word
 file_in None = []
 file_in (Some file) = file
 
@@ -112,6 +112,7 @@ module _ (b c : Build) (same : whole b ≡ whole c) where
         binds = binds_too ps linked.services None linked.binds;
         light = light_too ps linked.services linked.root linked.light;
         joining = linked.joining;
+        order = linked.order;
         small = linked.small;
         few = linked.few;
       }

@@ -141,3 +141,4 @@ accepted_is_not_rejected one_way no_tokens no_module one_tree exactly files name
     by (causes.Net why) real has = has
     by (causes.Refused why) real has = has
     by (causes.Pulse why) real has = has
+    by (causes.Gates why) real has = has
