@@ -8,8 +8,11 @@ Nth part of it:
 
     parts       `link` of an object of 16,384 parts `not`, each asking the next one
     shares      `link` of an object of 996 parts `share` of 64 handshakes: one more would pass the limit of a plan's size
+    joined      `link` of such parts in a chain, 948 of them, in which each has all its 64 requests served by the next one
     ports       `sim` of a netlist with 65,536 ports
     chain       `sim` of a netlist of 5,000,000 cells, each but the first and the last turning the one before
+    gates       `gates` of a netlist of 2,000,000 bits, of a chain of adders: one bit more would be too many
+    bits        `gates` of a netlist of 5,000,000 cells, which is refused for its bits
     entries     `sim` under 100,000 `at` entries, the last cycle first, of 100,000
     cycles      `sim` of 1,000,000 cycles, in each tenth of which something happens
     names       `build` of 42 modules in a chain, whose names, imports and files have 255 bytes: no more fit into a build file
@@ -43,6 +46,7 @@ STACKS = [128 << n for n in range(7)]
 RUN = b'next 0 main.run\n'
 LATCH = 'gosnet 1\ncells 4\ninput 1\nor 1 0 2\nreg 1 1\nreg 1 1\nports 1\ngive main com 0 3\nend\n'
 REST = ['net o.net', 'verilog o.v', 'pulses i.pls', 'trace o.trc']
+SHARE = 'share ' + 'pair com ' * 63 + 'com'
 # Words of the language, which are no names.
 WORDS = ('do', 'if', 'in')
 HEAD = ['extreme', 'of', 'file', 'time', 'growth', 'memory', 'stack']
@@ -69,7 +73,11 @@ def parts(folder, many):
 
 
 def shares(folder, many):
-    return linked(folder, ['share ' + 'pair com ' * 63 + 'com'] * many, [])
+    return linked(folder, [SHARE] * many, [])
+
+
+def joined(folder, many):
+    return linked(folder, [SHARE] * many, [f'p{n}.{h} p{n + 1}.{64 + h}' for n in range(many - 1) for h in range(64)])
 
 
 def simulated(folder, net, pulses):
@@ -88,6 +96,18 @@ def chain(folder, many):
     cells = ['input 1', *[f'not 1 {n}' for n in range(many - 2)], f'reg 1 {many - 2}']
     net = lines('gosnet 1', f'cells {many}', *cells, 'ports 1', f'give main com 0 {many - 1}', 'end')
     return simulated(folder, net, 'cycles 10\nnext 0 main.run\n')
+
+
+def lowered(folder, many):
+    adders = (many - 35) // 96
+    cells = ['input 1', 'reg 1 0', 'const 32 3', *[f'add 32 {n} {n}' for n in range(2, adders + 2)]]
+    put(folder, a__net=lines('gosnet 1', f'cells {adders + 3}', *cells, 'ports 1', 'give main com 0 1', 'end'))
+    return ['gates', 'a.net', 'o.aag'], 'a.net'
+
+
+def not_lowered(folder, many):
+    chain(folder, many)
+    return ['gates', 'a.net', 'o.aag'], 'a.net'
 
 
 def entries(folder, many):
@@ -157,8 +177,10 @@ def in_a_chain(gos, folder, many):
 
 # How each extreme is made, how large it is, its unit, and the status of the command.
 EXTREMES = {
-    'parts': (parts, 16_384, 'parts', 0), 'shares': (shares, 996, 'Shares', 0), 'ports': (ports, 65_536, 'ports', 0),
-    'chain': (chain, 5_000_000, 'cells', 0), 'entries': (entries, 100_000, 'entries', 0), 'cycles': (cycles, 1_000_000, 'cycles', 0),
+    'parts': (parts, 16_384, 'parts', 0), 'shares': (shares, 996, 'Shares', 0),
+    'joined': (joined, 948, 'Shares', 0), 'ports': (ports, 65_536, 'ports', 0),
+    'chain': (chain, 5_000_000, 'cells', 0), 'gates': (lowered, 2_000_000, 'bits', 0), 'bits': (not_lowered, 5_000_000, 'cells', 2),
+    'entries': (entries, 100_000, 'entries', 0), 'cycles': (cycles, 1_000_000, 'cycles', 0),
     'names': (names, 42, 'modules', 0), 'open': (open_brackets, 1_024, 'brackets', 2), 'heavy': (heavy, 819, 'commands', 0),
     'instances': (instances, 3_000, 'instances', 2), 'linked': (in_a_chain, 2_400, 'instances', 0),
     'netlist': (long_netlist, 268_435_457, 'bytes', 2), 'pulses': (long_pulses, 16_777_216, 'bytes', 0),

@@ -13,17 +13,17 @@ PARTS = {
     'WANT': rf'(?:any exp|any var|com or exp|{TYPE})', 'PORT.EVENT': rf'{NAME}\.[a-z]+', '..': rf'{N}(?: {N})*',
 }
 # The faults that a command may tell, by their letters.
-LETTERS = {b'check': 'LSC', b'compile': 'LSC', b'link': 'OB', b'sim': 'NKP', b'build': 'LSCBP', b'demo': '', b'tidy': 'NK'}
+LETTERS = {b'check': 'LSC', b'compile': 'LSC', b'link': 'OB', b'sim': 'NKP', b'build': 'LSCBP', b'demo': '', b'tidy': 'NK', b'gates': 'NKG'}
 OK = {
     b'check': rf'ok weight {N}', b'compile': rf'ok weight {N}', b'link': rf'ok weight {N}', b'sim': rf'ok cycles {N} pulses {N} unused {N}',
     b'build': rf'ok weight {N} cycles {N} pulses {N} unused {N}', b'demo': rf'ok weight {N} cycles {N} pulses {N} unused {N}',
-    b'tidy': rf'ok cells {N} to {N}',
+    b'tidy': rf'ok cells {N} to {N}', b'gates': rf'ok inputs {N} latches {N} outputs {N} ands {N}',
 }
 
 
 def faults():
     """The form of each fault's line, by its name."""
-    rows = re.findall(r'^\| `([LSCOBNKP][0-9]+) ([^`]*)` \| `\w+::', FORMATS.read_text(), re.M)
+    rows = re.findall(r'^\| `([LSCOBNKPG][0-9]+) ([^`]*)` \| `\w+::', FORMATS.read_text(), re.M)
     forms = {}
     for name, words in rows:
         words = words.replace('NET NET ..', '..').split(' ')
@@ -32,7 +32,7 @@ def faults():
 
 
 def usage():
-    return re.search(r'^    (usage: .*)$', FORMATS.read_text(), re.M)[1]
+    return ''.join(re.search(r'^    (usage: .*)\n    ( \| .*)$', FORMATS.read_text(), re.M).groups())
 
 
 FAULTS, USAGE = faults(), usage()

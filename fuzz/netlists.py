@@ -104,13 +104,13 @@ def ran(net, pulse_file):
     return command('sim a.net in.pls out.trc', {'a.net': net, 'in.pls': pulse_file})
 
 
-def tidied(net, pulse_file):
-    """A case of `tidy`; the pulse file lies beside it."""
-    return command('tidy a.net out.net', {'a.net': net, 'in.pls': pulse_file})
+def rewritten(choose, net, pulse_file):
+    """A case of `tidy` or `gates`; the pulse file lies beside it."""
+    return command(choose.choice(('tidy', 'gates')) + ' a.net out.net', {'a.net': net, 'in.pls': pulse_file})
 
 
 def case(choose):
-    """A case of `sim` or `tidy` whose netlist may be changed."""
+    """A case of `sim`, `tidy` or `gates` whose netlist may be changed."""
     made = circuit(choose, choose.choice((0, 1, 4, 10, 30, 200)), choose.choice((0, 1, 2, 5)))
     how = choose.randrange(4)
     if how == 0:
@@ -118,7 +118,7 @@ def case(choose):
     elif how == 1:
         made.shuffled()
     net, pulse_file = changes.often_changed(choose, made.text(), 0.6), pulses.text(choose, events_of(made), 60)
-    return ran(net, pulse_file) if choose.randrange(2) else tidied(net, pulse_file)
+    return ran(net, pulse_file) if choose.randrange(2) else rewritten(choose, net, pulse_file)
 
 
 def case_of_pulses(choose):

@@ -10,7 +10,7 @@ from dataclasses import dataclass, field
 
 import forms
 
-COMMANDS = {b'check': 1, b'compile': 2, b'link': 1, b'sim': 3, b'build': 1, b'demo': 1, b'tidy': 2}
+COMMANDS = {b'check': 1, b'compile': 2, b'link': 1, b'sim': 3, b'build': 1, b'demo': 1, b'tidy': 2, b'gates': 2}
 FILE = re.compile(rb'[A-Za-z0-9_./-]{1,255}')
 PULSE = re.compile(rf'({forms.N}) {forms.NAME}\.[a-z]+(?: {forms.N})?'.encode())
 FIRST_NUMBER = re.compile(r'[0-9]+')
@@ -58,7 +58,7 @@ def is_command(words):
         return False
     if words[0] == b'demo':
         return re.fullmatch(rb'[1-9]|1[012]', words[1]) is not None
-    written = words[-1:] if words[0] in (b'compile', b'sim', b'tidy') else []
+    written = words[-1:] if words[0] in (b'compile', b'sim', b'tidy', b'gates') else []
     return all(FILE.fullmatch(word) for word in words[1:]) and not any(word in words[1:-1] for word in written)
 
 
@@ -76,7 +76,7 @@ def plan_of(words, files):
         return Plan(names[:1], names[1:], names[1:], names[:1])
     if command == 'sim':
         return Plan(names[:2], names[2:])
-    if command == 'tidy':
+    if command in ('tidy', 'gates'):
         return Plan(names[:1], names[1:])
     said = [line.split() for line in files.get(names[0], b'').decode('latin-1').split('\n')]
     said = [line for line in said if line and not line[0].startswith('#')]
@@ -116,14 +116,16 @@ def place_is_there(fault, said, text):
     return True
 
 
-def wrong_line_of_fault(command, run, files):
-    """What is wrong with the line of a rejected file; and the file and the fault."""
+def wrong_line_of_fault(command, run, files, full):
+    """What is wrong with the line of a rejected file; and the file and the fault. A full device is read as zeros without end."""
     file, _, said = run.line.partition(': ')
     file, fault = plain(file), said.split(' ')[0]
     if not run.line.endswith('\n') or fault not in forms.FAULTS or not forms.FAULTS[fault].fullmatch(said[:-1]):
         return 'the line has no form', file, fault
     if fault[0] not in forms.LETTERS[command]:
         return 'the fault is none of this command', file, fault
+    if file in full:
+        return None, file, fault
     if file not in files:
         return 'the file is not there', file, fault
     if not place_is_there(fault, said[:-1], files[file]):
@@ -154,9 +156,14 @@ def wrong_circuit(net, verilog, most):
     return 'the netlist has more cells than its weight allows' if cells > most else None
 
 
-def wrong_tidy(made, told):
-    """What is wrong with a netlist that was made tidy."""
-    if made.split(b'\n')[1] != b'cells %d' % told['to'] or told['to'] > told['cells']:
+def wrong_rewriting(command, made, told):
+    """What is wrong with a netlist that was made tidy, or with the text of gates."""
+    lines = made.split(b'\n')
+    if command == b'gates':
+        numbers = [told[name] for name in ('inputs', 'latches', 'outputs', 'ands')]
+        head = b'aag %d %d %d %d %d' % (numbers[0] + numbers[1] + numbers[3], *numbers)
+        return None if lines[0] == head and len(lines) == sum(numbers) + 2 else 'the gates have other numbers than the line'
+    if lines[1] != b'cells %d' % told['to'] or told['to'] > told['cells']:
         return 'the tidy netlist has other numbers than the line'
     return None
 
@@ -170,8 +177,8 @@ def wrong_result(command, plan, run):
         wrong = wrong_trace(run.files[plan.writes[-1] if plan.writes else 'demo.trc'], told['cycles'], told['pulses'])
         if wrong:
             return wrong
-    if command == b'tidy':
-        return wrong_tidy(run.files[plan.writes[0]], told)
+    if command in (b'tidy', b'gates'):
+        return wrong_rewriting(command, run.files[plan.writes[0]], told)
     if command == b'compile' and run.files[plan.writes[0]].split(b'\n')[1] != b'weight %d' % told['weight']:
         return 'the object has another weight than the line'
     if command in (b'link', b'build'):
@@ -194,7 +201,7 @@ def has_cause(plan, before, folders, full):
     """Whether a file of the plan can't be read or written: it isn't there, is a folder, has none, or is on a full device."""
     unreadable = [name for name in plan.reads if before.get(name) is None]
     unwritable = [name for name in plan.writes
-                  if name in folders or name in full or name.endswith('/') or posixpath.dirname(name) not in ('', *folders)]
+                  if name in ('.', *folders, *full) or name.endswith('/') or posixpath.dirname(name) not in ('', *folders)]
     return bool(unreadable or unwritable)
 
 
@@ -215,7 +222,7 @@ def judge(words, before, run, folders, full):
     if run.status in (2, 3) and not plan.is_told_apart():
         return None
     if run.status == 2:
-        wrong, file, fault = wrong_line_of_fault(words[0], run, before)
+        wrong, file, fault = wrong_line_of_fault(words[0], run, before, full)
         whole = 0 if wrong else written_before(words[0], plan, file, fault)
         return wrong or ('the file is none of the command' if whole < 0 else wrong_files(plan, before, run, whole, 0))
     if run.status == 0:

@@ -25,10 +25,10 @@ COMPILED = command('compile a.gos a.obj', {'a.gos': b'export skip : com'})
 SIMULATED = command('sim a.net in.pls out.trc', {'a.net': NET, 'in.pls': lines('cycles 3', 'next 0 main.run')})
 
 
-def judged(case, status, line, **new):
+def judged(case, status, line, full=(), **new):
     """What is wrong with a run that ends so and leaves these new files. In their names `_` stands for the dot."""
     files = {**case.files, **{name.replace('_', '.'): data for name, data in new.items()}}
-    return oracle.judge(case.words, case.files, oracle.Run(status, line, files, 0, 0), [], [])
+    return oracle.judge(case.words, case.files, oracle.Run(status, line, files, 0, 0), [], full)
 
 
 class Oracle(unittest.TestCase):
@@ -46,6 +46,8 @@ class Oracle(unittest.TestCase):
         self.assertIsNone(judged(SIMULATED, 2, 'a.net: K1 cycle 0 1\n'))
         self.assertIsNone(judged(command('check a b', {}), 1, forms.USAGE + '\n'))
         self.assertIsNone(judged(command('check a', {}), 3, ''))
+        self.assertIsNone(judged(command('compile a.gos .', COMPILED.files), 3, ''))
+        self.assertIsNone(judged(command('check a.gos', {}), 2, 'a.gos: L1 length 65537\n', full=['a.gos']))
 
     def test_ends(self):
         self.is_wrong(COMPILED, -11, '', 'signal 11')

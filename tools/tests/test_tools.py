@@ -593,7 +593,7 @@ class Script(Standin):
         formats = (TOP / "docs/FORMATS.md").read_text()
         self.assertEqual(ran.stdout.split("\n")[0], re.search(r"^    (usage: gos .*)$", formats, re.M)[1])
         commands = re.findall(r"^\| `([a-z]+ [A-Z ]+)` \|", formats.split("\n## ")[1], re.M)
-        self.assertEqual(len(commands), 7)
+        self.assertEqual(len(commands), 8)
         for command in commands:
             self.assertRegex(ran.stdout, rf"(?m)^  {command}  ")
         for status in (*range(6), 70, 127):

@@ -1,0 +1,2 @@
+cycles 9
+next 0 main.run
