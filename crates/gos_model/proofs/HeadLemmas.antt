@@ -2,11 +2,11 @@
 use Rattle.std.specs.Prelude.{◌≡◌, ◌⊎◌}
 use Rattle.std.proofs.Common.{arith, sym, ap, subst, inl, inr, ◌∙◌}
 use Rattle.gos_types.specs.Types.{Type'}
-use Rattle.gos_model.specs.Terms.{Term, Lam, App, Both, Fst, Snd}
+use Rattle.gos_model.specs.Terms.{Name, Term, Lam, App, Both, Fst, Snd, Wait}
 use Rattle.gos_model.specs.Stores.{Store}
 use Rattle.gos_model.specs.Typing.{Imports}
 use Rattle.gos_model.specs.Substitution.{instantiate}
-use Rattle.gos_model.specs.Reach.{Rewrites, Under, Unfolds}
+use Rattle.gos_model.specs.Reach.{Rel, InIndex, Rewrites, Under, Unfolds}
 use Rattle.gos_model.specs.Moves.{Config, Idle, Running, Act, Computing, Showing, ActsTo}
 
 -- a head, which may stand below applications and projections; there is none below a function or a pair
@@ -46,6 +46,19 @@ lower_one (Snd m) t u (inr (m', f, h)) (inl (n, e)) = absurd (not_in_both m n u 
 lower_one (Snd m) t u (inr (m', e, h)) (inr (m'', f, g)) = e ∙ (ap (λ (x : Term). Snd x) (lower_one m m' m'' h g) ∙ sym f)
 lower_one m t u (inl h) k = absurd h
 lower_one m t u (inr h) k = absurd h
+
+-- nor in the access of a port that waits for its index
+not_in_wait : (m : Term) (x : Name) (t : Term) → m ≡ Wait x 0 → Lower m t → ⊥
+not_in_wait m x t is h = none (subst (λ (y : Term). Lower y t) is h)
+  where
+    none : Lower (Wait x 0) t → ⊥
+    none (inl g) = g
+    none (inr g) = g
+
+pub lower_no_index : (R : Rel) (m t u : Term) → Lower m t → InIndex R m u → ⊥
+lower_no_index R (App h (Both k n)) t u (inl (a, b, em, et)) ((x, e), n', f, rest) = let bad : Lam a b ≡ Wait x 0 = sym em ∙ e in cc bad
+lower_no_index R (App h (Both k n)) t u (inr (m', f, lower)) ((x, e), n', g, rest) = not_in_wait h x m' e lower
+lower_no_index R m t u lower h = absurd h
 
 -- a term that unfolds in one way, and does nothing else
 pub record IsReady (m n : Term) : Type 0 where

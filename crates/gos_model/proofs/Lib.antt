@@ -8,3 +8,6 @@ pub mod StoreLemmas
 pub mod NumberLemmas
 pub mod HeadLemmas
 pub mod MoveLemmas
+pub mod ArrayPortLemmas
+pub mod AccessMapLemmas
+mod AccessLemmas

@@ -6,11 +6,13 @@ pub mod Stores
 pub mod Reach
 pub mod Paths
 pub mod Steps
+pub mod Accesses
 pub mod Labels
 pub mod Moves
 pub mod Linking
 pub mod Sources
 pub mod Protocol
+pub mod ArrayPorts
 pub mod SmallPrograms
 pub mod SmallModules
 pub mod Laws

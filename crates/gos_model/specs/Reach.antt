@@ -4,25 +4,38 @@
 -- all else stays. A computation step, an output, an input and an unfolding are each such a lifting.
 use Rattle.std.specs.Prelude.{◌≡◌, ◌⊎◌}
 use Rattle.gos_types.specs.Types.{Type'}
-use Rattle.gos_model.specs.Terms.{Term, Lam, App, Both, Fst, Snd, Seq, Par, If, Assign, Deref, Not, Bin, Scope, Held, Put}
+use Rattle.gos_model.specs.Terms.{Name, Term, Lam, App, Both, Fst, Snd, Seq, Par, If, Assign, Deref, Not, Bin, Scope, Wait, Held, Put}
 use Rattle.gos_model.specs.Substitution.{instantiate}
 
 -- how a term may become another
 abbrev pub Rel : Type 1
 Rel = Term → Term → Type 0
 
--- R changes a reached place that is not the whole term
-abbrev pub Below : Rel → Rel
-Below R (Seq m n) t = (m' : Term) × (t ≡ Seq m' n) × (R m m' ⊎ Below R m m')
-Below R (Par m n) t =
-    ((m' : Term) × (t ≡ Par m' n) × (R m m' ⊎ Below R m m')) ⊎ ((n' : Term) × (t ≡ Par m n') × (R n n' ⊎ Below R n n'))
-Below R (If m n p) t = (m' : Term) × (t ≡ If m' n p) × (R m m' ⊎ Below R m m')
-Below R (Bin op m n) t = (m' : Term) × (t ≡ Bin op m' n) × (R m m' ⊎ Below R m m')
-Below R (Held k op n) t = (n' : Term) × (t ≡ Held k op n') × (R n n' ⊎ Below R n n')
-Below R (Not m) t = (m' : Term) × (t ≡ Not m') × (R m m' ⊎ Below R m m')
-Below R (Assign m n) t = (n' : Term) × (t ≡ Assign m n') × (R n n' ⊎ Below R n n')
-Below R (Scope l m) t = (m' : Term) × (t ≡ Scope l m') × (R m m' ⊎ Below R m m')
-Below R m t = ⊥
+-- The function part of an access whose index is reached: a port of an array that has asked for it. No source has such a
+-- part, and with ground imports no running term does. Its argument is a pair: the index as it was written, and as it is now.
+abbrev pub IsArrayHead : Term → Type 0
+IsArrayHead h = (x : Name) × (h ≡ Wait x 0)
+
+abbrev mutual
+  -- R changes a reached place that is not the whole term
+  pub Below : Rel → Rel
+  Below R (Seq m n) t = (m' : Term) × (t ≡ Seq m' n) × (R m m' ⊎ Below R m m')
+  Below R (Par m n) t =
+      ((m' : Term) × (t ≡ Par m' n) × (R m m' ⊎ Below R m m')) ⊎ ((n' : Term) × (t ≡ Par m n') × (R n n' ⊎ Below R n n'))
+  Below R (If m n p) t = (m' : Term) × (t ≡ If m' n p) × (R m m' ⊎ Below R m m')
+  Below R (Bin op m n) t = (m' : Term) × (t ≡ Bin op m' n) × (R m m' ⊎ Below R m m')
+  Below R (Held k op n) t = (n' : Term) × (t ≡ Held k op n') × (R n n' ⊎ Below R n n')
+  Below R (Not m) t = (m' : Term) × (t ≡ Not m') × (R m m' ⊎ Below R m m')
+  Below R (Assign m n) t = (n' : Term) × (t ≡ Assign m n') × (R n n' ⊎ Below R n n')
+  Below R (Scope l m) t = (m' : Term) × (t ≡ Scope l m') × (R m m' ⊎ Below R m m')
+  Below R (Deref m) t = (m' : Term) × (t ≡ Deref m') × InIndex R m m'
+  Below R (Put m k) t = (m' : Term) × (t ≡ Put m' k) × InIndex R m m'
+  Below R m t = ⊥
+
+  -- R changes a place in the index of an access, as it is now
+  pub InIndex : Rel → Rel
+  InIndex R (App h (Both n m)) t = IsArrayHead h × (m' : Term) × (t ≡ App h (Both n m')) × (R m m' ⊎ Below R m m')
+  InIndex R m t = ⊥
 
 -- R changes one reached place, and nothing else changes
 abbrev pub Reached : Rel → Rel

@@ -8,6 +8,7 @@ ghost use Rattle.gos_model.specs.Laws.{
   WritesStore,
   AbsentIsNotWritten,
 };
+ghost use Rattle.gos_model.specs.ArrayPorts.{GroundPortsKeep, GroundLabels, AccessesRun, IndexWaits, IndexIsNotFirst, ArrayAnswers};
 ghost use Rattle.gos_model.specs.SmallModules.{Weights, Types, Shared, Links, LinkWeighs};
 ghost use Rattle.gos_model.specs.SmallPrograms.{
   SeqRuns,
@@ -65,4 +66,20 @@ pub fn reached_places()
 pub fn writes()
     ensures left { WritesStore }
     ensures absent { AbsentIsNotWritten }
+{}
+
+/// At ports that are ground, inputs that keep the protocol of ports keep the protocol, and the other way round; and each label there is
+/// an event of its port's type, so none of an access of an array.
+pub fn ground_ports()
+    ensures keep { GroundPortsKeep }
+    ensures labels { GroundLabels }
+{}
+
+/// An access of an array puts its request, then the index when the array asks for it, and waits for the answer. The array
+/// answers what was asked for, and not while it waits for the index.
+pub fn accesses()
+    ensures run { AccessesRun }
+    ensures index { IndexWaits }
+    ensures order { IndexIsNotFirst }
+    ensures answers { ArrayAnswers }
 {}

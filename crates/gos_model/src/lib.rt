@@ -9,4 +9,7 @@
 
 mod laws;
 
-pub use laws::{reached_places, sequences, small_modules, small_traces, types_of_terms, writes};
+pub use laws::{
+    accesses, ground_ports, reached_places, sequences, small_modules, small_traces, types_of_terms,
+    writes,
+};

@@ -2,6 +2,7 @@ mod TurnLemmas
 pub mod WithinLemmas
 pub mod CountLemmas
 pub mod SideLemmas
+pub mod PortLemmas
 pub mod BoolLemmas
 pub mod RoleLemmas
 pub mod ListLemmas

@@ -1,7 +1,7 @@
 -- Types: the view that every other specification has of them.
 --
 -- A `Ty` of the program has boxes. `Type'` is the same type without them, and `type_of` leads from one to the other.
-use Rattle.std.specs.Prelude.{ℕ, ◌+◌}
+use Rattle.std.specs.Prelude.{ℕ, ◌+◌, ◌⊎◌}
 use Rattle.gos_types.specs.declared.types.Ty.{Ty}
 use Rattle.gos_types.specs.declared.types.Ty.TheVariants.{Com as AtCom, Exp as AtExp, Var as AtVar, Pair', Fun'}
 
@@ -36,6 +36,15 @@ IsGround (Exp w) = Unit {0}
 IsGround (Var w) = Unit {0}
 IsGround (Pair a b) = ⊥
 IsGround (Fun a b) = ⊥
+
+-- the type of an array: of a variable, behind an index
+abbrev pub IsArray : Type' → Type 0
+IsArray (Fun (Exp i) (Var w)) = Unit {0}
+IsArray t = ⊥
+
+-- what may be a port, and so has events: a ground type, or that of an array
+abbrev pub IsPort : Type' → Type 0
+IsPort t = IsGround t ⊎ IsArray t
 
 -- a command or an expression: what a sequence, a choice or a block may be
 abbrev pub IsDone : Type' → Type 0

@@ -16,7 +16,7 @@ mod types;
 mod widths;
 
 pub use fault::NoMemory;
-pub use laws::{greatest_numbers, sides, turning_twice};
+pub use laws::{greatest_numbers, ports, sides, turning_twice};
 pub use shakes::{Handshake, Role, Step, count, handshakes};
 pub use text::print_ty;
 pub use types::{Ty, copy, is_ground, same};
