@@ -8,7 +8,7 @@ use Rattle.gos_model.specs.Reach.{Rel, Reached, Below, Rewrites, Under, Aside, U
 use Rattle.gos_model.specs.Steps.{Computes, IsValue, Steps}
 use Rattle.gos_model.specs.Labels.{Label, Emits, Takes, is_output, given}
 use Rattle.gos_model.specs.Moves.{Program, Config, Idle, Running, Computing, Showing, Acts, Unfoldings, Move, Stalled}
-use Rattle.gos_programs.specs.contexts.Contexts.{Context, SeqFirst, ParLeft, ParRight, IfTest, BinLeft, HeldRight, NotOf, AssignRight, ScopeBody, plug, IsAlone}
+use Rattle.gos_programs.specs.contexts.Contexts.{Context, SeqFirst, ParLeft, ParRight, IfTest, BinLeft, HeldRight, NotOf, AssignRight, ScopeBody, ReadIndex, WriteIndex, plug, IsAlone}
 use Rattle.gos_programs.specs.contexts.Backward.{UnfoldingsWithin, UnfoldingsOfBoth, StepsWithin, StepsOfBoth, LabelsWithin, LabelsOfBoth, WaitsWithin, BothWait, RightWaits, LeftWaits}
 
 -- the three ways in which a head is changed
@@ -30,8 +30,10 @@ below_within R (HeldRight k op) m v alone h = h
 below_within R NotOf m v alone h = h
 below_within R (AssignRight n) m v alone h = h
 below_within R (ScopeBody l) m v alone h = h
+below_within R (ReadIndex x n) m v alone h = absurd alone
+below_within R (WriteIndex x n k) m v alone h = absurd alone
 
--- no context is a head, and none shows a label
+-- no context is a head, and none but an index shows a label
 no_head : (c : Context) (m v : Term) → OneHead (plug c m) v → ⊥
 no_head (SeqFirst n) m v h = grind (arith, h)
 no_head (ParLeft n) m v h = grind (arith, h)
@@ -42,17 +44,25 @@ no_head (HeldRight k op) m v h = grind (arith, h)
 no_head NotOf m v h = grind (arith, h)
 no_head (AssignRight n) m v h = grind (arith, h)
 no_head (ScopeBody l) m v h = grind (arith, h)
+no_head (ReadIndex x n) m v h = grind (arith, h)
+no_head (WriteIndex x n k) m v h = grind (arith, h)
 
-no_label : (i : Imports) (o : Label) (c : Context) (m v : Term) → OneLabel i o (plug c m) v → ⊥
-no_label i o (SeqFirst n) m v h = grind (arith, h)
-no_label i o (ParLeft n) m v h = grind (arith, h)
-no_label i o (ParRight n) m v h = grind (arith, h)
-no_label i o (IfTest n p) m v h = grind (arith, h)
-no_label i o (BinLeft op n) m v h = grind (arith, h)
-no_label i o (HeldRight k op) m v h = grind (arith, h)
-no_label i o NotOf m v h = grind (arith, h)
-no_label i o (AssignRight n) m v h = grind (arith, h)
-no_label i o (ScopeBody l) m v h = grind (arith, h)
+no_label : (i : Imports) (o : Label) (c : Context) (m v : Term) → IsAlone c → OneLabel i o (plug c m) v → ⊥
+no_label i o (SeqFirst n) m v alone h = grind (arith, h)
+no_label i o (ParLeft n) m v alone h = absurd alone
+no_label i o (ParRight n) m v alone h = absurd alone
+no_label i o (IfTest n p) m v alone h = grind (arith, h)
+no_label i o (BinLeft op n) m v alone h = grind (arith, h)
+no_label i o (HeldRight k op) m v alone h = grind (arith, h)
+no_label i o NotOf m v alone h = grind (arith, h)
+no_label i o (AssignRight n) m v alone h = grind (arith, h)
+no_label i o (ScopeBody l) m v alone h = grind (arith, h)
+no_label i o (ReadIndex x n) m v alone h = absurd alone
+no_label i o (WriteIndex x n k) m v alone h = absurd alone
+
+no_label_of_both : (i : Imports) (o : Label) (l r v : Term) → OneLabel i o (Par l r) v → ⊥
+no_label_of_both i o l r v (inl h) = h
+no_label_of_both i o l r v (inr h) = h
 
 -- one unfolding
 unfolds_within : (c : Context) (m v : Term) → IsAlone c → Unfolds (plug c m) v → (t : Term) × (v ≡ plug c t) × Unfolds m t
@@ -99,6 +109,8 @@ row_of (HeldRight k op) s s' m v alone (j, w, e, h, g) = inr (j, w, e)
 row_of NotOf s s' m v alone (k, w, e, h, g) = inr (k, w, e)
 row_of (AssignRight n) s s' m v alone (k, w, e, h, g) = inr (k, w, e)
 row_of (ScopeBody l) s s' m v alone h = h.0
+row_of (ReadIndex x n) s s' m v alone h = absurd alone
+row_of (WriteIndex x n k) s s' m v alone h = absurd alone
 
 pub steps_within : StepsWithin
 steps_within c s s' m v alone (inl h) = inr (h, row_of c s s' m v alone h)
@@ -109,11 +121,11 @@ steps_of_both s s' l r v (inl h) = inr h
 steps_of_both s s' l r v (inr h) = inl h
 
 pub labels_within : LabelsWithin
-labels_within i o c s s' m v alone (inl h, e) = absurd (no_label i o c m v h)
+labels_within i o c s s' m v alone (inl h, e) = absurd (no_label i o c m v alone h)
 labels_within i o c s s' m v alone (inr h, e) = let b = below_within (OneLabel i o) c m v alone h in (b.0, b.1, (b.2, e))
 
 pub labels_of_both : LabelsOfBoth
-labels_of_both i o s s' l r v (inl h, e) = absurd (no_label i o (ParLeft r) l v h)
+labels_of_both i o s s' l r v (inl h, e) = absurd (no_label_of_both i o l r v h)
 labels_of_both i o s s' l r v (inr (inl (t, g, h)), e) = inl (t, g, (h, e))
 labels_of_both i o s s' l r v (inr (inr (t, g, h)), e) = inr (t, g, (h, e))
 
@@ -161,6 +173,8 @@ no_value (HeldRight k op) m h = grind (arith, h)
 no_value NotOf m h = grind (arith, h)
 no_value (AssignRight n) m h = grind (arith, h)
 no_value (ScopeBody l) m h = grind (arith, h)
+no_value (ReadIndex x n) m h = grind (arith, h)
+no_value (WriteIndex x n k) m h = grind (arith, h)
 
 stuck_within : (i : Imports) (s : Store) (c : Context) (m : Term) → IsAlone c → (IsValue m → ⊥) → IsStuck i s m → IsStuck i s (plug c m)
 stuck_within i s c m alone none stuck = (silent, shown)

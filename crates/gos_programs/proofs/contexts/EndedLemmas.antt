@@ -66,6 +66,8 @@ frame_below R (Held k op n) t (n', e, h) = subst IsFrame (sym e) tt
 frame_below R (Not m) t (m', e, h) = subst IsFrame (sym e) tt
 frame_below R (Assign m n) t (n', e, h) = subst IsFrame (sym e) tt
 frame_below R (Scope l m) t (m', e, h) = subst IsFrame (sym e) tt
+frame_below R (Deref m) t (m', e, h) = subst IsFrame (sym e) tt
+frame_below R (Put m k) t (m', e, h) = subst IsFrame (sym e) tt
 frame_below R m t h = absurd h
 
 frame_head : (m t : Term) → OneHead m t → IsTopHead m ⊎ IsFrame t

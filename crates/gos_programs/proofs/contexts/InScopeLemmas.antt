@@ -10,7 +10,8 @@ use Rattle.gos_model.specs.Reach.{Rel, Rewrites, Under, Aside}
 use Rattle.gos_model.specs.Steps.{Computes, IsValue}
 use Rattle.gos_model.specs.Labels.{Label, IsAnswer}
 use Rattle.gos_model.specs.Moves.{Act, Computing, Showing, Acts, Unfoldings}
-use Rattle.gos_programs.specs.contexts.Contexts.{Context, SeqFirst, ParLeft, ParRight, IfTest, BinLeft, HeldRight, NotOf, AssignRight, ScopeBody, plug}
+use Rattle.gos_model.proofs.AccessMapLemmas.{puts_keep, reads_keep, writes_keep}
+use Rattle.gos_programs.specs.contexts.Contexts.{Context, SeqFirst, ParLeft, ParRight, IfTest, BinLeft, HeldRight, NotOf, AssignRight, ScopeBody, ReadIndex, WriteIndex, plug}
 use Rattle.gos_programs.specs.contexts.Standing.{Has, InScope}
 use Rattle.gos_programs.proofs.contexts.BackwardLemmas.{OneHead, OneLabel}
 use Rattle.gos_programs.proofs.contexts.ReachedLemmas.{reached_lifted}
@@ -138,6 +139,8 @@ stays_in (HeldRight n op) a b q ls h = q ls h
 stays_in NotOf a b q ls h = q ls h
 stays_in (AssignRight n) a b q ls (h, k) = (h, q ls k)
 stays_in (ScopeBody l) a b q ls h = q (l ∷ ls) h
+stays_in (ReadIndex x n) a b q ls (w, (h, k)) = (w, (h, q ls k))
+stays_in (WriteIndex x n j) a b q ls (w, (h, k)) = (w, (h, q ls k))
 
 scoped_head : (m t : Term) → OneHead m t → Stays m t
 scoped_head m t (inl (inl h)) ls s = scoped_rewrite ls m t h s
@@ -154,9 +157,17 @@ scoped_answer o n k t h ls = absurd h
 scoped_label : (i : Imports) (o : Label) (a b : Term) → OneLabel i o a b → Stays a b
 scoped_label i o (Import x) b (inl (inl (h, e, et))) ls k = subst (InScope ls) (sym et) tt
 scoped_label i o (Import x) b (inl (inr (w, h, e, et))) ls k = subst (InScope ls) (sym et) tt
-scoped_label i o (Deref m) b (inl (x, w, em, h, e, et)) ls k = subst (InScope ls) (sym et) tt
-scoped_label i o (Put m n) b (inl (x, w, em, h, e, et)) ls k = subst (InScope ls) (sym et) tt
+scoped_label i o (Deref m) b (inl (inl (x, w, em, h, e, et))) ls k = subst (InScope ls) (sym et) tt
+scoped_label i o (Put m n) b (inl (inl (x, w, em, h, e, et))) ls k = subst (InScope ls) (sym et) tt
 scoped_label i o (Wait x n) b (inr (p, e, h)) ls k = scoped_answer (import_type i x) n o.value b h ls
+scoped_label i o (Deref m) b (inl (inr (x, p, h))) ls k =
+    puts_keep i (InScope ls) (λ (u : Term). Deref u) x (record { index = λ h n q. q.1; left = λ m n q. q.0; right = λ m n q. q.1; app = λ h n q r. (q, r); both = λ m n q r. (q, r); access = λ m q. q; value = λ k w. tt; skip = tt; wait = λ c w s array. tt }) 2 0 o.event o.value m b h k
+scoped_label i o (Deref m) b (inr (x, p, h)) ls k =
+    reads_keep i (InScope ls) (λ (u : Term). Deref u) x (record { index = λ h n q. q.1; left = λ m n q. q.0; right = λ m n q. q.1; app = λ h n q r. (q, r); both = λ m n q r. (q, r); access = λ m q. q; value = λ k w. tt; skip = tt; wait = λ c w s array. tt }) o.event o.value m b h k
+scoped_label i o (Put m n) b (inl (inr (x, p, h))) ls k =
+    puts_keep i (InScope ls) (λ (u : Term). Put u n) x (record { index = λ h n q. q.1; left = λ m n q. q.0; right = λ m n q. q.1; app = λ h n q r. (q, r); both = λ m n q r. (q, r); access = λ m q. q; value = λ k w. tt; skip = tt; wait = λ c w s array. tt }) 4 n o.event o.value m b h k
+scoped_label i o (Put m n) b (inr (x, p, h)) ls k =
+    writes_keep i (InScope ls) (λ (u : Term). Put u n) x (record { index = λ h n q. q.1; left = λ m n q. q.0; right = λ m n q. q.1; app = λ h n q r. (q, r); both = λ m n q r. (q, r); access = λ m q. q; value = λ k w. tt; skip = tt; wait = λ c w s array. tt }) o.event o.value m b h k
 scoped_label i o a b (inl h) ls k = absurd h
 scoped_label i o a b (inr h) ls k = absurd h
 

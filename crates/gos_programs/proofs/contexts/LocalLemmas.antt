@@ -1,15 +1,17 @@
 -- A term does with a location for an import what it does with the import.
+use Rattle.gos_model.specs.Accesses.{IsArrayImport}
 use Rattle.std.specs.Prelude.{◌≡◌, ℕ, zero, suc, Bool, true, false, [], ◌∷◌, Option, Some}
 use Rattle.std.proofs.Common.{arith, refl, sym, ap, subst, inl, inr, ◌∙◌}
-use Rattle.gos_types.specs.Types.{Type', Com, Exp, Var}
-use Rattle.gos_model.specs.Terms.{Name, Term, Import, Seq, Par, If, Assign, Deref, Not, Bin, Loc, Scope, Wait, Held, Put}
+use Rattle.gos_types.specs.Types.{Type', Com, Exp, Var, Fun}
+use Rattle.gos_model.specs.Terms.{Name, Term, Import, Seq, Par, If, Assign, Deref, Not, Bin, Loc, Scope, Wait, Held, Put, App, Both}
 use Rattle.gos_model.specs.Typing.{Imports, import_type}
 use Rattle.gos_model.specs.Stores.{Store, entry_at, store_put}
 use Rattle.gos_model.specs.Reach.{Rel}
 use Rattle.gos_model.specs.Steps.{Computes, Steps}
 use Rattle.gos_model.specs.Labels.{Label, Taken, taken, IsAnswer}
 use Rattle.gos_model.specs.Moves.{Act, Computing, Showing, Acts, Unfoldings}
-use Rattle.gos_programs.specs.contexts.Contexts.{Context, SeqFirst, ParLeft, ParRight, IfTest, BinLeft, HeldRight, NotOf, AssignRight, ScopeBody, plug}
+use Rattle.gos_model.proofs.AccessMapLemmas.{GoesInto, puts_mapped, reads_mapped, writes_mapped}
+use Rattle.gos_programs.specs.contexts.Contexts.{Context, SeqFirst, ParLeft, ParRight, IfTest, BinLeft, HeldRight, NotOf, AssignRight, ScopeBody, ReadIndex, WriteIndex, plug}
 use Rattle.gos_programs.specs.contexts.Renaming.{beside}
 use Rattle.gos_programs.proofs.contexts.BackwardLemmas.{OneLabel}
 use Rattle.gos_programs.proofs.contexts.ReachedLemmas.{reached_lifted}
@@ -38,6 +40,22 @@ other_of : (y x : Name) (o : Label) (e k : ℕ) → (o.port ≡ Taken y → ⊥)
 other_of y x o e k apart is =
     name_cases x y (λ same t. absurd (apart (ap (λ (v : Label). v.port) is ∙ ap Taken same))) (λ f. f)
 
+other_port : (y x : Name) (o : Label) → (o.port ≡ Taken y → ⊥) → o.port ≡ Taken x → bytes_eq x y ≡ false
+other_port y x o apart p = name_cases x y (λ same t. absurd (apart (p ∙ ap Taken same))) (λ g. g)
+
+goes_placed : (r : ℕ → ℕ) (y : Name) (z : ℕ) (x : Name) (f : Term → Term) → bytes_eq x y ≡ false
+    → ((m : Term) → placed r y z (f m) ≡ f (placed r y z m)) → GoesInto (placed r y z) f x
+goes_placed r y z x f other under =
+    record {
+      app = λ h n. refl;
+      both = λ m n. refl;
+      access = under;
+      skip = refl;
+      literal = λ k w. refl;
+      import = import_placed r y z x other;
+      wait = λ s. waits_placed r y z x s other;
+    }
+
 label_placed : (r : ℕ → ℕ) (y : Name) (z : ℕ) (i j : Imports) → HasOthers y i j → (o : Label) → (o.port ≡ Taken y → ⊥) → (a b : Term)
     → OneLabel i o a b → OneLabel j o (placed r y z a) (placed r y z b)
 label_placed r y z i j others o apart (Import x) b (inl (inl (h, e, et))) =
@@ -48,12 +66,12 @@ label_placed r y z i j others o apart (Import x) b (inl (inr (w, h, e, et))) =
     let f = other_of y x o 0 0 apart e in
     subst (λ (v : Term). OneLabel j o v (placed r y z b)) (sym (import_placed r y z x f))
     (inl (inr (w, others x f ∙ h, e, ap (placed r y z) et ∙ waits_placed r y z x 1 f)))
-label_placed r y z i j others o apart (Deref m) b (inl (x, w, em, h, e, et)) =
+label_placed r y z i j others o apart (Deref m) b (inl (inl (x, w, em, h, e, et))) =
     let f = other_of y x o 0 0 apart e in
-    inl (x, w, ap (placed r y z) em ∙ import_placed r y z x f, others x f ∙ h, e, ap (placed r y z) et ∙ waits_placed r y z x 1 f)
-label_placed r y z i j others o apart (Put m n) b (inl (x, w, em, h, e, et)) =
+    inl (inl (x, w, ap (placed r y z) em ∙ import_placed r y z x f, others x f ∙ h, e, ap (placed r y z) et ∙ waits_placed r y z x 1 f))
+label_placed r y z i j others o apart (Put m n) b (inl (inl (x, w, em, h, e, et))) =
     let f = other_of y x o 2 n apart e in
-    inl (x, w, ap (placed r y z) em ∙ import_placed r y z x f, others x f ∙ h, e, ap (placed r y z) et ∙ waits_placed r y z x 3 f)
+    inl (inl (x, w, ap (placed r y z) em ∙ import_placed r y z x f, others x f ∙ h, e, ap (placed r y z) et ∙ waits_placed r y z x 3 f))
 label_placed r y z i j others o apart (Wait x n) b (inr (p, e, h)) =
     let f : bytes_eq x y ≡ false = name_cases x y (λ same t. absurd (apart (p ∙ ap Taken same))) (λ g. g) in
     subst (λ (v : Term). OneLabel j o v (placed r y z b)) (sym (waits_placed r y z x n f))
@@ -63,6 +81,18 @@ label_placed r y z i j others o apart (Wait x n) b (inr (p, e, h)) =
       answer_placed r y z (import_type j x) n o.value b
           (subst (λ (v : Option Type'). IsAnswer v n o.value b) (sym (others x f)) h),
     ))
+label_placed r y z i j others o apart (Deref m) b (inl (inr (x, p, h))) =
+    let f = other_port y x o apart p in
+    inl (inr (x, p, puts_mapped i j (placed r y z) (λ (u : Term). Deref u) x (goes_placed r y z x (λ (u : Term). Deref u) f (λ m. refl)) (others x f) 2 0 o.event o.value m b h))
+label_placed r y z i j others o apart (Deref m) b (inr (x, p, h)) =
+    let f = other_port y x o apart p in
+    inr (x, p, reads_mapped i j (placed r y z) (λ (u : Term). Deref u) x (goes_placed r y z x (λ (u : Term). Deref u) f (λ m. refl)) (others x f) o.event o.value m b h)
+label_placed r y z i j others o apart (Put m n) b (inl (inr (x, p, h))) =
+    let f = other_port y x o apart p in
+    inl (inr (x, p, puts_mapped i j (placed r y z) (λ (u : Term). Put u n) x (goes_placed r y z x (λ (u : Term). Put u n) f (λ m. refl)) (others x f) 4 n o.event o.value m b h))
+label_placed r y z i j others o apart (Put m n) b (inr (x, p, h)) =
+    let f = other_port y x o apart p in
+    inr (x, p, writes_mapped i j (placed r y z) (λ (u : Term). Put u n) x (goes_placed r y z x (λ (u : Term). Put u n) f (λ m. refl)) (others x f) o.event o.value m b h)
 label_placed r y z i j others o apart a b (inl h) = absurd h
 label_placed r y z i j others o apart a b (inr h) = absurd h
 
@@ -114,17 +144,26 @@ answer_there i y w typed x e n k b same event h =
 port_there : (x y : Name) → Taken y ≡ Taken x → x ≡ y
 port_there x y g = cc
 
+-- and so no access is one of it
+no_array_there : (i : Imports) (x y : Name) (w c v : ℕ) → import_type i y ≡ Some (Var w) → Taken y ≡ Taken x → IsArrayImport i x c v → ⊥
+no_array_there i x y w c v typed port array =
+    let bad : Var w ≡ Fun (Exp c) (Var v) = type_there i x y (Var w) (Fun (Exp c) (Var v)) typed array (port_there x y port) in cc bad
+
 asked_row : (r : ℕ → ℕ) (y : Name) (z w : ℕ) (i : Imports) → import_type i y ≡ Some (Var w) → (a b : Term) → OneLabel i (taken y 0 0) a b
     → placed r y z a ≡ placed r y z b
 asked_row r y z w i typed (Import x) b (inl (inl (h, e, et))) =
     let bad : Var w ≡ Com = type_there i x y (Var w) Com typed h (name_of x y 0 0 0 0 e) in absurd cc
 asked_row r y z w i typed (Import x) b (inl (inr (v, h, e, et))) =
     let bad : Var w ≡ Exp v = type_there i x y (Var w) (Exp v) typed h (name_of x y 0 0 0 0 e) in absurd cc
-asked_row r y z w i typed (Deref m) b (inl (x, v, em, h, e, et)) =
+asked_row r y z w i typed (Deref m) b (inl (inl (x, v, em, h, e, et))) =
     let same = name_of x y 0 0 0 0 e in
     ap (λ (q : Term). Deref q) (ap (placed r y z) em ∙ loc_placed r y z x same) ∙ sym (ap (placed r y z) et ∙ wait_there r y z x 1 same)
-asked_row r y z w i typed (Put m n) b (inl (x, v, em, h, e, et)) = let bad : 0 ≡ 2 = event_of x y 0 2 0 n e in absurd (omega (arith, bad))
+asked_row r y z w i typed (Put m n) b (inl (inl (x, v, em, h, e, et))) = let bad : 0 ≡ 2 = event_of x y 0 2 0 n e in absurd (omega (arith, bad))
 asked_row r y z w i typed (Wait x n) b (inr (p, e, h)) = absurd (answer_there i y w typed x 0 n 0 b (port_there x y p) e h)
+asked_row r y z w i typed (Deref m) b (inl (inr (x, p, (c, v, n', array, rest)))) = absurd (no_array_there i x y w c v typed p array)
+asked_row r y z w i typed (Deref m) b (inr (x, p, (c, v, n', q', array, em, rest))) = absurd (no_array_there i x y w c v typed p array)
+asked_row r y z w i typed (Put m n) b (inl (inr (x, p, (c, v, n', array, rest)))) = absurd (no_array_there i x y w c v typed p array)
+asked_row r y z w i typed (Put m n) b (inr (x, p, (c, v, n', q', array, em, rest))) = absurd (no_array_there i x y w c v typed p array)
 asked_row r y z w i typed a b (inl h) = absurd h
 asked_row r y z w i typed a b (inr h) = absurd h
 
@@ -132,12 +171,16 @@ answered_row : (r : ℕ → ℕ) (y : Name) (z w : ℕ) (i : Imports) → import
     → placed r y z a ≡ placed r y z b
 answered_row r y z w i typed (Import x) b (inl (inl (h, e, et))) = let bad : 3 ≡ 0 = event_of x y 3 0 0 0 e in absurd (omega (arith, bad))
 answered_row r y z w i typed (Import x) b (inl (inr (v, h, e, et))) = let bad : 3 ≡ 0 = event_of x y 3 0 0 0 e in absurd (omega (arith, bad))
-answered_row r y z w i typed (Deref m) b (inl (x, v, em, h, e, et)) = let bad : 3 ≡ 0 = event_of x y 3 0 0 0 e in absurd (omega (arith, bad))
-answered_row r y z w i typed (Put m n) b (inl (x, v, em, h, e, et)) = let bad : 3 ≡ 2 = event_of x y 3 2 0 n e in absurd (omega (arith, bad))
+answered_row r y z w i typed (Deref m) b (inl (inl (x, v, em, h, e, et))) = let bad : 3 ≡ 0 = event_of x y 3 0 0 0 e in absurd (omega (arith, bad))
+answered_row r y z w i typed (Put m n) b (inl (inl (x, v, em, h, e, et))) = let bad : 3 ≡ 2 = event_of x y 3 2 0 n e in absurd (omega (arith, bad))
 answered_row r y z w i typed (Wait x n) b (inr (p, e, h)) =
     let same = port_there x y p in
     let g = answer_there i y w typed x 3 n 0 b same e h in
     wait_there r y z x n same ∙ (ap (λ (v : ℕ). wait_for true z x v) (sym e) ∙ sym (ap (placed r y z) g.1))
+answered_row r y z w i typed (Deref m) b (inl (inr (x, p, (c, v, n', array, rest)))) = absurd (no_array_there i x y w c v typed p array)
+answered_row r y z w i typed (Deref m) b (inr (x, p, (c, v, n', q', array, em, rest))) = absurd (no_array_there i x y w c v typed p array)
+answered_row r y z w i typed (Put m n) b (inl (inr (x, p, (c, v, n', array, rest)))) = absurd (no_array_there i x y w c v typed p array)
+answered_row r y z w i typed (Put m n) b (inr (x, p, (c, v, n', q', array, em, rest))) = absurd (no_array_there i x y w c v typed p array)
 answered_row r y z w i typed a b (inl h) = absurd h
 answered_row r y z w i typed a b (inr h) = absurd h
 
@@ -155,6 +198,8 @@ one_in r y z (HeldRight k op) a b h = ap (λ (v : Term). Held k op v) h
 one_in r y z NotOf a b h = ap (λ (v : Term). Not v) h
 one_in r y z (AssignRight n) a b h = ap (λ (v : Term). Assign (placed r y z n) v) h
 one_in r y z (ScopeBody l) a b h = ap (λ (v : Term). Scope (r l) v) h
+one_in r y z (ReadIndex x n) a b h = ap (λ (v : Term). Deref (App (placed r y z (Wait x 0)) (Both (placed r y z n) v))) h
+one_in r y z (WriteIndex x n k) a b h = ap (λ (v : Term). Put (App (placed r y z (Wait x 0)) (Both (placed r y z n) v)) k) h
 
 pub read_asked : ReadAsked
 read_asked p y r z w s u m t typed (n, v, hs, (h, e)) =
@@ -187,14 +232,18 @@ read_row : (r : ℕ → ℕ) (y : Name) (z w k : ℕ) (i : Imports) (f : Store) 
     → OneLabel i (taken y 1 k) a b → Computes (beside r s f) (beside r s f) (placed r y z a) (placed r y z b)
 read_row r y z w k i f typed home s (Import x) b (inl (inl (h, e, et))) = let bad : 1 ≡ 0 = event_of x y 1 0 k 0 e in absurd (omega (arith, bad))
 read_row r y z w k i f typed home s (Import x) b (inl (inr (v, h, e, et))) = let bad : 1 ≡ 0 = event_of x y 1 0 k 0 e in absurd (omega (arith, bad))
-read_row r y z w k i f typed home s (Deref m) b (inl (x, v, em, h, e, et)) = let bad : 1 ≡ 0 = event_of x y 1 0 k 0 e in absurd (omega (arith, bad))
-read_row r y z w k i f typed home s (Put m n) b (inl (x, v, em, h, e, et)) = let bad : 1 ≡ 2 = event_of x y 1 2 k n e in absurd (omega (arith, bad))
+read_row r y z w k i f typed home s (Deref m) b (inl (inl (x, v, em, h, e, et))) = let bad : 1 ≡ 0 = event_of x y 1 0 k 0 e in absurd (omega (arith, bad))
+read_row r y z w k i f typed home s (Put m n) b (inl (inl (x, v, em, h, e, et))) = let bad : 1 ≡ 2 = event_of x y 1 2 k n e in absurd (omega (arith, bad))
 read_row r y z w k i f typed home s (Wait x n) b (inr (p, e, h)) =
     let same = port_there x y p in
     let g = answer_there i y w typed x 1 n k b same e h in
     let is : placed r y z (Wait x n) ≡ Deref (Loc z) = wait_there r y z x n same ∙ ap (λ (v : ℕ). wait_for true z x v) (sym e) in
     subst (λ (v : Term). Computes (beside r s f) (beside r s f) v (placed r y z b)) (sym is)
     (record { place = z; width = w; number = k }, refl, at_home r f z w k home s, ap (placed r y z) g.1, refl)
+read_row r y z w k i f typed home s (Deref m) b (inl (inr (x, p, (c, v, n', array, rest)))) = absurd (no_array_there i x y w c v typed p array)
+read_row r y z w k i f typed home s (Deref m) b (inr (x, p, (c, v, n', q', array, em, rest))) = absurd (no_array_there i x y w c v typed p array)
+read_row r y z w k i f typed home s (Put m n) b (inl (inr (x, p, (c, v, n', array, rest)))) = absurd (no_array_there i x y w c v typed p array)
+read_row r y z w k i f typed home s (Put m n) b (inr (x, p, (c, v, n', q', array, em, rest))) = absurd (no_array_there i x y w c v typed p array)
 read_row r y z w k i f typed home s a b (inl h) = absurd h
 read_row r y z w k i f typed home s a b (inr h) = absurd h
 
@@ -203,8 +252,8 @@ write_row : (r : ℕ → ℕ) (y : Name) (z w k j : ℕ) (i : Imports) (f : Stor
     → Computes (beside r s f) (beside r s (store_put f z j)) (placed r y z a) (placed r y z b)
 write_row r y z w k j i f typed home s (Import x) b (inl (inl (h, e, et))) = let bad : 2 ≡ 0 = event_of x y 2 0 j 0 e in absurd (omega (arith, bad))
 write_row r y z w k j i f typed home s (Import x) b (inl (inr (v, h, e, et))) = let bad : 2 ≡ 0 = event_of x y 2 0 j 0 e in absurd (omega (arith, bad))
-write_row r y z w k j i f typed home s (Deref m) b (inl (x, v, em, h, e, et)) = let bad : 2 ≡ 0 = event_of x y 2 0 j 0 e in absurd (omega (arith, bad))
-write_row r y z w k j i f typed home s (Put m n) b (inl (x, v, em, h, e, et)) =
+write_row r y z w k j i f typed home s (Deref m) b (inl (inl (x, v, em, h, e, et))) = let bad : 2 ≡ 0 = event_of x y 2 0 j 0 e in absurd (omega (arith, bad))
+write_row r y z w k j i f typed home s (Put m n) b (inl (inl (x, v, em, h, e, et))) =
     let same = name_of x y 2 2 j n e in (
       record { place = z; width = w; number = k },
       ap (placed r y z) em ∙ loc_placed r y z x same,
@@ -213,6 +262,10 @@ write_row r y z w k j i f typed home s (Put m n) b (inl (x, v, em, h, e, et)) =
       put_home r f z j home.apart s ∙ ap (store_put (beside r s f) z) (value_of x y 2 2 j n e),
     )
 write_row r y z w k j i f typed home s (Wait x n) b (inr (p, e, h)) = absurd (answer_there i y w typed x 2 n j b (port_there x y p) e h)
+write_row r y z w k j i f typed home s (Deref m) b (inl (inr (x, p, (c, v, n', array, rest)))) = absurd (no_array_there i x y w c v typed p array)
+write_row r y z w k j i f typed home s (Deref m) b (inr (x, p, (c, v, n', q', array, em, rest))) = absurd (no_array_there i x y w c v typed p array)
+write_row r y z w k j i f typed home s (Put m n) b (inl (inr (x, p, (c, v, n', array, rest)))) = absurd (no_array_there i x y w c v typed p array)
+write_row r y z w k j i f typed home s (Put m n) b (inr (x, p, (c, v, n', q', array, em, rest))) = absurd (no_array_there i x y w c v typed p array)
 write_row r y z w k j i f typed home s a b (inl h) = absurd h
 write_row r y z w k j i f typed home s a b (inr h) = absurd h
 

@@ -9,7 +9,7 @@ use Rattle.gos_model.specs.Stores.{Store}
 use Rattle.gos_model.specs.Reach.{Rel, Reached, Rewrites, Under, Aside}
 use Rattle.gos_model.specs.Steps.{Computes, IsValue}
 use Rattle.gos_model.specs.Moves.{Unfoldings}
-use Rattle.gos_programs.specs.contexts.Contexts.{Context, SeqFirst, ParLeft, ParRight, IfTest, BinLeft, HeldRight, NotOf, AssignRight, ScopeBody, plug}
+use Rattle.gos_programs.specs.contexts.Contexts.{Context, SeqFirst, ParLeft, ParRight, IfTest, BinLeft, HeldRight, NotOf, AssignRight, ScopeBody, ReadIndex, WriteIndex, plug}
 use Rattle.gos_programs.specs.contexts.Renaming.{IsInjective, IsFreeOf, beside}
 use Rattle.gos_programs.proofs.contexts.BackwardLemmas.{OneHead}
 use Rattle.gos_programs.proofs.contexts.ReachedLemmas.{reached_lifted}
@@ -71,6 +71,10 @@ placed_put r y z (Put m k) d q = λ i. Put (placed_put r y z m d q i) k
 abbrev Placed : (ℕ → ℕ) → Name → ℕ → Rel → Rel
 Placed r y z R a b = Reached R (placed r y z a) (placed r y z b)
 
+wait_zero : (z : ℕ) (x : Name) (b : Bool) → wait_for b z x 0 ≡ Wait x 0
+wait_zero z x true = refl
+wait_zero z x false = refl
+
 placed_in : (r : ℕ → ℕ) (y : Name) (z : ℕ) (R : Rel) (c : Context) (a b : Term) → Placed r y z R a b → Placed r y z R (plug c a) (plug c b)
 placed_in r y z R (SeqFirst n) a b h = inr (placed r y z b, refl, h)
 placed_in r y z R (ParLeft n) a b h = inr (inl (placed r y z b, refl, h))
@@ -81,6 +85,14 @@ placed_in r y z R (HeldRight k op) a b h = inr (placed r y z b, refl, h)
 placed_in r y z R NotOf a b h = inr (placed r y z b, refl, h)
 placed_in r y z R (AssignRight n) a b h = inr (placed r y z b, refl, h)
 placed_in r y z R (ScopeBody l) a b h = inr (placed r y z b, refl, h)
+placed_in r y z R (ReadIndex x n) a b h =
+    let g = placed r y z in
+    subst (λ (v : Term). Reached R (Deref (App v (Both (g n) (g a)))) (Deref (App v (Both (g n) (g b))))) (sym (wait_zero z x (bytes_eq x y)))
+    (inr (App (Wait x 0) (Both (g n) (g b)), refl, ((x, refl), g b, refl, h)))
+placed_in r y z R (WriteIndex x n k) a b h =
+    let g = placed r y z in
+    subst (λ (v : Term). Reached R (Put (App v (Both (g n) (g a))) k) (Put (App v (Both (g n) (g b))) k)) (sym (wait_zero z x (bytes_eq x y)))
+    (inr (App (Wait x 0) (Both (g n) (g b)), refl, ((x, refl), g b, refl, h)))
 
 pub reached_placed : (r : ℕ → ℕ) (y : Name) (z : ℕ) (R S : Rel) → ((a b : Term) → R a b → S (placed r y z a) (placed r y z b)) → (m t : Term) → Reached R m t
     → Reached S (placed r y z m) (placed r y z t)

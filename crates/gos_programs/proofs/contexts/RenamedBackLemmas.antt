@@ -6,10 +6,11 @@ use Rattle.gos_model.specs.Terms.{Name, Term, Skip, Lit, Import, Lam, App, Both,
 use Rattle.gos_model.specs.Substitution.{instantiate}
 use Rattle.gos_model.specs.Typing.{Imports}
 use Rattle.gos_model.specs.Stores.{Entry, Store, entry_at, store_put, without}
-use Rattle.gos_model.specs.Reach.{Rel, Reached, Below, Rewrites, Under, Aside}
+use Rattle.gos_model.specs.Reach.{Rel, Reached, Below, InIndex, Rewrites, Under, Aside}
 use Rattle.gos_model.specs.Steps.{Computes, IsValue, Steps}
 use Rattle.gos_model.specs.Labels.{Label}
 use Rattle.gos_model.specs.Moves.{Unfoldings}
+use Rattle.gos_model.proofs.AccessMapLemmas.{ComesFrom, puts_back, reads_back, writes_back}
 use Rattle.gos_programs.specs.contexts.Contexts.{Context, plug}
 use Rattle.gos_programs.specs.contexts.Renaming.{renamed, IsInjective, IsFreeOf, beside}
 use Rattle.gos_programs.proofs.contexts.BackwardLemmas.{OneHead, OneLabel}
@@ -31,6 +32,14 @@ is_import : (r : ℕ → ℕ) (m : Term) (x : Name) → renamed r m ≡ Import x
 is_import r (Import y) x h = h
 is_import r m x h = absurd cc
 
+is_wait : (r : ℕ → ℕ) (m : Term) (x : Name) (s : ℕ) → renamed r m ≡ Wait x s → m ≡ Wait x s
+is_wait r (Wait y n) x s h = h
+is_wait r m x s h = absurd cc
+
+is_app : (r : ℕ → ℕ) (m f n : Term) → renamed r m ≡ App f n → (g : Term) × (p : Term) × (m ≡ App g p) × (renamed r g ≡ f) × (renamed r p ≡ n)
+is_app r (App g p) f n h = (g, p, refl, cc, cc)
+is_app r m f n h = absurd cc
+
 is_loc : (r : ℕ → ℕ) (m : Term) (l : ℕ) → renamed r m ≡ Loc l → (k : ℕ) × (m ≡ Loc k) × (r k ≡ l)
 is_loc r (Loc k) l h = (k, refl, cc)
 is_loc r m l h = absurd cc
@@ -51,36 +60,49 @@ is_value r m (inr (k, w, e)) = inr (k, w, is_lit r m k w e)
 abbrev Back : (ℕ → ℕ) → Rel → Term → Term → Type 0
 Back r R m v = (t : Term) × (v ≡ renamed r t) × R m t
 
-below_back : (r : ℕ → ℕ) (R S : Rel) → ((a v : Term) → S (renamed r a) v → Back r R a v) → (m v : Term) → Below S (renamed r m) v
-    → Back r (Below R) m v
-below_back r R S g (Seq m n) v (m', e, inl h) = let y = g m m' h in (Seq y.0 n, e ∙ ap (λ (x : Term). Seq x (renamed r n)) y.1, (y.0, refl, inl y.2))
-below_back r R S g (Seq m n) v (m', e, inr h) =
-    let y = below_back r R S g m m' h in (Seq y.0 n, e ∙ ap (λ (x : Term). Seq x (renamed r n)) y.1, (y.0, refl, inr y.2))
-below_back r R S g (Par m n) v (inl (m', e, inl h)) = let y = g m m' h in (Par y.0 n, e ∙ ap (λ (x : Term). Par x (renamed r n)) y.1, inl (y.0, refl, inl y.2))
-below_back r R S g (Par m n) v (inl (m', e, inr h)) =
-    let y = below_back r R S g m m' h in (Par y.0 n, e ∙ ap (λ (x : Term). Par x (renamed r n)) y.1, inl (y.0, refl, inr y.2))
-below_back r R S g (Par m n) v (inr (n', e, inl h)) = let y = g n n' h in (Par m y.0, e ∙ ap (λ (x : Term). Par (renamed r m) x) y.1, inr (y.0, refl, inl y.2))
-below_back r R S g (Par m n) v (inr (n', e, inr h)) =
-    let y = below_back r R S g n n' h in (Par m y.0, e ∙ ap (λ (x : Term). Par (renamed r m) x) y.1, inr (y.0, refl, inr y.2))
-below_back r R S g (If m n p) v (m', e, inl h) =
-    let y = g m m' h in (If y.0 n p, e ∙ ap (λ (x : Term). If x (renamed r n) (renamed r p)) y.1, (y.0, refl, inl y.2))
-below_back r R S g (If m n p) v (m', e, inr h) =
-    let y = below_back r R S g m m' h in (If y.0 n p, e ∙ ap (λ (x : Term). If x (renamed r n) (renamed r p)) y.1, (y.0, refl, inr y.2))
-below_back r R S g (Bin op m n) v (m', e, inl h) = let y = g m m' h in (Bin op y.0 n, e ∙ ap (λ (x : Term). Bin op x (renamed r n)) y.1, (y.0, refl, inl y.2))
-below_back r R S g (Bin op m n) v (m', e, inr h) =
-    let y = below_back r R S g m m' h in (Bin op y.0 n, e ∙ ap (λ (x : Term). Bin op x (renamed r n)) y.1, (y.0, refl, inr y.2))
-below_back r R S g (Held k op n) v (n', e, inl h) = let y = g n n' h in (Held k op y.0, e ∙ ap (λ (x : Term). Held k op x) y.1, (y.0, refl, inl y.2))
-below_back r R S g (Held k op n) v (n', e, inr h) =
-    let y = below_back r R S g n n' h in (Held k op y.0, e ∙ ap (λ (x : Term). Held k op x) y.1, (y.0, refl, inr y.2))
-below_back r R S g (Not m) v (m', e, inl h) = let y = g m m' h in (Not y.0, e ∙ ap (λ (x : Term). Not x) y.1, (y.0, refl, inl y.2))
-below_back r R S g (Not m) v (m', e, inr h) = let y = below_back r R S g m m' h in (Not y.0, e ∙ ap (λ (x : Term). Not x) y.1, (y.0, refl, inr y.2))
-below_back r R S g (Assign m n) v (n', e, inl h) = let y = g n n' h in (Assign m y.0, e ∙ ap (λ (x : Term). Assign (renamed r m) x) y.1, (y.0, refl, inl y.2))
-below_back r R S g (Assign m n) v (n', e, inr h) =
-    let y = below_back r R S g n n' h in (Assign m y.0, e ∙ ap (λ (x : Term). Assign (renamed r m) x) y.1, (y.0, refl, inr y.2))
-below_back r R S g (Scope l m) v (m', e, inl h) = let y = g m m' h in (Scope l y.0, e ∙ ap (λ (x : Term). Scope (r l) x) y.1, (y.0, refl, inl y.2))
-below_back r R S g (Scope l m) v (m', e, inr h) =
-    let y = below_back r R S g m m' h in (Scope l y.0, e ∙ ap (λ (x : Term). Scope (r l) x) y.1, (y.0, refl, inr y.2))
-below_back r R S g m v h = absurd h
+mutual
+  below_back : (r : ℕ → ℕ) (R S : Rel) → ((a v : Term) → S (renamed r a) v → Back r R a v) → (m v : Term) → Below S (renamed r m) v
+      → Back r (Below R) m v
+  below_back r R S g (Seq m n) v (m', e, inl h) = let y = g m m' h in (Seq y.0 n, e ∙ ap (λ (x : Term). Seq x (renamed r n)) y.1, (y.0, refl, inl y.2))
+  below_back r R S g (Seq m n) v (m', e, inr h) =
+      let y = below_back r R S g m m' h in (Seq y.0 n, e ∙ ap (λ (x : Term). Seq x (renamed r n)) y.1, (y.0, refl, inr y.2))
+  below_back r R S g (Par m n) v (inl (m', e, inl h)) = let y = g m m' h in (Par y.0 n, e ∙ ap (λ (x : Term). Par x (renamed r n)) y.1, inl (y.0, refl, inl y.2))
+  below_back r R S g (Par m n) v (inl (m', e, inr h)) =
+      let y = below_back r R S g m m' h in (Par y.0 n, e ∙ ap (λ (x : Term). Par x (renamed r n)) y.1, inl (y.0, refl, inr y.2))
+  below_back r R S g (Par m n) v (inr (n', e, inl h)) = let y = g n n' h in (Par m y.0, e ∙ ap (λ (x : Term). Par (renamed r m) x) y.1, inr (y.0, refl, inl y.2))
+  below_back r R S g (Par m n) v (inr (n', e, inr h)) =
+      let y = below_back r R S g n n' h in (Par m y.0, e ∙ ap (λ (x : Term). Par (renamed r m) x) y.1, inr (y.0, refl, inr y.2))
+  below_back r R S g (If m n p) v (m', e, inl h) =
+      let y = g m m' h in (If y.0 n p, e ∙ ap (λ (x : Term). If x (renamed r n) (renamed r p)) y.1, (y.0, refl, inl y.2))
+  below_back r R S g (If m n p) v (m', e, inr h) =
+      let y = below_back r R S g m m' h in (If y.0 n p, e ∙ ap (λ (x : Term). If x (renamed r n) (renamed r p)) y.1, (y.0, refl, inr y.2))
+  below_back r R S g (Bin op m n) v (m', e, inl h) = let y = g m m' h in (Bin op y.0 n, e ∙ ap (λ (x : Term). Bin op x (renamed r n)) y.1, (y.0, refl, inl y.2))
+  below_back r R S g (Bin op m n) v (m', e, inr h) =
+      let y = below_back r R S g m m' h in (Bin op y.0 n, e ∙ ap (λ (x : Term). Bin op x (renamed r n)) y.1, (y.0, refl, inr y.2))
+  below_back r R S g (Held k op n) v (n', e, inl h) = let y = g n n' h in (Held k op y.0, e ∙ ap (λ (x : Term). Held k op x) y.1, (y.0, refl, inl y.2))
+  below_back r R S g (Held k op n) v (n', e, inr h) =
+      let y = below_back r R S g n n' h in (Held k op y.0, e ∙ ap (λ (x : Term). Held k op x) y.1, (y.0, refl, inr y.2))
+  below_back r R S g (Not m) v (m', e, inl h) = let y = g m m' h in (Not y.0, e ∙ ap (λ (x : Term). Not x) y.1, (y.0, refl, inl y.2))
+  below_back r R S g (Not m) v (m', e, inr h) = let y = below_back r R S g m m' h in (Not y.0, e ∙ ap (λ (x : Term). Not x) y.1, (y.0, refl, inr y.2))
+  below_back r R S g (Assign m n) v (n', e, inl h) = let y = g n n' h in (Assign m y.0, e ∙ ap (λ (x : Term). Assign (renamed r m) x) y.1, (y.0, refl, inl y.2))
+  below_back r R S g (Assign m n) v (n', e, inr h) =
+      let y = below_back r R S g n n' h in (Assign m y.0, e ∙ ap (λ (x : Term). Assign (renamed r m) x) y.1, (y.0, refl, inr y.2))
+  below_back r R S g (Scope l m) v (m', e, inl h) = let y = g m m' h in (Scope l y.0, e ∙ ap (λ (x : Term). Scope (r l) x) y.1, (y.0, refl, inl y.2))
+  below_back r R S g (Scope l m) v (m', e, inr h) =
+      let y = below_back r R S g m m' h in (Scope l y.0, e ∙ ap (λ (x : Term). Scope (r l) x) y.1, (y.0, refl, inr y.2))
+  below_back r R S g (Deref m) v (m', e, h) = let y = index_back r R S g m m' h in (Deref y.0, e ∙ ap (λ (x : Term). Deref x) y.1, (y.0, refl, y.2))
+  below_back r R S g (Put m k) v (m', e, h) = let y = index_back r R S g m m' h in (Put y.0 k, e ∙ ap (λ (x : Term). Put x k) y.1, (y.0, refl, y.2))
+  below_back r R S g m v h = absurd h
+
+  index_back : (r : ℕ → ℕ) (R S : Rel) → ((a v : Term) → S (renamed r a) v → Back r R a v) → (m v : Term) → InIndex S (renamed r m) v
+      → Back r (InIndex R) m v
+  index_back r R S g (App h (Both b n)) v ((x, head), n', e, inl k) =
+      let y = g n n' k in
+      (App h (Both b y.0), e ∙ ap (λ (u : Term). App (renamed r h) (Both (renamed r b) u)) y.1, ((x, is_wait r h x 0 head), y.0, refl, inl y.2))
+  index_back r R S g (App h (Both b n)) v ((x, head), n', e, inr k) =
+      let y = below_back r R S g n n' k in
+      (App h (Both b y.0), e ∙ ap (λ (u : Term). App (renamed r h) (Both (renamed r b) u)) y.1, ((x, is_wait r h x 0 head), y.0, refl, inr y.2))
+  index_back r R S g m v h = absurd h
 
 pub reached_back : (r : ℕ → ℕ) (R S : Rel) → ((a v : Term) → S (renamed r a) v → Back r R a v) → (m v : Term) → Reached S (renamed r m) v
     → Back r (Reached R) m v
@@ -88,27 +110,38 @@ reached_back r R S g m v (inl h) = let k = g m v h in (k.0, k.1, inl k.2)
 reached_back r R S g m v (inr h) = let k = below_back r R S g m v h in (k.0, k.1, inr k.2)
 
 -- where a renamed term does something, the term does something
-below_some : (r : ℕ → ℕ) (R S : Rel) → ((a v : Term) → S (renamed r a) v → (t : Term) × R a t) → (m v : Term) → Below S (renamed r m) v
-    → (t : Term) × Below R m t
-below_some r R S g (Seq m n) v (m', e, inl h) = let y = g m m' h in (Seq y.0 n, (y.0, refl, inl y.1))
-below_some r R S g (Seq m n) v (m', e, inr h) = let y = below_some r R S g m m' h in (Seq y.0 n, (y.0, refl, inr y.1))
-below_some r R S g (Par m n) v (inl (m', e, inl h)) = let y = g m m' h in (Par y.0 n, inl (y.0, refl, inl y.1))
-below_some r R S g (Par m n) v (inl (m', e, inr h)) = let y = below_some r R S g m m' h in (Par y.0 n, inl (y.0, refl, inr y.1))
-below_some r R S g (Par m n) v (inr (n', e, inl h)) = let y = g n n' h in (Par m y.0, inr (y.0, refl, inl y.1))
-below_some r R S g (Par m n) v (inr (n', e, inr h)) = let y = below_some r R S g n n' h in (Par m y.0, inr (y.0, refl, inr y.1))
-below_some r R S g (If m n p) v (m', e, inl h) = let y = g m m' h in (If y.0 n p, (y.0, refl, inl y.1))
-below_some r R S g (If m n p) v (m', e, inr h) = let y = below_some r R S g m m' h in (If y.0 n p, (y.0, refl, inr y.1))
-below_some r R S g (Bin op m n) v (m', e, inl h) = let y = g m m' h in (Bin op y.0 n, (y.0, refl, inl y.1))
-below_some r R S g (Bin op m n) v (m', e, inr h) = let y = below_some r R S g m m' h in (Bin op y.0 n, (y.0, refl, inr y.1))
-below_some r R S g (Held k op n) v (n', e, inl h) = let y = g n n' h in (Held k op y.0, (y.0, refl, inl y.1))
-below_some r R S g (Held k op n) v (n', e, inr h) = let y = below_some r R S g n n' h in (Held k op y.0, (y.0, refl, inr y.1))
-below_some r R S g (Not m) v (m', e, inl h) = let y = g m m' h in (Not y.0, (y.0, refl, inl y.1))
-below_some r R S g (Not m) v (m', e, inr h) = let y = below_some r R S g m m' h in (Not y.0, (y.0, refl, inr y.1))
-below_some r R S g (Assign m n) v (n', e, inl h) = let y = g n n' h in (Assign m y.0, (y.0, refl, inl y.1))
-below_some r R S g (Assign m n) v (n', e, inr h) = let y = below_some r R S g n n' h in (Assign m y.0, (y.0, refl, inr y.1))
-below_some r R S g (Scope l m) v (m', e, inl h) = let y = g m m' h in (Scope l y.0, (y.0, refl, inl y.1))
-below_some r R S g (Scope l m) v (m', e, inr h) = let y = below_some r R S g m m' h in (Scope l y.0, (y.0, refl, inr y.1))
-below_some r R S g m v h = absurd h
+mutual
+  below_some : (r : ℕ → ℕ) (R S : Rel) → ((a v : Term) → S (renamed r a) v → (t : Term) × R a t) → (m v : Term) → Below S (renamed r m) v
+      → (t : Term) × Below R m t
+  below_some r R S g (Seq m n) v (m', e, inl h) = let y = g m m' h in (Seq y.0 n, (y.0, refl, inl y.1))
+  below_some r R S g (Seq m n) v (m', e, inr h) = let y = below_some r R S g m m' h in (Seq y.0 n, (y.0, refl, inr y.1))
+  below_some r R S g (Par m n) v (inl (m', e, inl h)) = let y = g m m' h in (Par y.0 n, inl (y.0, refl, inl y.1))
+  below_some r R S g (Par m n) v (inl (m', e, inr h)) = let y = below_some r R S g m m' h in (Par y.0 n, inl (y.0, refl, inr y.1))
+  below_some r R S g (Par m n) v (inr (n', e, inl h)) = let y = g n n' h in (Par m y.0, inr (y.0, refl, inl y.1))
+  below_some r R S g (Par m n) v (inr (n', e, inr h)) = let y = below_some r R S g n n' h in (Par m y.0, inr (y.0, refl, inr y.1))
+  below_some r R S g (If m n p) v (m', e, inl h) = let y = g m m' h in (If y.0 n p, (y.0, refl, inl y.1))
+  below_some r R S g (If m n p) v (m', e, inr h) = let y = below_some r R S g m m' h in (If y.0 n p, (y.0, refl, inr y.1))
+  below_some r R S g (Bin op m n) v (m', e, inl h) = let y = g m m' h in (Bin op y.0 n, (y.0, refl, inl y.1))
+  below_some r R S g (Bin op m n) v (m', e, inr h) = let y = below_some r R S g m m' h in (Bin op y.0 n, (y.0, refl, inr y.1))
+  below_some r R S g (Held k op n) v (n', e, inl h) = let y = g n n' h in (Held k op y.0, (y.0, refl, inl y.1))
+  below_some r R S g (Held k op n) v (n', e, inr h) = let y = below_some r R S g n n' h in (Held k op y.0, (y.0, refl, inr y.1))
+  below_some r R S g (Not m) v (m', e, inl h) = let y = g m m' h in (Not y.0, (y.0, refl, inl y.1))
+  below_some r R S g (Not m) v (m', e, inr h) = let y = below_some r R S g m m' h in (Not y.0, (y.0, refl, inr y.1))
+  below_some r R S g (Assign m n) v (n', e, inl h) = let y = g n n' h in (Assign m y.0, (y.0, refl, inl y.1))
+  below_some r R S g (Assign m n) v (n', e, inr h) = let y = below_some r R S g n n' h in (Assign m y.0, (y.0, refl, inr y.1))
+  below_some r R S g (Scope l m) v (m', e, inl h) = let y = g m m' h in (Scope l y.0, (y.0, refl, inl y.1))
+  below_some r R S g (Scope l m) v (m', e, inr h) = let y = below_some r R S g m m' h in (Scope l y.0, (y.0, refl, inr y.1))
+  below_some r R S g (Deref m) v (m', e, h) = let y = index_some r R S g m m' h in (Deref y.0, (y.0, refl, y.1))
+  below_some r R S g (Put m k) v (m', e, h) = let y = index_some r R S g m m' h in (Put y.0 k, (y.0, refl, y.1))
+  below_some r R S g m v h = absurd h
+
+  index_some : (r : ℕ → ℕ) (R S : Rel) → ((a v : Term) → S (renamed r a) v → (t : Term) × R a t) → (m v : Term) → InIndex S (renamed r m) v
+      → (t : Term) × InIndex R m t
+  index_some r R S g (App h (Both b n)) v ((x, head), n', e, inl k) =
+      let y = g n n' k in (App h (Both b y.0), ((x, is_wait r h x 0 head), y.0, refl, inl y.1))
+  index_some r R S g (App h (Both b n)) v ((x, head), n', e, inr k) =
+      let y = below_some r R S g n n' k in (App h (Both b y.0), ((x, is_wait r h x 0 head), y.0, refl, inr y.1))
+  index_some r R S g m v h = absurd h
 
 pub reached_some : (r : ℕ → ℕ) (R S : Rel) → ((a v : Term) → S (renamed r a) v → (t : Term) × R a t) → (m v : Term) → Reached S (renamed r m) v
     → (t : Term) × Reached R m t
@@ -159,12 +192,30 @@ unfoldings_back r (suc n) m v (u, h, hs) =
     let rest = unfoldings_back r n one.0 v (subst (λ (x : Term). Unfoldings n x v) one.1 hs) in
     (rest.0, rest.1, (one.0, one.2, rest.2))
 
+comes_back : (r : ℕ → ℕ) (i : Imports) (x : Name) → ComesFrom i i (renamed r) (λ (u : Term). Unit {0}) x
+comes_back r i x =
+    record {
+      app = λ m h n free e. let (g, p, whole, eg, ep) = is_app r m h n e in (g, p, whole, eg, ep, tt, tt);
+      both = λ m h n free e. let (g, p, whole, eg, ep) = is_pair r m h n e in (g, p, whole, eg, ep, tt, tt);
+      literal = λ m k w free e. is_lit r m k w e;
+      import = λ m free e. (is_import r m x e, refl);
+      wait = λ m s free e. (is_wait r m x s e, refl);
+    }
+
 -- a label
 label_some : (r : ℕ → ℕ) (i : Imports) (o : Label) (a v : Term) → OneLabel i o (renamed r a) v → (t : Term) × OneLabel i o a t
 label_some r i o (Import x) v h = (v, h)
-label_some r i o (Deref m) v (inl (x, w, em, h, e, et)) = (v, inl (x, w, is_import r m x em, h, e, et))
-label_some r i o (Put m n) v (inl (x, w, em, h, e, et)) = (v, inl (x, w, is_import r m x em, h, e, et))
+label_some r i o (Deref m) v (inl (inl (x, w, em, h, e, et))) = (v, inl (inl (x, w, is_import r m x em, h, e, et)))
+label_some r i o (Put m n) v (inl (inl (x, w, em, h, e, et))) = (v, inl (inl (x, w, is_import r m x em, h, e, et)))
 label_some r i o (Wait x n) v h = (v, h)
+label_some r i o (Deref m) v (inl (inr (x, p, h))) =
+    let y = puts_back i i (renamed r) (λ (u : Term). Unit {0}) (λ (u : Term). Deref u) x (comes_back r i x) 2 0 o.event o.value m v tt h in (y.0, inl (inr (x, p, y.1)))
+label_some r i o (Deref m) v (inr (x, p, h)) =
+    let y = reads_back i i (renamed r) (λ (u : Term). Unit {0}) (λ (u : Term). Deref u) x (comes_back r i x) o.event o.value m v tt h in (y.0, inr (x, p, y.1))
+label_some r i o (Put m n) v (inl (inr (x, p, h))) =
+    let y = puts_back i i (renamed r) (λ (u : Term). Unit {0}) (λ (u : Term). Put u n) x (comes_back r i x) 4 n o.event o.value m v tt h in (y.0, inl (inr (x, p, y.1)))
+label_some r i o (Put m n) v (inr (x, p, h)) =
+    let y = writes_back i i (renamed r) (λ (u : Term). Unit {0}) (λ (u : Term). Put u n) x (comes_back r i x) o.event o.value m v tt h in (y.0, inr (x, p, y.1))
 label_some r i o a v (inl h) = absurd h
 label_some r i o a v (inr h) = absurd h
 

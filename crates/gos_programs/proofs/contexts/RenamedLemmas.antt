@@ -10,7 +10,8 @@ use Rattle.gos_model.specs.Reach.{Rel, Reached, Rewrites, Under, Aside}
 use Rattle.gos_model.specs.Steps.{Computes, IsValue}
 use Rattle.gos_model.specs.Labels.{Label, IsAnswer}
 use Rattle.gos_model.specs.Moves.{Act, Computing, Showing, Acts, Unfoldings}
-use Rattle.gos_programs.specs.contexts.Contexts.{Context, SeqFirst, ParLeft, ParRight, IfTest, BinLeft, HeldRight, NotOf, AssignRight, ScopeBody, plug}
+use Rattle.gos_model.proofs.AccessMapLemmas.{puts_mapped, reads_mapped, writes_mapped}
+use Rattle.gos_programs.specs.contexts.Contexts.{Context, SeqFirst, ParLeft, ParRight, IfTest, BinLeft, HeldRight, NotOf, AssignRight, ScopeBody, ReadIndex, WriteIndex, plug}
 use Rattle.gos_programs.specs.contexts.Renaming.{renamed, IsInjective, IsFreeOf, beside}
 use Rattle.gos_programs.proofs.contexts.BackwardLemmas.{OneHead, OneLabel}
 use Rattle.gos_programs.proofs.contexts.ReachedLemmas.{reached_lifted}
@@ -86,6 +87,8 @@ renamed_in r R (HeldRight k op) a b h = inr (renamed r b, refl, h)
 renamed_in r R NotOf a b h = inr (renamed r b, refl, h)
 renamed_in r R (AssignRight n) a b h = inr (renamed r b, refl, h)
 renamed_in r R (ScopeBody l) a b h = inr (renamed r b, refl, h)
+renamed_in r R (ReadIndex x n) a b h = inr (App (Wait x 0) (Both (renamed r n) (renamed r b)), refl, ((x, refl), renamed r b, refl, h))
+renamed_in r R (WriteIndex x n k) a b h = inr (App (Wait x 0) (Both (renamed r n) (renamed r b)), refl, ((x, refl), renamed r b, refl, h))
 
 pub reached_renamed : (r : ℕ → ℕ) (R S : Rel) → ((a b : Term) → R a b → S (renamed r a) (renamed r b)) → (m t : Term) → Reached R m t
     → Reached S (renamed r m) (renamed r t)
@@ -135,9 +138,17 @@ answer_renamed r o n k t h = absurd h
 label_renamed : (r : ℕ → ℕ) (i : Imports) (o : Label) (a b : Term) → OneLabel i o a b → OneLabel i o (renamed r a) (renamed r b)
 label_renamed r i o (Import x) b (inl (inl (h, e, et))) = inl (inl (h, e, ap (renamed r) et))
 label_renamed r i o (Import x) b (inl (inr (w, h, e, et))) = inl (inr (w, h, e, ap (renamed r) et))
-label_renamed r i o (Deref m) b (inl (x, w, em, h, e, et)) = inl (x, w, ap (renamed r) em, h, e, ap (renamed r) et)
-label_renamed r i o (Put m n) b (inl (x, w, em, h, e, et)) = inl (x, w, ap (renamed r) em, h, e, ap (renamed r) et)
+label_renamed r i o (Deref m) b (inl (inl (x, w, em, h, e, et))) = inl (inl (x, w, ap (renamed r) em, h, e, ap (renamed r) et))
+label_renamed r i o (Put m n) b (inl (inl (x, w, em, h, e, et))) = inl (inl (x, w, ap (renamed r) em, h, e, ap (renamed r) et))
 label_renamed r i o (Wait x n) b (inr (p, e, h)) = inr (p, e, answer_renamed r (import_type i x) n o.value b h)
+label_renamed r i o (Deref m) b (inl (inr (x, p, h))) =
+    inl (inr (x, p, puts_mapped i i (renamed r) (λ (u : Term). Deref u) x (record { app = λ h n. refl; both = λ m n. refl; access = λ m. refl; skip = refl; literal = λ k w. refl; import = refl; wait = λ s. refl }) refl 2 0 o.event o.value m b h))
+label_renamed r i o (Deref m) b (inr (x, p, h)) =
+    inr (x, p, reads_mapped i i (renamed r) (λ (u : Term). Deref u) x (record { app = λ h n. refl; both = λ m n. refl; access = λ m. refl; skip = refl; literal = λ k w. refl; import = refl; wait = λ s. refl }) refl o.event o.value m b h)
+label_renamed r i o (Put m n) b (inl (inr (x, p, h))) =
+    inl (inr (x, p, puts_mapped i i (renamed r) (λ (u : Term). Put u n) x (record { app = λ h n. refl; both = λ m n. refl; access = λ m. refl; skip = refl; literal = λ k w. refl; import = refl; wait = λ s. refl }) refl 4 n o.event o.value m b h))
+label_renamed r i o (Put m n) b (inr (x, p, h)) =
+    inr (x, p, writes_mapped i i (renamed r) (λ (u : Term). Put u n) x (record { app = λ h n. refl; both = λ m n. refl; access = λ m. refl; skip = refl; literal = λ k w. refl; import = refl; wait = λ s. refl }) refl o.event o.value m b h)
 label_renamed r i o a b (inl h) = absurd h
 label_renamed r i o a b (inr h) = absurd h
 

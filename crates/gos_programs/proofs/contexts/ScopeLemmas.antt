@@ -1,18 +1,19 @@
 -- Moves keep the locations of the store to those of open blocks.
 use Rattle.std.specs.Prelude.{◌≡◌, ◌⊎◌, ℕ, zero, suc, List, [], ◌∷◌, Option, Some, None}
-use Rattle.std.proofs.Common.{refl, sym, ap, subst, inl, inr, ◌∙◌}
+use Rattle.std.proofs.Common.{arith, refl, sym, ap, subst, inl, inr, ◌∙◌}
 use Rattle.gos_types.specs.Types.{Type', Com, Exp, Var}
-use Rattle.gos_model.specs.Terms.{Name, Term, Lit, Import, App, Fst, Snd, Seq, Par, If, While, Assign, Deref, New, Not, Bin, Loc, Scope, Wait, Held, Put}
+use Rattle.gos_model.specs.Terms.{Name, Term, Lit, Import, App, Fst, Snd, Seq, Par, If, While, Assign, Deref, New, Not, Bin, Loc, Scope, Wait, Held, Put, Both}
 use Rattle.gos_model.specs.Substitution.{instantiate}
 use Rattle.gos_model.specs.Typing.{Imports, import_type}
 use Rattle.gos_model.specs.Stores.{Entry, Store, entry_at, without}
-use Rattle.gos_model.specs.Reach.{Rel}
+use Rattle.gos_model.specs.Reach.{Rel, InIndex}
 use Rattle.gos_model.specs.Steps.{Computes, IsValue}
 use Rattle.gos_model.specs.Labels.{Label, IsAnswer}
 use Rattle.gos_model.specs.Moves.{Program, Config, Idle, Running, Act, Computing, Showing, Acts, Unfoldings, Move, Moves}
 use Rattle.gos_model.proofs.NumberLemmas.{number_cases}
-use Rattle.gos_programs.specs.contexts.Contexts.{Context, SeqFirst, ParLeft, ParRight, IfTest, BinLeft, HeldRight, NotOf, AssignRight, ScopeBody, plug}
-use Rattle.gos_programs.specs.contexts.Scopes.{IsShut, OpensInPlace, IsOpen, KeepsScopes, MovesKeepScopes, RunsKeepScopes, EndsEmpty}
+use Rattle.gos_model.proofs.HeadLemmas.{Lower, lower_no_index}
+use Rattle.gos_programs.specs.contexts.Contexts.{Context, SeqFirst, ParLeft, ParRight, IfTest, BinLeft, HeldRight, NotOf, AssignRight, ScopeBody, ReadIndex, WriteIndex, plug}
+use Rattle.gos_programs.specs.contexts.Scopes.{IsShut, OpensInPlace, OpensInIndex, IsOpen, IsOpenInIndex, KeepsScopes, MovesKeepScopes, RunsKeepScopes, EndsEmpty}
 use Rattle.gos_programs.proofs.contexts.StoreLemmas.{not_both, first_at, later_at, without_same, without_absent, put_absent}
 use Rattle.gos_programs.proofs.contexts.ReachedLemmas.{reached_lifted}
 use Rattle.gos_programs.proofs.contexts.ShutLemmas.{shut_put, shut_in_place, shut_head}
@@ -32,6 +33,18 @@ Kept s s' a b = OpensInPlace b × ((l : ℕ) → Present s' l → IsOpen l a ⊎
 
 abbrev Keeps : Store → Store → Rel
 Keeps s s' a b = OpensInPlace a → Kept s s' a b
+
+-- the index of an access
+pub in_index : (x : Name) (n a : Term) → IsShut (App (Wait x 0) (Both n a)) ⊎ OpensInIndex (App (Wait x 0) (Both n a)) → IsShut n × OpensInPlace a
+in_index x n a (inl (w, (f, g))) = (f, shut_in_place a g)
+in_index x n a (inr (head, f, g)) = (f, g)
+
+kept_in_index : (s s' : Store) (x : Name) (n a b : Term) → Keeps s s' a b → IsShut n × OpensInPlace a
+    → (IsShut (App (Wait x 0) (Both n b)) ⊎ OpensInIndex (App (Wait x 0) (Both n b)))
+    × ((l : ℕ) → Present s' l → IsOpenInIndex l (App (Wait x 0) (Both n a)) ⊎ Absent s l → IsOpenInIndex l (App (Wait x 0) (Both n b)))
+kept_in_index s s' x n a b q (f, i) =
+    let k = q i in
+    (inr ((x, refl), f, k.0), λ l p h. ((x, refl), k.1 l p (elim h [ inl o ↦ inl o.1 | inr g ↦ inr g ])))
 
 kept_in : (s s' : Store) (c : Context) (a b : Term) → Keeps s s' a b → Keeps s s' (plug c a) (plug c b)
 kept_in s s' (SeqFirst n) a b q (i, j) = let k = q i in ((k.0, j), k.1)
@@ -55,6 +68,8 @@ kept_in s s' (ScopeBody x) a b q i =
       k.0,
       λ l p h. elim h [ inl o ↦ elim o [ inl e ↦ inl e | inr y ↦ inr (k.1 l p (inl y)) ] | inr g ↦ inr (k.1 l p (inr g)) ],
     )
+kept_in s s' (ReadIndex x n) a b q i = kept_in_index s s' x n a b q (in_index x n a i)
+kept_in s s' (WriteIndex x n k) a b q i = kept_in_index s s' x n a b q (in_index x n a i)
 
 -- where the store stays and nothing was open, nothing has to be
 stays : (s s' : Store) (a b : Term) → s' ≡ s → ((l : ℕ) → IsOpen l a → ⊥) → OpensInPlace b → Kept s s' a b
@@ -104,6 +119,65 @@ closes s s' k m b i is eb es = shrinks s s' (Scope k m) b less shut (subst Opens
         not_both (entry_at s' l) d (ap (λ (y : Store). entry_at y l) es ∙ subst (λ (y : ℕ). entry_at (without s k) y ≡ None) e (without_same s k)) h
     shut l p (inr o) = value_shut m l is o
 
+-- where an access may have an open block in its index, and where not
+abbrev Anything : Rel
+Anything a b = Unit {0}
+
+opens_index : (m : Term) → OpensInIndex m → InIndex Anything m m
+opens_index (App h (Both b n)) (head, f, i) = (head, n, refl, inl tt)
+opens_index m i = absurd i
+
+open_index : (l : ℕ) (m : Term) → IsOpenInIndex l m → InIndex Anything m m
+open_index l (App h (Both b n)) (head, o) = (head, n, refl, inl tt)
+open_index l m o = absurd o
+
+loc_not_open : (m : Term) (x : ℕ) → m ≡ Loc x → (l : ℕ) → IsOpenInIndex l m → ⊥
+loc_not_open m x e l o = subst (IsOpenInIndex l) e o
+
+import_not_open : (m : Term) (x : Name) → m ≡ Import x → (l : ℕ) → IsOpenInIndex l m → ⊥
+import_not_open m x e l o = subst (IsOpenInIndex l) e o
+
+head_not_open : (m t : Term) → Lower m t → (l : ℕ) → IsOpenInIndex l m → ⊥
+head_not_open m t lower l o = lower_no_index Anything m t m lower (open_index l m o)
+
+pub shut_head_aside : (m t : Term) → Lower m t → IsShut m ⊎ OpensInIndex m → IsShut m
+shut_head_aside m t lower (inl h) = h
+shut_head_aside m t lower (inr i) = absurd (lower_no_index Anything m t m lower (opens_index m i))
+
+-- an index that is not asked for
+abbrev pub IsUnasked : Term → Type 0
+IsUnasked h = (x : Name) → h ≡ Wait x 0 → ⊥
+
+pub import_unasked : (x : Name) → IsUnasked (Import x)
+import_unasked x y e = cc e
+
+pub request_unasked : (x : Name) → IsUnasked (Wait x 1)
+request_unasked x y e = let bad : ◌≡◌ {A = ℕ} 1 0 = cc e in omega (arith, bad)
+
+unasked_index : (h a : Term) → IsUnasked h → OpensInIndex (App h a) → ⊥
+unasked_index h (Both n m) other i = other i.0.0 i.0.1
+unasked_index h a other i = absurd i
+
+unasked_open : (l : ℕ) (h a : Term) → IsUnasked h → IsOpenInIndex l (App h a) → ⊥
+unasked_open l h (Both n m) other o = other o.0.0 o.0.1
+unasked_open l h a other o = absurd o
+
+pub unasked_shut : (m h a : Term) → m ≡ App h a → IsUnasked h → IsShut m ⊎ OpensInIndex m → IsShut a
+unasked_shut m h a em other i = by (subst (λ (v : Term). IsShut v ⊎ OpensInIndex v) em i)
+  where
+    by : IsShut (App h a) ⊎ OpensInIndex (App h a) → IsShut a
+    by (inl g) = g.1
+    by (inr g) = absurd (unasked_index h a other g)
+
+unasked_not_open : (m h a : Term) → m ≡ App h a → IsUnasked h → (l : ℕ) → IsOpenInIndex l m → ⊥
+unasked_not_open m h a em other l o = unasked_open l h a other (subst (IsOpenInIndex l) em o)
+
+pub asked_shut : (m : Term) (x : Name) (n j : Term) (k w : ℕ) → m ≡ App (Wait x 0) (Both n j) → j ≡ Lit k w → IsShut m ⊎ OpensInIndex m → IsShut (Both n j)
+asked_shut m x n j k w em ej i = ((in_index x n j (subst (λ (v : Term). IsShut v ⊎ OpensInIndex v) em i)).0, subst IsShut (sym ej) tt)
+
+asked_not_open : (m : Term) (x : Name) (n j : Term) (k w : ℕ) → m ≡ App (Wait x 0) (Both n j) → j ≡ Lit k w → (l : ℕ) → IsOpenInIndex l m → ⊥
+asked_not_open m x n j k w em ej l o = let g = subst (IsOpenInIndex l) em o in subst (IsOpen l) ej g.1
+
 rows_keep : (s s' : Store) (a b : Term) → Computes s s' a b → Keeps s s' a b
 rows_keep s s' (Seq m n) b (em, et, es) (i, j) =
     stays s s' (Seq m n) b es (λ l o. value_shut m l (inl em) o) (subst OpensInPlace (sym et) (shut_in_place n j))
@@ -123,11 +197,11 @@ rows_keep s s' (Held k op n) b (j, w, en, et, es) i =
 rows_keep s s' (Not m) b (k, w, em, et, es) i =
     stays s s' (Not m) b es (lit_shut k w m em) (subst OpensInPlace (sym et) tt)
 rows_keep s s' (Assign m n) b (k, w, en, et, es) (i, j) =
-    stays s s' (Assign m n) b es (lit_shut k w n en) (subst OpensInPlace (sym et) i)
+    stays s s' (Assign m n) b es (lit_shut k w n en) (subst OpensInPlace (sym et) (inl i))
 rows_keep s s' (Put m k) b (e, em, here, et, es) i =
-    shrinks s s' (Put m k) b (λ x g. ap (λ (y : Store). entry_at y x) es ∙ put_absent s e.place k x g) (λ x p o. o) (subst OpensInPlace (sym et) tt)
+    shrinks s s' (Put m k) b (λ x g. ap (λ (y : Store). entry_at y x) es ∙ put_absent s e.place k x g) (λ x p o. loc_not_open m e.place em x o) (subst OpensInPlace (sym et) tt)
 rows_keep s s' (Deref m) b (e, em, at, et, es) i =
-    stays s s' (Deref m) b es (λ l o. o) (subst OpensInPlace (sym et) tt)
+    stays s s' (Deref m) b es (loc_not_open m e.place em) (subst OpensInPlace (sym et) tt)
 rows_keep s s' (New w m) b (l, absent, et, es) i = opens s s' w m b l i et es
 rows_keep s s' (Scope k m) b (is, et, es) i = closes s s' k m b i is et es
 rows_keep s s' m b h i = absurd h
@@ -136,8 +210,10 @@ heads_keep : (s : Store) (a b : Term) → OneHead a b → Keeps s s a b
 heads_keep s (App m n) b h i = stays s s (App m n) b refl (λ l o. o) (shut_in_place b (shut_head (App m n) b h i))
 heads_keep s (Fst m) b h i = stays s s (Fst m) b refl (λ l o. o) (shut_in_place b (shut_head (Fst m) b h i))
 heads_keep s (Snd m) b h i = stays s s (Snd m) b refl (λ l o. o) (shut_in_place b (shut_head (Snd m) b h i))
-heads_keep s (Put m k) b h i = stays s s (Put m k) b refl (λ l o. o) (shut_in_place b (shut_head (Put m k) b h i))
-heads_keep s (Deref m) b h i = stays s s (Deref m) b refl (λ l o. o) (shut_in_place b (shut_head (Deref m) b h i))
+heads_keep s (Put m k) b (inr (m', e, h)) i =
+    stays s s (Put m k) b refl (head_not_open m m' h) (shut_in_place b (shut_head (Put m k) b (inr (m', e, h)) (shut_head_aside m m' h i)))
+heads_keep s (Deref m) b (inr (m', e, h)) i =
+    stays s s (Deref m) b refl (head_not_open m m' h) (shut_in_place b (shut_head (Deref m) b (inr (m', e, h)) (shut_head_aside m m' h i)))
 heads_keep s a b (inl (inl h)) i = absurd h
 heads_keep s a b (inl (inr h)) i = absurd h
 heads_keep s a b (inr h) i = absurd h
@@ -156,9 +232,29 @@ answer_in_place o n k t h = absurd h
 labels_keep : (i : Imports) (o : Label) (s : Store) (a b : Term) → OneLabel i o a b → Keeps s s a b
 labels_keep i o s (Import x) b (inl (inl (h, e, et))) k = waits s (Import x) b x 1 et (λ l o. o)
 labels_keep i o s (Import x) b (inl (inr (w, h, e, et))) k = waits s (Import x) b x 1 et (λ l o. o)
-labels_keep i o s (Deref m) b (inl (x, w, em, h, e, et)) k = waits s (Deref m) b x 1 et (λ l o. o)
-labels_keep i o s (Put m n) b (inl (x, w, em, h, e, et)) k = waits s (Put m n) b x 3 et (λ l o. o)
+labels_keep i o s (Deref m) b (inl (inl (x, w, em, h, e, et))) k = waits s (Deref m) b x 1 et (import_not_open m x em)
+labels_keep i o s (Put m n) b (inl (inl (x, w, em, h, e, et))) k = waits s (Put m n) b x 3 et (import_not_open m x em)
 labels_keep i o s (Wait x n) b (inr h) k = stays s s (Wait x n) b refl (λ l o. o) (answer_in_place (import_type i x) n o.value b h.2)
+labels_keep i o s (Deref m) b (inl (inr (x, p, (c, w, j, array, inl (em, ee, ek, et))))) k =
+    let shut = unasked_shut m (Import x) j em (import_unasked x) k in
+    stays s s (Deref m) b refl (unasked_not_open m (Import x) j em (import_unasked x)) (subst OpensInPlace (sym et) (inl (tt, (shut, shut))))
+labels_keep i o s (Deref m) b (inl (inr (x, p, (c, w, n', array, inr (j, em, ej, ee, et))))) k =
+    stays s s (Deref m) b refl (asked_not_open m x n' j o.value c em ej) (subst OpensInPlace (sym et) (inl (tt, asked_shut m x n' j o.value c em ej k)))
+labels_keep i o s (Deref m) b (inr (x, p, (c, w, n', j, array, em, inl (ee, ek, et)))) k =
+    let shut = unasked_shut m (Wait x 1) (Both n' j) em (request_unasked x) k in
+    stays s s (Deref m) b refl (unasked_not_open m (Wait x 1) (Both n' j) em (request_unasked x)) (subst OpensInPlace (sym et) (inl (tt, (shut.0, shut.0))))
+labels_keep i o s (Deref m) b (inr (x, p, (c, w, n', j, array, em, inr (ee, ek, et)))) k =
+    stays s s (Deref m) b refl (unasked_not_open m (Wait x 1) (Both n' j) em (request_unasked x)) (subst OpensInPlace (sym et) tt)
+labels_keep i o s (Put m n) b (inl (inr (x, p, (c, w, j, array, inl (em, ee, ek, et))))) k =
+    let shut = unasked_shut m (Import x) j em (import_unasked x) k in
+    stays s s (Put m n) b refl (unasked_not_open m (Import x) j em (import_unasked x)) (subst OpensInPlace (sym et) (inl (tt, (shut, shut))))
+labels_keep i o s (Put m n) b (inl (inr (x, p, (c, w, n', array, inr (j, em, ej, ee, et))))) k =
+    stays s s (Put m n) b refl (asked_not_open m x n' j o.value c em ej) (subst OpensInPlace (sym et) (inl (tt, asked_shut m x n' j o.value c em ej k)))
+labels_keep i o s (Put m n) b (inr (x, p, (c, w, n', j, array, em, inl (ee, ek, et)))) k =
+    let shut = unasked_shut m (Wait x 1) (Both n' j) em (request_unasked x) k in
+    stays s s (Put m n) b refl (unasked_not_open m (Wait x 1) (Both n' j) em (request_unasked x)) (subst OpensInPlace (sym et) (inl (tt, (shut.0, shut.0))))
+labels_keep i o s (Put m n) b (inr (x, p, (c, w, n', j, array, em, inr (ee, ek, et)))) k =
+    stays s s (Put m n) b refl (unasked_not_open m (Wait x 1) (Both n' j) em (request_unasked x)) (subst OpensInPlace (sym et) tt)
 labels_keep i o s a b (inl h) k = absurd h
 labels_keep i o s a b (inr h) k = absurd h
 

@@ -79,7 +79,7 @@ shut_in_place (Par m p) h = (shut_in_place m h.0, shut_in_place p h.1)
 shut_in_place (If m p q) h = (shut_in_place m h.0, h.1, h.2)
 shut_in_place (While m p) h = h
 shut_in_place (Assign m p) h = (h.0, shut_in_place p h.1)
-shut_in_place (Deref m) h = h
+shut_in_place (Deref m) h = inl h
 shut_in_place (New w m) h = h
 shut_in_place (Not m) h = shut_in_place m h
 shut_in_place (Bin op m p) h = (shut_in_place m h.0, h.1)
@@ -87,7 +87,7 @@ shut_in_place (Loc l) h = h
 shut_in_place (Scope l m) h = absurd h
 shut_in_place (Wait x s) h = h
 shut_in_place (Held k op m) h = shut_in_place m h
-shut_in_place (Put m k) h = h
+shut_in_place (Put m k) h = inl h
 
 -- an unfolding of a head opens none
 shut_rewrite : (m t : Term) → Rewrites m t → IsShut m → IsShut t

@@ -14,7 +14,7 @@ use Rattle.gos_model.proofs.NumberLemmas.{number_cases}
 use Rattle.gos_programs.specs.contexts.Renaming.{IsInjective}
 use Rattle.gos_programs.proofs.contexts.StoreLemmas.{first_at, later_at}
 use Rattle.gos_programs.proofs.contexts.PlacedLemmas.{name_cases}
-use Rattle.gos_programs.specs.contexts.SmallContexts.{one_at, one_variable, SidesAreNotAlone, RequestsAreNotInner, BlocksOpenInPlace, StoresKeepScopes, LocationsStand, LocationsAreScoped, BlocksDiffer, BlockIsRenamed, RenamingsTellApart, ZeroIsFree, NoneAreAmongSome, NamesAreKnown, EntriesInAnyOrder, StoresAreApart, StoreIsHeld, LocationIsPlaced, OthersAreLeft, HomeIsApart, LabelsElsewhere}
+use Rattle.gos_programs.specs.contexts.SmallContexts.{one_at, one_variable, SidesAreNotAlone, RequestsAreNotInner, BlocksOpenInPlace, BlocksOpenInIndex, IndexIsNotAlone, StoresKeepScopes, LocationsStand, LocationsAreScoped, BlocksDiffer, BlockIsRenamed, RenamingsTellApart, ZeroIsFree, NoneAreAmongSome, NamesAreKnown, EntriesInAnyOrder, StoresAreApart, StoreIsHeld, LocationIsPlaced, OthersAreLeft, HomeIsApart, LabelsElsewhere}
 
 there_some : {A : Type 0} (a : A) → Some a ≡ None → ⊥
 there_some a e = cc e
@@ -26,7 +26,16 @@ pub requests_are_not_inner : RequestsAreNotInner
 requests_are_not_inner = ((λ e. cc e, tt), λ h. h.0 refl)
 
 pub blocks_open_in_place : BlocksOpenInPlace
-blocks_open_in_place = ((tt, tt), λ h. h.1, λ h. h)
+blocks_open_in_place = ((inl tt, tt), λ h. h.1, λ h. h)
+
+one_not_zero : ◌≡◌ {A = ℕ} 1 0 → ⊥
+one_not_zero e = omega (arith, e)
+
+pub blocks_open_in_index : BlocksOpenInIndex
+blocks_open_in_index = (inr ((c, refl), tt, inl tt), λ h. elim h [ inl g ↦ g.1.1 | inr g ↦ one_not_zero (cc g.0.1) ])
+
+pub index_is_not_alone : IndexIsNotAlone
+index_is_not_alone h = h
 
 -- what a store of one entry has
 only_at : (k l : ℕ) → (k ≡ l → ⊥) → entry_at (one_at k) l ≡ None
@@ -40,7 +49,7 @@ at_home zero e h = refl
 at_home (suc l) e h = absurd (none-some e (sym (none_next l) ∙ h))
 
 pub stores_keep_scopes : StoresKeepScopes
-stores_keep_scopes = ((tt, λ l e h. inl (at_home l e h)), λ h. h.1 0 (record { place = 0; width = 1; number = 0 }) refl)
+stores_keep_scopes = ((inl tt, λ l e h. inl (at_home l e h)), λ h. h.1 0 (record { place = 0; width = 1; number = 0 }) refl)
 
 pub locations_stand : LocationsStand
 locations_stand = (((record { place = 0; width = 1; number = 0 }, refl), (record { place = 0; width = 1; number = 0 }, refl)), λ h. none-some h.0.0 h.0.1)

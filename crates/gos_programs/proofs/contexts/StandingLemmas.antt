@@ -2,7 +2,7 @@
 use Rattle.std.specs.Prelude.{◌≡◌, ◌⊎◌, ℕ, zero, suc, List, [], ◌∷◌, Option, Some, None}
 use Rattle.std.proofs.Common.{refl, sym, ap, subst, inl, inr, ◌∙◌}
 use Rattle.gos_types.specs.Types.{Type', Com, Exp, Var}
-use Rattle.gos_model.specs.Terms.{Term, Skip, Lit, Bound, Import, Lam, App, Both, Fst, Snd, Seq, Par, If, While, Assign, Deref, New, Not, Bin, Loc, Scope, Wait, Held, Put}
+use Rattle.gos_model.specs.Terms.{Name, Term, Skip, Lit, Bound, Import, Lam, App, Both, Fst, Snd, Seq, Par, If, While, Assign, Deref, New, Not, Bin, Loc, Scope, Wait, Held, Put}
 use Rattle.gos_model.specs.Substitution.{instantiate}
 use Rattle.gos_model.specs.Typing.{Imports, import_type}
 use Rattle.gos_model.specs.Stores.{Entry, Store, entry_at, store_put}
@@ -11,43 +11,57 @@ use Rattle.gos_model.specs.Steps.{Computes, IsValue}
 use Rattle.gos_model.specs.Labels.{Label, IsAnswer}
 use Rattle.gos_model.specs.Moves.{Program, Config, Idle, Running, Act, Computing, Showing, Acts, Unfoldings, Move, Moves}
 use Rattle.gos_model.proofs.NumberLemmas.{number_cases}
-use Rattle.gos_programs.specs.contexts.Contexts.{Context, SeqFirst, ParLeft, ParRight, IfTest, BinLeft, HeldRight, NotOf, AssignRight, ScopeBody, plug}
-use Rattle.gos_programs.specs.contexts.Scopes.{IsShut, OpensInPlace, IsOpen}
-use Rattle.gos_programs.specs.contexts.Standing.{Present, StandsIn, Has, InScope, OpensDiffer, RunsStay}
+use Rattle.gos_programs.specs.contexts.Contexts.{Context, SeqFirst, ParLeft, ParRight, IfTest, BinLeft, HeldRight, NotOf, AssignRight, ScopeBody, ReadIndex, WriteIndex, plug}
+use Rattle.gos_programs.specs.contexts.Scopes.{IsShut, OpensInPlace, OpensInIndex, IsOpen, IsOpenInIndex}
+use Rattle.gos_programs.specs.contexts.Standing.{Present, StandsIn, Has, InScope, OpensDiffer, DifferInIndex, RunsStay}
 use Rattle.gos_programs.proofs.contexts.BackwardLemmas.{OneHead, OneLabel}
 use Rattle.gos_programs.proofs.contexts.PluggedLemmas.{acts_of}
 use Rattle.gos_programs.proofs.contexts.ReachedLemmas.{reached_lifted}
 use Rattle.gos_programs.proofs.contexts.StoreLemmas.{not_both, first_at, later_at, without_other, put_same, put_other, numbered}
 use Rattle.gos_programs.proofs.contexts.ShutLemmas.{sources_are_shut, shut_put, shut_in_place, shut_head}
-use Rattle.gos_programs.proofs.contexts.ScopeLemmas.{acts_keep_place, unfoldings_keep_place}
+use Rattle.gos_programs.proofs.contexts.ScopeLemmas.{in_index, shut_head_aside, import_unasked, request_unasked, unasked_shut, asked_shut, acts_keep_place, unfoldings_keep_place}
 use Rattle.gos_programs.proofs.contexts.InScopeLemmas.{sources_scoped, unfoldings_scoped, acts_scoped}
 
 abbrev Absent : Store → ℕ → Type 0
 Absent s l = entry_at s l ≡ None
 
 -- where no block is open none is at a reached place
-pub shut_not_open : (m : Term) (l : ℕ) → IsShut m → IsOpen l m → ⊥
-shut_not_open (Seq m n) l h o = shut_not_open m l h.0 o
-shut_not_open (Par m n) l h (inl o) = shut_not_open m l h.0 o
-shut_not_open (Par m n) l h (inr o) = shut_not_open n l h.1 o
-shut_not_open (If m n p) l h o = shut_not_open m l h.0 o
-shut_not_open (Bin op m n) l h o = shut_not_open m l h.0 o
-shut_not_open (Held k op n) l h o = shut_not_open n l h o
-shut_not_open (Not m) l h o = shut_not_open m l h o
-shut_not_open (Assign m n) l h o = shut_not_open n l h.1 o
-shut_not_open (Scope k m) l h o = absurd h
-shut_not_open m l h o = absurd o
+mutual
+  pub shut_not_open : (m : Term) (l : ℕ) → IsShut m → IsOpen l m → ⊥
+  shut_not_open (Seq m n) l h o = shut_not_open m l h.0 o
+  shut_not_open (Par m n) l h (inl o) = shut_not_open m l h.0 o
+  shut_not_open (Par m n) l h (inr o) = shut_not_open n l h.1 o
+  shut_not_open (If m n p) l h o = shut_not_open m l h.0 o
+  shut_not_open (Bin op m n) l h o = shut_not_open m l h.0 o
+  shut_not_open (Held k op n) l h o = shut_not_open n l h o
+  shut_not_open (Not m) l h o = shut_not_open m l h o
+  shut_not_open (Assign m n) l h o = shut_not_open n l h.1 o
+  shut_not_open (Scope k m) l h o = absurd h
+  shut_not_open (Deref m) l h o = index_not_open m l h o
+  shut_not_open (Put m k) l h o = index_not_open m l h o
+  shut_not_open m l h o = absurd o
 
-pub shut_differ : (m : Term) → IsShut m → OpensDiffer m
-shut_differ (Seq m n) h = shut_differ m h.0
-shut_differ (Par m n) h = (shut_differ m h.0, shut_differ n h.1, (λ l o q. shut_not_open m l h.0 o))
-shut_differ (If m n p) h = shut_differ m h.0
-shut_differ (Bin op m n) h = shut_differ m h.0
-shut_differ (Held k op n) h = shut_differ n h
-shut_differ (Not m) h = shut_differ m h
-shut_differ (Assign m n) h = shut_differ n h.1
-shut_differ (Scope k m) h = absurd h
-shut_differ m h = tt
+  index_not_open : (m : Term) (l : ℕ) → IsShut m → IsOpenInIndex l m → ⊥
+  index_not_open (App g (Both b n)) l h (head, o) = shut_not_open n l h.1.1 o
+  index_not_open m l h o = absurd o
+
+mutual
+  pub shut_differ : (m : Term) → IsShut m → OpensDiffer m
+  shut_differ (Seq m n) h = shut_differ m h.0
+  shut_differ (Par m n) h = (shut_differ m h.0, shut_differ n h.1, (λ l o q. shut_not_open m l h.0 o))
+  shut_differ (If m n p) h = shut_differ m h.0
+  shut_differ (Bin op m n) h = shut_differ m h.0
+  shut_differ (Held k op n) h = shut_differ n h
+  shut_differ (Not m) h = shut_differ m h
+  shut_differ (Assign m n) h = shut_differ n h.1
+  shut_differ (Scope k m) h = absurd h
+  shut_differ (Deref m) h = index_differs m h
+  shut_differ (Put m k) h = index_differs m h
+  shut_differ m h = tt
+
+  index_differs : (m : Term) → IsShut m → DifferInIndex m
+  index_differs (App g (Both b n)) h = λ head. shut_differ n h.1.1
+  index_differs m h = tt
 
 -- Of a change of a with store s to b with store s': open blocks differ and are in the store; what is open was open,
 -- or was not in the store; and what was in the store and not open is there still.
@@ -62,6 +76,19 @@ Stay s s' a b = OpensInPlace a → OpensDiffer a → ((l : ℕ) → IsOpen l a �
 
 both_ways : (s : Store) (l : ℕ) → Present s l → Absent s l → ⊥
 both_ways s l (e, h) g = not_both (entry_at s l) e g h
+
+-- in the index of an access
+stay_in_index : (s s' : Store) (x : Name) (n a b : Term) → Stay s s' a b → OpensInPlace a → OpensDiffer a
+    → ((l : ℕ) → IsOpenInIndex l (App (Wait x 0) (Both n a)) → Present s l)
+    → Follows s s' (Deref (App (Wait x 0) (Both n a))) (Deref (App (Wait x 0) (Both n b)))
+stay_in_index s s' x n a b q i d t =
+    let k = q i d (λ l o. t l ((x, refl), o)) in
+    record {
+      differ = λ head. k.differ;
+      there = λ l o. k.there l o.1;
+      before = λ l o. elim (k.before l o.1) [ inl y ↦ inl ((x, refl), y) | inr g ↦ inr g ];
+      rest = λ l p not. k.rest l p (λ y. not ((x, refl), y));
+    }
 
 stay_in : (s s' : Store) (c : Context) (a b : Term) → Stay s s' a b → Stay s s' (plug c a) (plug c b)
 stay_in s s' (SeqFirst n) a b q (i, j) d t = let k = q i d t in record { differ = k.differ; there = k.there; before = k.before; rest = k.rest }
@@ -94,6 +121,10 @@ stay_in s s' (ScopeBody x) a b q i (new, d) t =
       before = λ l o. elim o [ inl e ↦ inl (inl e) | inr y ↦ elim (k.before l y) [ inl z ↦ inl (inr z) | inr g ↦ inr g ] ];
       rest = λ l p not. k.rest l p (λ y. not (inr y));
     }
+stay_in s s' (ReadIndex x n) a b q i d t = stay_in_index s s' x n a b q (in_index x n a i).1 (d (x, refl)) t
+stay_in s s' (WriteIndex x n k) a b q i d t =
+    let j = stay_in_index s s' x n a b q (in_index x n a i).1 (d (x, refl)) t in
+    record { differ = j.differ; there = j.there; before = j.before; rest = j.rest }
 
 -- to a term without open blocks, where what isn't open stays
 ends : (s s' : Store) (a b : Term) → IsShut b → ((l : ℕ) → Present s l → (IsOpen l a → ⊥) → Present s' l) → Follows s s' a b
@@ -156,8 +187,8 @@ head_stay : (s : Store) (a b : Term) → OneHead a b → Stay s s a b
 head_stay s (App m n) b h i d t = same s s (App m n) b refl (shut_head (App m n) b h i)
 head_stay s (Fst m) b h i d t = same s s (Fst m) b refl (shut_head (Fst m) b h i)
 head_stay s (Snd m) b h i d t = same s s (Snd m) b refl (shut_head (Snd m) b h i)
-head_stay s (Put m k) b h i d t = same s s (Put m k) b refl (shut_head (Put m k) b h i)
-head_stay s (Deref m) b h i d t = same s s (Deref m) b refl (shut_head (Deref m) b h i)
+head_stay s (Put m k) b (inr (m', e, h)) i d t = same s s (Put m k) b refl (shut_head (Put m k) b (inr (m', e, h)) (shut_head_aside m m' h i))
+head_stay s (Deref m) b (inr (m', e, h)) i d t = same s s (Deref m) b refl (shut_head (Deref m) b (inr (m', e, h)) (shut_head_aside m m' h i))
 head_stay s a b (inl (inl h)) i d t = absurd h
 head_stay s a b (inl (inr h)) i d t = absurd h
 head_stay s a b (inr h) i d t = absurd h
@@ -172,32 +203,46 @@ shut_answer o n k t h = absurd h
 label_stay : (i : Imports) (o : Label) (s : Store) (a b : Term) → OneLabel i o a b → Stay s s a b
 label_stay i o s (Import x) b (inl (inl (h, e, et))) k d t = same s s (Import x) b refl (subst IsShut (sym et) tt)
 label_stay i o s (Import x) b (inl (inr (w, h, e, et))) k d t = same s s (Import x) b refl (subst IsShut (sym et) tt)
-label_stay i o s (Deref m) b (inl (x, w, em, h, e, et)) k d t = same s s (Deref m) b refl (subst IsShut (sym et) tt)
-label_stay i o s (Put m n) b (inl (x, w, em, h, e, et)) k d t = same s s (Put m n) b refl (subst IsShut (sym et) tt)
+label_stay i o s (Deref m) b (inl (inl (x, w, em, h, e, et))) k d t = same s s (Deref m) b refl (subst IsShut (sym et) tt)
+label_stay i o s (Put m n) b (inl (inl (x, w, em, h, e, et))) k d t = same s s (Put m n) b refl (subst IsShut (sym et) tt)
 label_stay i o s (Wait x n) b (inr (p, e, h)) k d t = same s s (Wait x n) b refl (shut_answer (import_type i x) n o.value b h)
+label_stay i o s (Deref m) b (inl (inr (x, p, (c, w, j, array, inl (em, ee, ek, et))))) k d t =
+    let shut = unasked_shut m (Import x) j em (import_unasked x) k in same s s (Deref m) b refl (subst IsShut (sym et) (tt, (shut, shut)))
+label_stay i o s (Deref m) b (inl (inr (x, p, (c, w, n', array, inr (j, em, ej, ee, et))))) k d t =
+    same s s (Deref m) b refl (subst IsShut (sym et) (tt, asked_shut m x n' j o.value c em ej k))
+label_stay i o s (Deref m) b (inr (x, p, (c, w, n', j, array, em, inl (ee, ek, et)))) k d t =
+    let shut = unasked_shut m (Wait x 1) (Both n' j) em (request_unasked x) k in same s s (Deref m) b refl (subst IsShut (sym et) (tt, (shut.0, shut.0)))
+label_stay i o s (Deref m) b (inr (x, p, (c, w, n', j, array, em, inr (ee, ek, et)))) k d t = same s s (Deref m) b refl (subst IsShut (sym et) tt)
+label_stay i o s (Put m n) b (inl (inr (x, p, (c, w, j, array, inl (em, ee, ek, et))))) k d t =
+    let shut = unasked_shut m (Import x) j em (import_unasked x) k in same s s (Put m n) b refl (subst IsShut (sym et) (tt, (shut, shut)))
+label_stay i o s (Put m n) b (inl (inr (x, p, (c, w, n', array, inr (j, em, ej, ee, et))))) k d t =
+    same s s (Put m n) b refl (subst IsShut (sym et) (tt, asked_shut m x n' j o.value c em ej k))
+label_stay i o s (Put m n) b (inr (x, p, (c, w, n', j, array, em, inl (ee, ek, et)))) k d t =
+    let shut = unasked_shut m (Wait x 1) (Both n' j) em (request_unasked x) k in same s s (Put m n) b refl (subst IsShut (sym et) (tt, (shut.0, shut.0)))
+label_stay i o s (Put m n) b (inr (x, p, (c, w, n', j, array, em, inr (ee, ek, et)))) k d t = same s s (Put m n) b refl (subst IsShut (sym et) tt)
 label_stay i o s a b (inl h) k d t = absurd h
 label_stay i o s a b (inr h) k d t = absurd h
 
 -- what runs keep
-record Standing (m : Term) (s : Store) : Type 0 where
-  in_place : OpensInPlace m
-  scoped : InScope [] m
-  differ : OpensDiffer m
-  there : (l : ℕ) → IsOpen l m → Present s l
+pub record Standing (m : Term) (s : Store) : Type 0 where
+  pub in_place : OpensInPlace m
+  pub scoped : InScope [] m
+  pub differ : OpensDiffer m
+  pub there : (l : ℕ) → IsOpen l m → Present s l
 
 standing_after : (s s' : Store) (m t : Term) → OpensInPlace t → InScope [] t → Stay s s' m t → Standing m s → Standing t s'
 standing_after s s' m t place scoped q i =
     let k = q i.in_place i.differ i.there in
     record { in_place = place; scoped = scoped; differ = k.differ; there = k.there }
 
-unfoldings_stand : (s : Store) (n : ℕ) (m t : Term) → Unfoldings n m t → Standing m s → Standing t s
+pub unfoldings_stand : (s : Store) (n : ℕ) (m t : Term) → Unfoldings n m t → Standing m s → Standing t s
 unfoldings_stand s zero m t h i = subst (λ (x : Term). Standing x s) h i
 unfoldings_stand s (suc n) m t (u, h, hs) i =
     unfoldings_stand s n u t hs
     (standing_after s s m u (unfoldings_keep_place 1 m u (u, h, refl) i.in_place) (unfoldings_scoped 1 m u (u, h, refl) [] i.scoped)
     (reached_lifted OneHead (Stay s s) (head_stay s) (stay_in s s) m u h) i)
 
-acts_stand : (i : Imports) (a : Act) (s s' : Store) (m t : Term) → Acts i a s s' m t → Standing m s → Standing t s'
+pub acts_stand : (i : Imports) (a : Act) (s s' : Store) (m t : Term) → Acts i a s s' m t → Standing m s → Standing t s'
 acts_stand i Computing s s' m t h k =
     standing_after s s' m t (acts_keep_place i Computing s s' m t h k.in_place) (acts_scoped i Computing s s' m t h [] k.scoped)
     (reached_lifted (Computes s s') (Stay s s') (row_stay s s') (stay_in s s') m t h) k
@@ -255,18 +300,28 @@ besides : (s : Store) (k : ℕ) (ls : List ℕ) → ((l : ℕ) → Has l ls → 
 besides s k ls f p l (inl e) = subst (Present s) e p
 besides s k ls f p l (inr h) = f l h
 
-stands : (s : Store) (m : Term) (ls : List ℕ) → ((l : ℕ) → Has l ls → Present s l) → InScope ls m → OpensInPlace m
-    → ((l : ℕ) → IsOpen l m → Present s l) → StandsIn s m
-stands s (Seq m n) ls f h i t = (stands s m ls f h.0 i.0 t, stands_shut s ls f n h.1 i.1)
-stands s (Par m n) ls f h i t = (stands s m ls f h.0 i.0 (λ l o. t l (inl o)), stands s n ls f h.1 i.1 (λ l o. t l (inr o)))
-stands s (If m n p) ls f h i t = (stands s m ls f h.0 i.0 t, stands_shut s ls f n h.1 i.1, stands_shut s ls f p h.2 i.2)
-stands s (Bin op m n) ls f h i t = (stands s m ls f h.0 i.0 t, stands_shut s ls f n h.1 i.1)
-stands s (Held k op n) ls f h i t = stands s n ls f h i t
-stands s (Not m) ls f h i t = stands s m ls f h i t
-stands s (Assign m n) ls f h i t = (stands_shut s ls f m h.0 i.0, stands s n ls f h.1 i.1 t)
-stands s (Scope k m) ls f h i t =
-    (t k (inl refl), stands s m (k ∷ ls) (besides s k ls f (t k (inl refl))) h i (λ l o. t l (inr o)))
-stands s m ls f h i t = stands_shut s ls f m h i
+mutual
+  pub stands : (s : Store) (m : Term) (ls : List ℕ) → ((l : ℕ) → Has l ls → Present s l) → InScope ls m → OpensInPlace m
+      → ((l : ℕ) → IsOpen l m → Present s l) → StandsIn s m
+  stands s (Seq m n) ls f h i t = (stands s m ls f h.0 i.0 t, stands_shut s ls f n h.1 i.1)
+  stands s (Par m n) ls f h i t = (stands s m ls f h.0 i.0 (λ l o. t l (inl o)), stands s n ls f h.1 i.1 (λ l o. t l (inr o)))
+  stands s (If m n p) ls f h i t = (stands s m ls f h.0 i.0 t, stands_shut s ls f n h.1 i.1, stands_shut s ls f p h.2 i.2)
+  stands s (Bin op m n) ls f h i t = (stands s m ls f h.0 i.0 t, stands_shut s ls f n h.1 i.1)
+  stands s (Held k op n) ls f h i t = stands s n ls f h i t
+  stands s (Not m) ls f h i t = stands s m ls f h i t
+  stands s (Assign m n) ls f h i t = (stands_shut s ls f m h.0 i.0, stands s n ls f h.1 i.1 t)
+  stands s (Scope k m) ls f h i t =
+      (t k (inl refl), stands s m (k ∷ ls) (besides s k ls f (t k (inl refl))) h i (λ l o. t l (inr o)))
+  stands s (Deref m) ls f h i t = stands_access s m ls f h i t
+  stands s (Put m k) ls f h i t = stands_access s m ls f h i t
+  stands s m ls f h i t = stands_shut s ls f m h i
+
+  stands_access : (s : Store) (m : Term) (ls : List ℕ) → ((l : ℕ) → Has l ls → Present s l) → InScope ls m → IsShut m ⊎ OpensInIndex m
+      → ((l : ℕ) → IsOpenInIndex l m → Present s l) → StandsIn s m
+  stands_access s m ls f h (inl i) t = stands_shut s ls f m h i
+  stands_access s (App g (Both b n)) ls f h (inr ((x, e), shut, i)) t =
+      (subst (StandsIn s) (sym e) tt, (stands_shut s ls f b h.1.0 shut, stands s n ls f h.1.1 i (λ l o. t l ((x, e), o))))
+  stands_access s m ls f h (inr i) t = absurd i
 
 pub runs_stay : RunsStay
 runs_stay p acts t s ty typed h =

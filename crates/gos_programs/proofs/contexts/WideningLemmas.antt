@@ -1,4 +1,5 @@
 -- Under more imports a term has its type. Its names are known in all that it becomes, and then it has no move there but its own.
+use Rattle.gos_model.specs.Accesses.{IsArrayImport}
 use Rattle.std.specs.Prelude.{◌≡◌, ℕ, zero, suc, Bool, true, false, List, [], ◌∷◌, Option, Some, None, nat_eq, if◌then◌else◌}
 use Rattle.std.proofs.Common.{refl, sym, subst, inl, inr, ◌∙◌}
 use Rattle.gos_types.specs.Types.{Type', Com, Exp, Var, Pair, Fun}
@@ -10,7 +11,8 @@ use Rattle.gos_model.specs.Reach.{Rel, Reached, Rewrites, Under, Aside}
 use Rattle.gos_model.specs.Steps.{Computes}
 use Rattle.gos_model.specs.Labels.{Label, IsAnswer}
 use Rattle.gos_model.specs.Moves.{Program, Config, Idle, Running, Act, Computing, Showing, Acts, ActsTo, Unfoldings, Move, Moves}
-use Rattle.gos_programs.specs.contexts.Contexts.{Context, SeqFirst, ParLeft, ParRight, IfTest, BinLeft, HeldRight, NotOf, AssignRight, ScopeBody, plug}
+use Rattle.gos_model.proofs.AccessMapLemmas.{puts_keep, reads_keep, writes_keep, puts_as, reads_as, writes_as}
+use Rattle.gos_programs.specs.contexts.Contexts.{Context, SeqFirst, ParLeft, ParRight, IfTest, BinLeft, HeldRight, NotOf, AssignRight, ScopeBody, ReadIndex, WriteIndex, plug}
 use Rattle.gos_programs.specs.contexts.Widening.{AreAmong, Knows, SourcesAreKnown, RunsAreKnown, MoveWidens, MovesWiden, MoveNarrows, WaitsWidely}
 use Rattle.gos_programs.proofs.contexts.BackwardLemmas.{OneHead, OneLabel}
 use Rattle.gos_programs.proofs.contexts.PluggedLemmas.{acts_of, reached_plugged, stays_running, inner_rest}
@@ -136,9 +138,17 @@ known_answer i o n k t h = absurd h
 known_label : (i : Imports) (o : Label) (a b : Term) → OneLabel i o a b → Knows i a → Knows i b
 known_label i o (Import x) b (inl (inl (h, e, et))) k = subst (Knows i) (sym et) k
 known_label i o (Import x) b (inl (inr (w, h, e, et))) k = subst (Knows i) (sym et) k
-known_label i o (Deref m) b (inl (x, w, em, h, e, et)) k = subst (Knows i) (sym et) (Var w, h)
-known_label i o (Put m n) b (inl (x, w, em, h, e, et)) k = subst (Knows i) (sym et) (Var w, h)
+known_label i o (Deref m) b (inl (inl (x, w, em, h, e, et))) k = subst (Knows i) (sym et) (Var w, h)
+known_label i o (Put m n) b (inl (inl (x, w, em, h, e, et))) k = subst (Knows i) (sym et) (Var w, h)
 known_label i o (Wait x n) b (inr (p, e, h)) k = known_answer i (import_type i x) n o.value b h
+known_label i o (Deref m) b (inl (inr (x, p, h))) k =
+    puts_keep i (Knows i) (λ (u : Term). Deref u) x (record { index = λ h n q. q.1; left = λ m n q. q.0; right = λ m n q. q.1; app = λ h n q r. (q, r); both = λ m n q r. (q, r); access = λ m q. q; value = λ k w. tt; skip = tt; wait = λ c w s array. (Fun (Exp c) (Var w), array) }) 2 0 o.event o.value m b h k
+known_label i o (Deref m) b (inr (x, p, h)) k =
+    reads_keep i (Knows i) (λ (u : Term). Deref u) x (record { index = λ h n q. q.1; left = λ m n q. q.0; right = λ m n q. q.1; app = λ h n q r. (q, r); both = λ m n q r. (q, r); access = λ m q. q; value = λ k w. tt; skip = tt; wait = λ c w s array. (Fun (Exp c) (Var w), array) }) o.event o.value m b h k
+known_label i o (Put m n) b (inl (inr (x, p, h))) k =
+    puts_keep i (Knows i) (λ (u : Term). Put u n) x (record { index = λ h n q. q.1; left = λ m n q. q.0; right = λ m n q. q.1; app = λ h n q r. (q, r); both = λ m n q r. (q, r); access = λ m q. q; value = λ k w. tt; skip = tt; wait = λ c w s array. (Fun (Exp c) (Var w), array) }) 4 n o.event o.value m b h k
+known_label i o (Put m n) b (inr (x, p, h)) k =
+    writes_keep i (Knows i) (λ (u : Term). Put u n) x (record { index = λ h n q. q.1; left = λ m n q. q.0; right = λ m n q. q.1; app = λ h n q r. (q, r); both = λ m n q r. (q, r); access = λ m q. q; value = λ k w. tt; skip = tt; wait = λ c w s array. (Fun (Exp c) (Var w), array) }) o.event o.value m b h k
 known_label i o a b (inl h) k = absurd h
 known_label i o a b (inr h) k = absurd h
 
@@ -173,6 +183,8 @@ keeps_in i (HeldRight n op) a b q h = q h
 keeps_in i NotOf a b q h = q h
 keeps_in i (AssignRight n) a b q (h, k) = (h, q k)
 keeps_in i (ScopeBody l) a b q h = q h
+keeps_in i (ReadIndex x n) a b q (w, (h, k)) = (w, (h, q k))
+keeps_in i (WriteIndex x n j) a b q (w, (h, k)) = (w, (h, q k))
 
 known_inside : (i : Imports) (c : Context) (a : Term) → Knows i (plug c a) → Knows i a
 known_inside i (SeqFirst n) a h = h.0
@@ -184,6 +196,8 @@ known_inside i (HeldRight n op) a h = h
 known_inside i NotOf a h = h
 known_inside i (AssignRight n) a h = h.1
 known_inside i (ScopeBody l) a h = h
+known_inside i (ReadIndex x n) a h = h.1.1
+known_inside i (WriteIndex x n j) a h = h.1.1
 
 unfoldings_known : (i : Imports) (n : ℕ) (m t : Term) → Unfoldings n m t → Knows i m → Knows i t
 unfoldings_known i zero m t h k = subst (Knows i) h k
@@ -223,23 +237,50 @@ answer_among i j among x (Some u) n k t e h = subst (λ (o : Option Type'). IsAn
 wider_label : (i j : Imports) → AreAmong i j → (o : Label) (a b : Term) → OneLabel i o a b → OneLabel j o a b
 wider_label i j among o (Import x) b (inl (inl (h, e, et))) = inl (inl (among x Com h, e, et))
 wider_label i j among o (Import x) b (inl (inr (w, h, e, et))) = inl (inr (w, among x (Exp w) h, e, et))
-wider_label i j among o (Deref m) b (inl (x, w, em, h, e, et)) = inl (x, w, em, among x (Var w) h, e, et)
-wider_label i j among o (Put m n) b (inl (x, w, em, h, e, et)) = inl (x, w, em, among x (Var w) h, e, et)
+wider_label i j among o (Deref m) b (inl (inl (x, w, em, h, e, et))) = inl (inl (x, w, em, among x (Var w) h, e, et))
+wider_label i j among o (Put m n) b (inl (inl (x, w, em, h, e, et))) = inl (inl (x, w, em, among x (Var w) h, e, et))
 wider_label i j among o (Wait x n) b (inr (p, e, h)) = inr (p, e, answer_among i j among x (import_type i x) n o.value b refl h)
+wider_label i j among o (Deref m) b (inl (inr (x, p, h))) =
+    inl (inr (x, p, puts_as i j (λ (u : Term). Deref u) 2 0 x o.event o.value m b (λ c w array. among x (Fun (Exp c) (Var w)) array) h))
+wider_label i j among o (Deref m) b (inr (x, p, h)) =
+    inr (x, p, reads_as i j (λ (u : Term). Deref u) x o.event o.value m b (λ c w array. among x (Fun (Exp c) (Var w)) array) h)
+wider_label i j among o (Put m n) b (inl (inr (x, p, h))) =
+    inl (inr (x, p, puts_as i j (λ (u : Term). Put u n) 4 n x o.event o.value m b (λ c w array. among x (Fun (Exp c) (Var w)) array) h))
+wider_label i j among o (Put m n) b (inr (x, p, h)) =
+    inr (x, p, writes_as i j (λ (u : Term). Put u n) x o.event o.value m b (λ c w array. among x (Fun (Exp c) (Var w)) array) h)
 wider_label i j among o a b (inl h) = absurd h
 wider_label i j among o a b (inr h) = absurd h
+
+-- the port of an access is known where the access is
+abbrev KnowsPort : Imports → Name → Type 0
+KnowsPort i x = (t : Type') × (import_type i x ≡ Some t)
+
+array_known : (i j : Imports) → AreAmong i j → (x : Name) → KnowsPort i x → (c w : ℕ) → IsArrayImport j x c w → IsArrayImport i x c w
+array_known i j among x (t, k) c w array = sym (same_type i j among x t k) ∙ array
 
 narrow_label : (i j : Imports) → AreAmong i j → (o : Label) (a b : Term) → OneLabel j o a b → Knows i a → OneLabel i o a b
 narrow_label i j among o (Import x) b (inl (inl (h, e, et))) (t, k) = inl (inl (sym (same_type i j among x t k) ∙ h, e, et))
 narrow_label i j among o (Import x) b (inl (inr (w, h, e, et))) (t, k) = inl (inr (w, sym (same_type i j among x t k) ∙ h, e, et))
-narrow_label i j among o (Deref m) b (inl (x, w, em, h, e, et)) k =
+narrow_label i j among o (Deref m) b (inl (inl (x, w, em, h, e, et))) k =
     let known : Knows i (Import x) = subst (Knows i) em k in
-    inl (x, w, em, sym (same_type i j among x known.0 known.1) ∙ h, e, et)
-narrow_label i j among o (Put m n) b (inl (x, w, em, h, e, et)) k =
+    inl (inl (x, w, em, sym (same_type i j among x known.0 known.1) ∙ h, e, et))
+narrow_label i j among o (Put m n) b (inl (inl (x, w, em, h, e, et))) k =
     let known : Knows i (Import x) = subst (Knows i) em k in
-    inl (x, w, em, sym (same_type i j among x known.0 known.1) ∙ h, e, et)
+    inl (inl (x, w, em, sym (same_type i j among x known.0 known.1) ∙ h, e, et))
 narrow_label i j among o (Wait x n) b (inr (p, e, h)) (t, k) =
     inr (p, e, subst (λ (y : Option Type'). IsAnswer y n o.value b) (same_type i j among x t k) h)
+narrow_label i j among o (Deref m) b (inl (inr (x, p, (c, w, n', array, inl (em, ee, ek, et))))) k =
+    inl (inr (x, p, (c, w, n', array_known i j among x (subst (Knows i) em k).0 c w array, inl (em, ee, ek, et))))
+narrow_label i j among o (Deref m) b (inl (inr (x, p, (c, w, n', array, inr (q, em, eq, ee, et))))) k =
+    inl (inr (x, p, (c, w, n', array_known i j among x (subst (Knows i) em k).0 c w array, inr (q, em, eq, ee, et))))
+narrow_label i j among o (Deref m) b (inr (x, p, (c, w, n', q, array, em, rest))) k =
+    inr (x, p, (c, w, n', q, array_known i j among x (subst (Knows i) em k).0 c w array, em, rest))
+narrow_label i j among o (Put m n) b (inl (inr (x, p, (c, w, n', array, inl (em, ee, ek, et))))) k =
+    inl (inr (x, p, (c, w, n', array_known i j among x (subst (Knows i) em k).0 c w array, inl (em, ee, ek, et))))
+narrow_label i j among o (Put m n) b (inl (inr (x, p, (c, w, n', array, inr (q, em, eq, ee, et))))) k =
+    inl (inr (x, p, (c, w, n', array_known i j among x (subst (Knows i) em k).0 c w array, inr (q, em, eq, ee, et))))
+narrow_label i j among o (Put m n) b (inr (x, p, (c, w, n', q, array, em, rest))) k =
+    inr (x, p, (c, w, n', q, array_known i j among x (subst (Knows i) em k).0 c w array, em, rest))
 narrow_label i j among o a b (inl h) k = absurd h
 narrow_label i j among o a b (inr h) k = absurd h
 

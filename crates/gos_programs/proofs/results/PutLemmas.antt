@@ -9,7 +9,7 @@ use Rattle.gos_model.specs.Typing.{Imports}
 use Rattle.gos_model.specs.Reach.{Rel, Rewrites, Under, Aside}
 use Rattle.gos_model.specs.Moves.{Unfoldings}
 use Rattle.gos_model.proofs.NumberLemmas.{number_cases}
-use Rattle.gos_programs.specs.contexts.Contexts.{Context, SeqFirst, ParLeft, ParRight, IfTest, BinLeft, HeldRight, NotOf, AssignRight, ScopeBody, plug}
+use Rattle.gos_programs.specs.contexts.Contexts.{Context, SeqFirst, ParLeft, ParRight, IfTest, BinLeft, HeldRight, NotOf, AssignRight, ScopeBody, ReadIndex, WriteIndex, plug}
 use Rattle.gos_programs.proofs.contexts.ReachedLemmas.{reached_lifted}
 use Rattle.gos_programs.proofs.contexts.BackwardLemmas.{OneHead}
 use Rattle.gos_programs.specs.results.HasTypes.{Widths, HasType}
@@ -105,6 +105,8 @@ keeps_in ws i (HeldRight n op) a b q t (w, e, f, h) = (w, e, f, q (Exp w) h)
 keeps_in ws i NotOf a b q t (w, e, h) = (w, e, q (Exp w) h)
 keeps_in ws i (AssignRight n) a b q t (w, e, h, k) = (w, e, h, q (Exp w) k)
 keeps_in ws i (ScopeBody l) a b q t (d, h) = (d, q t h)
+keeps_in ws i (ReadIndex x n) a b q t (w, e, (c, h, (u, v, pair, k, l))) = (w, e, (c, h, (u, v, pair, k, q v l)))
+keeps_in ws i (WriteIndex x n j) a b q t (w, e, f, (c, h, (u, v, pair, k, l))) = (w, e, f, (c, h, (u, v, pair, k, q v l)))
 
 -- heads
 function_sides : (a b c d : Type') → Fun a b ≡ Fun c d → (a ≡ c) × (b ≡ d)

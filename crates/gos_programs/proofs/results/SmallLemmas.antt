@@ -2,7 +2,7 @@
 use Rattle.std.specs.Prelude.{◌≡◌, ◌^◌, ◌<◌, ℕ, [], Some}
 use Rattle.std.proofs.Common.{arith, refl, sym, ap, subst, inl, inr, ◌∙◌}
 use Rattle.std.proofs.lemmas.Option.{none-some, same_Some}
-use Rattle.gos_types.specs.Types.{Com, Exp}
+use Rattle.gos_types.specs.Types.{Com, Exp, Var, Fun, Type', Pair}
 use Rattle.gos_types.proofs.TypeLemmas.{same_expression_width, same_variable_width}
 use Rattle.gos_model.specs.Terms.{Skip, Lit}
 use Rattle.gos_model.specs.Typing.{Named}
@@ -10,7 +10,7 @@ use Rattle.gos_model.specs.Stores.{Entry, entry_at}
 use Rattle.gos_model.specs.SmallPrograms.{c}
 use Rattle.gos_model.proofs.NumberLemmas.{number_cases}
 use Rattle.gos_programs.proofs.contexts.StoreLemmas.{later_at}
-use Rattle.gos_programs.specs.results.SmallResults.{one_entry, WritesFit, NoLocation, WaitsHaveTypes, SharingIsNotAsked, OneBitFits, SomeResults}
+use Rattle.gos_programs.specs.results.SmallResults.{one_entry, WritesFit, NoLocation, WaitsHaveTypes, AccessesHaveTypes, SharingIsNotAsked, OneBitFits, SomeResults}
 
 pub writes_fit : WritesFit
 writes_fit = (
@@ -27,6 +27,15 @@ no_location t (w, e, (d, here, wide)) = none-some d here
 
 pub waits_have_types : WaitsHaveTypes
 waits_have_types = (refl, λ t h. h)
+
+no_variable : (a : Type') (w v : ℕ) → Var v ≡ Fun a (Var w) → ⊥
+no_variable a w v e = cc e
+
+pub accesses_have_types : AccessesHaveTypes
+accesses_have_types = (
+  (8, refl, (Pair (Exp 1) (Exp 1), refl, (Exp 1, Exp 1, refl, (refl, omega arith), (refl, omega arith)))),
+  λ t h. no_variable (Pair (Exp 1) (Exp 1)) 8 h.0 h.2,
+)
 
 pub sharing_is_not_asked : SharingIsNotAsked
 sharing_is_not_asked = ((refl, refl, refl), λ h. h.3 (Named c) (0, omega arith, refl) (0, omega arith, refl))

@@ -1,11 +1,12 @@
 -- Steps and labels keep types, and a step keeps the widths of the locations that stay.
+use Rattle.gos_model.specs.Accesses.{IsArrayImport}
 use Rattle.std.specs.Prelude.{◌≡◌, ℕ, zero, suc, ◌+◌, ◌-◌, ◌^◌, ◌<◌, List, [], ◌∷◌, ◌⊎◌, Bool, true, false, Option, Some, None, nat_eq, nat_lt, if◌then◌else◌}
 use Rattle.std.proofs.Common.{arith, refl, sym, ap, subst, inl, inr, ◌∙◌}
 use Rattle.std.proofs.lemmas.Nat.{pow_pos, mod_below, and_le_l, or_lt, xor_lt}
 use Rattle.std.proofs.lemmas.Option.{same_Some}
-use Rattle.gos_types.specs.Types.{Type', Com, Exp, Var}
+use Rattle.gos_types.specs.Types.{Type', Com, Exp, Var, Fun, Pair}
 use Rattle.gos_types.proofs.TypeLemmas.{same_expression_width, same_variable_width}
-use Rattle.gos_model.specs.Terms.{Op, Add, Sub, And, Or, Xor, Eq, Less, Term, Skip, Lit, Import, Seq, Par, If, While, Assign, Deref, New, Not, Bin, Loc, Scope, Wait, Held, Put, result_of, result_width, complement}
+use Rattle.gos_model.specs.Terms.{Op, Add, Sub, And, Or, Xor, Eq, Less, Term, Skip, Lit, Import, Seq, Par, If, While, Assign, Deref, New, Not, Bin, Loc, Scope, Wait, Held, Put, result_of, result_width, complement, Name, App, Both}
 use Rattle.gos_model.specs.Substitution.{instantiate}
 use Rattle.gos_model.specs.Typing.{Imports, import_type}
 use Rattle.gos_model.specs.Stores.{Entry, Store, entry_at, store_put, without}
@@ -13,7 +14,7 @@ use Rattle.gos_model.specs.Reach.{Rel}
 use Rattle.gos_model.specs.Steps.{Computes}
 use Rattle.gos_model.specs.Labels.{Label, IsAnswer}
 use Rattle.gos_model.proofs.NumberLemmas.{number_cases}
-use Rattle.gos_programs.specs.contexts.Contexts.{Context, SeqFirst, ParLeft, ParRight, IfTest, BinLeft, HeldRight, NotOf, AssignRight, ScopeBody, plug}
+use Rattle.gos_programs.specs.contexts.Contexts.{Context, SeqFirst, ParLeft, ParRight, IfTest, BinLeft, HeldRight, NotOf, AssignRight, ScopeBody, ReadIndex, WriteIndex, plug}
 use Rattle.gos_programs.specs.contexts.Standing.{Present}
 use Rattle.gos_programs.proofs.contexts.StoreLemmas.{not_both, first_at, later_at, without_same, without_other, numbered, put_same, put_other}
 use Rattle.gos_programs.proofs.contexts.BackwardLemmas.{OneLabel}
@@ -69,6 +70,10 @@ kept_in i s u (HeldRight n op) a b q t (w, e, fits, h) f = let r = q (Exp w) h f
 kept_in i s u NotOf a b q t (w, e, h) f = let r = q (Exp w) h f in ((w, e, r.0), r.1, r.2)
 kept_in i s u (AssignRight n) a b q t (w, e, h, k) f = let r = q (Exp w) k f in ((w, e, over_both i s u n [] (Var w) h, r.0), r.1, r.2)
 kept_in i s u (ScopeBody l) a b q t (d, h) f = let r = q t h f in ((d, r.0), r.1, r.2)
+kept_in i s u (ReadIndex x n) a b q t (w, e, (c, h, (d, v, pair, k, l))) f =
+    let r = q v l f in ((w, e, (c, h, (d, v, pair, over_both i s u n [] d k, r.0))), r.1, r.2)
+kept_in i s u (WriteIndex x n j) a b q t (w, e, fits, (c, h, (d, v, pair, k, l))) f =
+    let r = q v l f in ((w, e, fits, (c, h, (d, v, pair, over_both i s u n [] d k, r.0))), r.1, r.2)
 
 -- a step that leaves the store as it is
 pub same_store : (i : Imports) (s u : Store) (b : Term) (t : Type') → u ≡ s → NumbersFit s → HasType (widths_of s) i [] b t
@@ -206,17 +211,86 @@ answer_typed ws i o n k b t h g = absurd h
 answers_as : (o p : Option Type') (n : ℕ) (t : Type') → o ≡ p → AnswersWith p n t → AnswersWith o n t
 answers_as o p n t e h = subst (λ (x : Option Type'). AnswersWith x n t) (sym e) h
 
+-- the port of an access that waits takes a pair
+array_type : (i : Imports) (x : Name) (c w n : ℕ) (a : Type') (v : ℕ) → IsArrayImport i x c w → n < 2 → AnswersWith (import_type i x) n (Fun a (Var v))
+    → Fun a (Var v) ≡ Fun (Pair (Exp c) (Exp c)) (Var w)
+array_type i x c w zero a v array small h = subst (λ (o : Option Type'). AnswersWith o 0 (Fun a (Var v))) array h
+array_type i x c w (suc zero) a v array small h = subst (λ (o : Option Type'). AnswersWith o 1 (Fun a (Var v))) array h
+array_type i x c w (suc (suc n)) a v array small h = absurd (omega (arith, small))
+
+waits_as : (i : Imports) (x : Name) (c w n : ℕ) → n < 2 → IsArrayImport i x c w → AnswersWith (import_type i x) n (Fun (Pair (Exp c) (Exp c)) (Var w))
+waits_as i x c w zero small array = answers_as (import_type i x) (Some (Fun (Exp c) (Var w))) 0 (Fun (Pair (Exp c) (Exp c)) (Var w)) array refl
+waits_as i x c w (suc zero) small array = answers_as (import_type i x) (Some (Fun (Exp c) (Var w))) 1 (Fun (Pair (Exp c) (Exp c)) (Var w)) array refl
+waits_as i x c w (suc (suc n)) small array = absurd (omega (arith, small))
+
+outcome_width : (a b : Type') (v w : ℕ) → Fun a (Var v) ≡ Fun b (Var w) → v ≡ w
+outcome_width a b v w e = let outcome : Var v ≡ Var w = cc e in same_variable_width v w outcome
+
+argument_type : (a b : Type') (v w : ℕ) → Fun a (Var v) ≡ Fun b (Var w) → a ≡ b
+argument_type a b v w e = cc e
+
+pair_sides : (a b c d : Type') → Pair a b ≡ Pair c d → (a ≡ c) × (b ≡ d)
+pair_sides a b c d e = (cc e, cc e)
+
+-- an access, with an index of its type as it was written and as it is now
+access : (ws : Widths) (i : Imports) (x : Name) (c w v s : ℕ) (n j : Term) → s < 2 → IsArrayImport i x c w → v ≡ w
+    → HasType ws i [] n (Exp c) → HasType ws i [] j (Exp c) → HasType ws i [] (App (Wait x s) (Both n j)) (Var v)
+access ws i x c w v s n j small array wide h k =
+    subst (λ (u : ℕ). HasType ws i [] (App (Wait x s) (Both n j)) (Var u)) (sym wide)
+    (Pair (Exp c) (Exp c), waits_as i x c w s small array, (Exp c, Exp c, refl, h, k))
+
+-- what is known of an access before it begins, and while it waits
+fresh_index : (ws : Widths) (i : Imports) (x : Name) (c w v : ℕ) (m n : Term) → IsArrayImport i x c w → m ≡ App (Import x) n
+    → HasType ws i [] m (Var v) → (v ≡ w) × HasType ws i [] n (Exp c)
+fresh_index ws i x c w v m n array em h =
+    let (a, here, k) = subst (λ (y : Term). HasType ws i [] y (Var v)) em h in
+    let same : Fun a (Var v) ≡ Fun (Exp c) (Var w) = same_Some (Fun a (Var v)) (Fun (Exp c) (Var w)) (sym here ∙ array) in
+    (outcome_width a (Exp c) v w same, subst (λ (t : Type'). HasType ws i [] n t) (argument_type a (Exp c) v w same) k)
+
+waiting_index : (ws : Widths) (i : Imports) (x : Name) (c w v s : ℕ) (m n j : Term) → s < 2 → IsArrayImport i x c w → m ≡ App (Wait x s) (Both n j)
+    → HasType ws i [] m (Var v) → (v ≡ w) × HasType ws i [] n (Exp c) × HasType ws i [] j (Exp c)
+waiting_index ws i x c w v s m n j small array em h =
+    let (a, here, (b, d, pair, k, l)) = subst (λ (y : Term). HasType ws i [] y (Var v)) em h in
+    let same = array_type i x c w s a v array small here in
+    let sides = pair_sides b d (Exp c) (Exp c) (sym pair ∙ argument_type a (Pair (Exp c) (Exp c)) v w same) in (
+      outcome_width a (Pair (Exp c) (Exp c)) v w same,
+      subst (λ (t : Type'). HasType ws i [] n t) sides.0 k,
+      subst (λ (t : Type'). HasType ws i [] j t) sides.1 l,
+    )
+
 pub label_keeps : (ws : Widths) (i : Imports) (o : Label) (a b : Term) → OneLabel i o a b → KeepsType ws i a b
 label_keeps ws i o (Import x) b (inl (inl (here, e, et))) t h =
     to_term ws i t (Wait x 1) b et (answers_as (import_type i x) (Some Com) 1 t here (same_Some t Com (sym h ∙ here)))
 label_keeps ws i o (Import x) b (inl (inr (w, here, e, et))) t h =
     to_term ws i t (Wait x 1) b et (answers_as (import_type i x) (Some (Exp w)) 1 t here (same_Some t (Exp w) (sym h ∙ here)))
-label_keeps ws i o (Deref m) b (inl (x, w, em, here, e, et)) t (v, is, h) =
+label_keeps ws i o (Deref m) b (inl (inl (x, w, em, here, e, et))) t (v, is, h) =
     let at : HasType ws i [] (Import x) (Var v) = subst (λ (y : Term). HasType ws i [] y (Var v)) em h in
     to_term ws i t (Wait x 1) b et
     (answers_as (import_type i x) (Some (Var w)) 1 t here (is ∙ ap (λ y. Exp y) (same_variable_width v w (same_Some (Var v) (Var w) (sym at ∙ here)))))
-label_keeps ws i o (Put m k) b (inl (x, w, em, here, e, et)) t (v, is, fits, h) =
+label_keeps ws i o (Put m k) b (inl (inl (x, w, em, here, e, et))) t (v, is, fits, h) =
     to_term ws i t (Wait x 3) b et (answers_as (import_type i x) (Some (Var w)) 3 t here is)
 label_keeps ws i o (Wait x n) b (inr (p, e, h)) t k = answer_typed ws i (import_type i x) n o.value b t h k
+label_keeps ws i o (Deref m) b (inl (inr (x, p, (c, w, n, array, inl (em, ee, ek, et))))) t (v, is, h) =
+    let known = fresh_index ws i x c w v m n array em h in
+    to_term ws i t (Deref (App (Wait x 1) (Both n n))) b et (v, is, access ws i x c w v 1 n n (omega arith) array known.0 known.1 known.1)
+label_keeps ws i o (Deref m) b (inl (inr (x, p, (c, w, n, array, inr (j, em, ej, ee, et))))) t (v, is, h) =
+    let known = waiting_index ws i x c w v 0 m n j (omega arith) array em h in
+    to_term ws i t (Deref (App (Wait x 1) (Both n j))) b et (v, is, access ws i x c w v 1 n j (omega arith) array known.0 known.1 known.2)
+label_keeps ws i o (Deref m) b (inr (x, p, (c, w, n, j, array, em, inl (ee, ek, et)))) t (v, is, h) =
+    let known = waiting_index ws i x c w v 1 m n j (omega arith) array em h in
+    to_term ws i t (Deref (App (Wait x 0) (Both n n))) b et (v, is, access ws i x c w v 0 n n (omega arith) array known.0 known.1 known.1)
+label_keeps ws i o (Deref m) b (inr (x, p, (c, w, n, j, array, em, inr (ee, fits, et)))) t (v, is, h) =
+    let known = waiting_index ws i x c w v 1 m n j (omega arith) array em h in
+    to_term ws i t (Lit o.value w) b et (is ∙ ap (λ y. Exp y) known.0, fits)
+label_keeps ws i o (Put m k) b (inl (inr (x, p, (c, w, n, array, inl (em, ee, ek, et))))) t (v, is, fits, h) =
+    let known = fresh_index ws i x c w v m n array em h in
+    to_term ws i t (Put (App (Wait x 1) (Both n n)) k) b et (v, is, fits, access ws i x c w v 1 n n (omega arith) array known.0 known.1 known.1)
+label_keeps ws i o (Put m k) b (inl (inr (x, p, (c, w, n, array, inr (j, em, ej, ee, et))))) t (v, is, fits, h) =
+    let known = waiting_index ws i x c w v 0 m n j (omega arith) array em h in
+    to_term ws i t (Put (App (Wait x 1) (Both n j)) k) b et (v, is, fits, access ws i x c w v 1 n j (omega arith) array known.0 known.1 known.2)
+label_keeps ws i o (Put m k) b (inr (x, p, (c, w, n, j, array, em, inl (ee, ek, et)))) t (v, is, fits, h) =
+    let known = waiting_index ws i x c w v 1 m n j (omega arith) array em h in
+    to_term ws i t (Put (App (Wait x 0) (Both n n)) k) b et (v, is, fits, access ws i x c w v 0 n n (omega arith) array known.0 known.1 known.1)
+label_keeps ws i o (Put m k) b (inr (x, p, (c, w, n, j, array, em, inr (ee, ek, et)))) t (v, is, fits, h) = to_term ws i t Skip b et is
 label_keeps ws i o a b (inl h) t k = absurd h
 label_keeps ws i o a b (inr h) t k = absurd h

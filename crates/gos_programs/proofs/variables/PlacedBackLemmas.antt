@@ -5,7 +5,7 @@ use Rattle.std.specs.Str.{bytes_eq}
 use Rattle.gos_types.specs.Types.{Type'}
 use Rattle.gos_model.specs.Terms.{Name, Term, Skip, Lit, Import, Lam, App, Both, Fst, Snd, Seq, Par, If, Assign, Deref, Not, Bin, Loc, Scope, Wait, Held, Put}
 use Rattle.gos_model.specs.Substitution.{instantiate}
-use Rattle.gos_model.specs.Reach.{Rel, Reached, Below, Rewrites, Under, Aside}
+use Rattle.gos_model.specs.Reach.{Rel, Reached, Below, InIndex, Rewrites, Under, Aside}
 use Rattle.gos_model.specs.Steps.{IsValue}
 use Rattle.gos_model.specs.Moves.{Unfoldings}
 use Rattle.gos_programs.specs.contexts.LocalVariable.{wait_for, placed}
@@ -34,6 +34,22 @@ no_pair z x false a c h = cc h
 no_below : (S : Rel) (z : ℕ) (x : Name) (b : Bool) (v : Term) → Below S (if b then Loc z else Import x) v → ⊥
 no_below S z x true v h = h
 no_below S z x false v h = h
+
+no_in_index : (S : Rel) (z : ℕ) (x : Name) (b : Bool) (v : Term) → InIndex S (if b then Loc z else Import x) v → ⊥
+no_in_index S z x true v h = h
+no_in_index S z x false v h = h
+
+no_import_index : (S : Rel) (h : Term) (z : ℕ) (x : Name) (b : Bool) (v : Term) → InIndex S (App h (if b then Loc z else Import x)) v → ⊥
+no_import_index S h z x true v k = k
+no_import_index S h z x false v k = k
+
+no_app : (z : ℕ) (x : Name) (b : Bool) (a c : Term) → (if b then Loc z else Import x) ≡ App a c → ⊥
+no_app z x true a c h = cc h
+no_app z x false a c h = cc h
+
+no_wait : (z : ℕ) (x : Name) (b : Bool) (a : Name) (s : ℕ) → (if b then Loc z else Import x) ≡ Wait a s → ⊥
+no_wait z x true a s h = cc h
+no_wait z x false a s h = cc h
 
 no_rewrite : (z : ℕ) (x : Name) (b : Bool) (v : Term) → Rewrites (if b then Loc z else Import x) v → ⊥
 no_rewrite z x true v h = h
@@ -84,6 +100,23 @@ module _ (r : ℕ → ℕ) (y : Name) (z : ℕ) where
   is_import (Wait v n) x f h = let bad : Wait v n ≡ Import x = sym (wait_at v n f) ∙ h in absurd (cc bad)
   is_import m x f h = absurd (cc h)
 
+  pub is_wait : (m : Term) (x : Name) (s : ℕ) → HasNoWaitAt y m → at m ≡ Wait x s → (m ≡ Wait x s) × (bytes_eq x y ≡ false)
+  is_wait (Wait v n) x s f h =
+      let one : Wait v n ≡ Wait x s = sym (wait_at v n f) ∙ h in
+      let name : v ≡ x = cc one in (one, subst (λ (n : Name). bytes_eq n y ≡ false) name f)
+  is_wait (Import v) x s f h = absurd (no_wait z v (bytes_eq v y) x s h)
+  is_wait m x s f h = absurd (cc h)
+
+  pub is_app : (m g n : Term) → HasNoWaitAt y m → at m ≡ App g n
+      → (h : Term) × (p : Term) × (m ≡ App h p) × (at h ≡ g) × (at p ≡ n) × HasNoWaitAt y h × HasNoWaitAt y p
+  is_app (App h p) g n f e =
+      let one : at h ≡ g = cc e in
+      let other : at p ≡ n = cc e in
+      (h, p, refl, one, other, f.0, f.1)
+  is_app (Import x) g n f e = absurd (no_app z x (bytes_eq x y) g n e)
+  is_app (Wait x s) g n f e = let bad : Wait x s ≡ App g n = sym (wait_at x s f) ∙ e in absurd (cc bad)
+  is_app m g n f e = absurd (cc e)
+
   pub is_loc : (m : Term) (l : ℕ) → HasNoWaitAt y m → at m ≡ Loc l → ((k : ℕ) × (m ≡ Loc k) × (r k ≡ l)) ⊎ ((m ≡ Import y) × (z ≡ l))
   is_loc (Loc k) l f h = let same : r k ≡ l = cc h in inl (k, refl, same)
   is_loc (Import x) l f h =
@@ -103,7 +136,7 @@ module _ (r : ℕ → ℕ) (y : Name) (z : ℕ) where
   is_lam (Wait x n) a b f h = let bad : Wait x n ≡ Lam a b = sym (wait_at x n f) ∙ h in absurd (cc bad)
   is_lam m a b f h = absurd (cc h)
 
-  is_pair : (m a b : Term) → HasNoWaitAt y m → at m ≡ Both a b → (c : Term) × (d : Term) × (m ≡ Both c d) × (at c ≡ a) × (at d ≡ b)
+  pub is_pair : (m a b : Term) → HasNoWaitAt y m → at m ≡ Both a b → (c : Term) × (d : Term) × (m ≡ Both c d) × (at c ≡ a) × (at d ≡ b)
   is_pair (Both c d) a b f h =
       let one : at c ≡ a = cc h in
       let other : at d ≡ b = cc h in
@@ -120,47 +153,64 @@ module _ (r : ℕ → ℕ) (y : Name) (z : ℕ) where
   abbrev Back : Rel → Term → Term → Type 0
   Back R m v = (t : Term) × (v ≡ at t) × R m t
 
-  below_back : (R S : Rel) → ((a v : Term) → HasNoWaitAt y a → S (at a) v → Back R a v) → (m v : Term) → HasNoWaitAt y m → Below S (at m) v
-      → Back (Below R) m v
-  below_back R S g (Seq m n) v f (m', e, inl h) =
-      let u = g m m' f.0 h in (Seq u.0 n, e ∙ ap (λ (x : Term). Seq x (at n)) u.1, (u.0, refl, inl u.2))
-  below_back R S g (Seq m n) v f (m', e, inr h) =
-      let u = below_back R S g m m' f.0 h in (Seq u.0 n, e ∙ ap (λ (x : Term). Seq x (at n)) u.1, (u.0, refl, inr u.2))
-  below_back R S g (Par m n) v f (inl (m', e, inl h)) =
-      let u = g m m' f.0 h in (Par u.0 n, e ∙ ap (λ (x : Term). Par x (at n)) u.1, inl (u.0, refl, inl u.2))
-  below_back R S g (Par m n) v f (inl (m', e, inr h)) =
-      let u = below_back R S g m m' f.0 h in (Par u.0 n, e ∙ ap (λ (x : Term). Par x (at n)) u.1, inl (u.0, refl, inr u.2))
-  below_back R S g (Par m n) v f (inr (n', e, inl h)) =
-      let u = g n n' f.1 h in (Par m u.0, e ∙ ap (λ (x : Term). Par (at m) x) u.1, inr (u.0, refl, inl u.2))
-  below_back R S g (Par m n) v f (inr (n', e, inr h)) =
-      let u = below_back R S g n n' f.1 h in (Par m u.0, e ∙ ap (λ (x : Term). Par (at m) x) u.1, inr (u.0, refl, inr u.2))
-  below_back R S g (If m n p) v f (m', e, inl h) =
-      let u = g m m' f.0 h in (If u.0 n p, e ∙ ap (λ (x : Term). If x (at n) (at p)) u.1, (u.0, refl, inl u.2))
-  below_back R S g (If m n p) v f (m', e, inr h) =
-      let u = below_back R S g m m' f.0 h in (If u.0 n p, e ∙ ap (λ (x : Term). If x (at n) (at p)) u.1, (u.0, refl, inr u.2))
-  below_back R S g (Bin op m n) v f (m', e, inl h) =
-      let u = g m m' f.0 h in (Bin op u.0 n, e ∙ ap (λ (x : Term). Bin op x (at n)) u.1, (u.0, refl, inl u.2))
-  below_back R S g (Bin op m n) v f (m', e, inr h) =
-      let u = below_back R S g m m' f.0 h in (Bin op u.0 n, e ∙ ap (λ (x : Term). Bin op x (at n)) u.1, (u.0, refl, inr u.2))
-  below_back R S g (Held k op n) v f (n', e, inl h) =
-      let u = g n n' f h in (Held k op u.0, e ∙ ap (λ (x : Term). Held k op x) u.1, (u.0, refl, inl u.2))
-  below_back R S g (Held k op n) v f (n', e, inr h) =
-      let u = below_back R S g n n' f h in (Held k op u.0, e ∙ ap (λ (x : Term). Held k op x) u.1, (u.0, refl, inr u.2))
-  below_back R S g (Not m) v f (m', e, inl h) =
-      let u = g m m' f h in (Not u.0, e ∙ ap (λ (x : Term). Not x) u.1, (u.0, refl, inl u.2))
-  below_back R S g (Not m) v f (m', e, inr h) =
-      let u = below_back R S g m m' f h in (Not u.0, e ∙ ap (λ (x : Term). Not x) u.1, (u.0, refl, inr u.2))
-  below_back R S g (Assign m n) v f (n', e, inl h) =
-      let u = g n n' f.1 h in (Assign m u.0, e ∙ ap (λ (x : Term). Assign (at m) x) u.1, (u.0, refl, inl u.2))
-  below_back R S g (Assign m n) v f (n', e, inr h) =
-      let u = below_back R S g n n' f.1 h in (Assign m u.0, e ∙ ap (λ (x : Term). Assign (at m) x) u.1, (u.0, refl, inr u.2))
-  below_back R S g (Scope l m) v f (m', e, inl h) =
-      let u = g m m' f h in (Scope l u.0, e ∙ ap (λ (x : Term). Scope (r l) x) u.1, (u.0, refl, inl u.2))
-  below_back R S g (Scope l m) v f (m', e, inr h) =
-      let u = below_back R S g m m' f h in (Scope l u.0, e ∙ ap (λ (x : Term). Scope (r l) x) u.1, (u.0, refl, inr u.2))
-  below_back R S g (Import x) v f h = absurd (no_below S z x (bytes_eq x y) v h)
-  below_back R S g (Wait x n) v f h = absurd (subst (λ (t : Term). Below S t v) (wait_at x n f) h)
-  below_back R S g m v f h = absurd h
+  mutual
+    below_back : (R S : Rel) → ((a v : Term) → HasNoWaitAt y a → S (at a) v → Back R a v) → (m v : Term) → HasNoWaitAt y m → Below S (at m) v
+        → Back (Below R) m v
+    below_back R S g (Seq m n) v f (m', e, inl h) =
+        let u = g m m' f.0 h in (Seq u.0 n, e ∙ ap (λ (x : Term). Seq x (at n)) u.1, (u.0, refl, inl u.2))
+    below_back R S g (Seq m n) v f (m', e, inr h) =
+        let u = below_back R S g m m' f.0 h in (Seq u.0 n, e ∙ ap (λ (x : Term). Seq x (at n)) u.1, (u.0, refl, inr u.2))
+    below_back R S g (Par m n) v f (inl (m', e, inl h)) =
+        let u = g m m' f.0 h in (Par u.0 n, e ∙ ap (λ (x : Term). Par x (at n)) u.1, inl (u.0, refl, inl u.2))
+    below_back R S g (Par m n) v f (inl (m', e, inr h)) =
+        let u = below_back R S g m m' f.0 h in (Par u.0 n, e ∙ ap (λ (x : Term). Par x (at n)) u.1, inl (u.0, refl, inr u.2))
+    below_back R S g (Par m n) v f (inr (n', e, inl h)) =
+        let u = g n n' f.1 h in (Par m u.0, e ∙ ap (λ (x : Term). Par (at m) x) u.1, inr (u.0, refl, inl u.2))
+    below_back R S g (Par m n) v f (inr (n', e, inr h)) =
+        let u = below_back R S g n n' f.1 h in (Par m u.0, e ∙ ap (λ (x : Term). Par (at m) x) u.1, inr (u.0, refl, inr u.2))
+    below_back R S g (If m n p) v f (m', e, inl h) =
+        let u = g m m' f.0 h in (If u.0 n p, e ∙ ap (λ (x : Term). If x (at n) (at p)) u.1, (u.0, refl, inl u.2))
+    below_back R S g (If m n p) v f (m', e, inr h) =
+        let u = below_back R S g m m' f.0 h in (If u.0 n p, e ∙ ap (λ (x : Term). If x (at n) (at p)) u.1, (u.0, refl, inr u.2))
+    below_back R S g (Bin op m n) v f (m', e, inl h) =
+        let u = g m m' f.0 h in (Bin op u.0 n, e ∙ ap (λ (x : Term). Bin op x (at n)) u.1, (u.0, refl, inl u.2))
+    below_back R S g (Bin op m n) v f (m', e, inr h) =
+        let u = below_back R S g m m' f.0 h in (Bin op u.0 n, e ∙ ap (λ (x : Term). Bin op x (at n)) u.1, (u.0, refl, inr u.2))
+    below_back R S g (Held k op n) v f (n', e, inl h) =
+        let u = g n n' f h in (Held k op u.0, e ∙ ap (λ (x : Term). Held k op x) u.1, (u.0, refl, inl u.2))
+    below_back R S g (Held k op n) v f (n', e, inr h) =
+        let u = below_back R S g n n' f h in (Held k op u.0, e ∙ ap (λ (x : Term). Held k op x) u.1, (u.0, refl, inr u.2))
+    below_back R S g (Not m) v f (m', e, inl h) =
+        let u = g m m' f h in (Not u.0, e ∙ ap (λ (x : Term). Not x) u.1, (u.0, refl, inl u.2))
+    below_back R S g (Not m) v f (m', e, inr h) =
+        let u = below_back R S g m m' f h in (Not u.0, e ∙ ap (λ (x : Term). Not x) u.1, (u.0, refl, inr u.2))
+    below_back R S g (Assign m n) v f (n', e, inl h) =
+        let u = g n n' f.1 h in (Assign m u.0, e ∙ ap (λ (x : Term). Assign (at m) x) u.1, (u.0, refl, inl u.2))
+    below_back R S g (Assign m n) v f (n', e, inr h) =
+        let u = below_back R S g n n' f.1 h in (Assign m u.0, e ∙ ap (λ (x : Term). Assign (at m) x) u.1, (u.0, refl, inr u.2))
+    below_back R S g (Scope l m) v f (m', e, inl h) =
+        let u = g m m' f h in (Scope l u.0, e ∙ ap (λ (x : Term). Scope (r l) x) u.1, (u.0, refl, inl u.2))
+    below_back R S g (Scope l m) v f (m', e, inr h) =
+        let u = below_back R S g m m' f h in (Scope l u.0, e ∙ ap (λ (x : Term). Scope (r l) x) u.1, (u.0, refl, inr u.2))
+    below_back R S g (Import x) v f h = absurd (no_below S z x (bytes_eq x y) v h)
+    below_back R S g (Wait x n) v f h = absurd (subst (λ (t : Term). Below S t v) (wait_at x n f) h)
+    below_back R S g (Deref m) v f (m', e, h) = let u = index_back R S g m m' f h in (Deref u.0, e ∙ ap (λ (x : Term). Deref x) u.1, (u.0, refl, u.2))
+    below_back R S g (Put m k) v f (m', e, h) = let u = index_back R S g m m' f h in (Put u.0 k, e ∙ ap (λ (x : Term). Put x k) u.1, (u.0, refl, u.2))
+    below_back R S g m v f h = absurd h
+
+    index_back : (R S : Rel) → ((a v : Term) → HasNoWaitAt y a → S (at a) v → Back R a v) → (m v : Term) → HasNoWaitAt y m → InIndex S (at m) v
+        → Back (InIndex R) m v
+    index_back R S g (App h (Both b n)) v f ((x, head), n', e, inl k) =
+        let u = g n n' f.1.1 k in
+        (App h (Both b u.0), e ∙ ap (λ (t : Term). App (at h) (Both (at b) t)) u.1, ((x, (is_wait h x 0 f.0 head).0), u.0, refl, inl u.2))
+    index_back R S g (App h (Both b n)) v f ((x, head), n', e, inr k) =
+        let u = below_back R S g n n' f.1.1 k in
+        (App h (Both b u.0), e ∙ ap (λ (t : Term). App (at h) (Both (at b) t)) u.1, ((x, (is_wait h x 0 f.0 head).0), u.0, refl, inr u.2))
+    index_back R S g (App h (Import y')) v f k = absurd (no_import_index S (at h) z y' (bytes_eq y' y) v k)
+    index_back R S g (App h (Wait y' s)) v f k = absurd (subst (λ (t : Term). InIndex S (App (at h) t) v) (wait_at y' s f.1) k)
+    index_back R S g (Import x) v f h = absurd (no_in_index S z x (bytes_eq x y) v h)
+    index_back R S g (Wait x n) v f h = absurd (subst (λ (t : Term). InIndex S t v) (wait_at x n f) h)
+    index_back R S g m v f h = absurd h
 
   pub reached_back : (R S : Rel) → ((a v : Term) → HasNoWaitAt y a → S (at a) v → Back R a v) → (m v : Term) → HasNoWaitAt y m
       → Reached S (at m) v → Back (Reached R) m v
@@ -168,29 +218,44 @@ module _ (r : ℕ → ℕ) (y : Name) (z : ℕ) where
   reached_back R S g m v f (inr h) = let k = below_back R S g m v f h in (k.0, k.1, inr k.2)
 
   -- where a term with the location does something, the term does something
-  below_some : (R S : Rel) → ((a v : Term) → HasNoWaitAt y a → S (at a) v → (t : Term) × R a t) → (m v : Term) → HasNoWaitAt y m
-      → Below S (at m) v → (t : Term) × Below R m t
-  below_some R S g (Seq m n) v f (m', e, inl h) = let u = g m m' f.0 h in (Seq u.0 n, (u.0, refl, inl u.1))
-  below_some R S g (Seq m n) v f (m', e, inr h) = let u = below_some R S g m m' f.0 h in (Seq u.0 n, (u.0, refl, inr u.1))
-  below_some R S g (Par m n) v f (inl (m', e, inl h)) = let u = g m m' f.0 h in (Par u.0 n, inl (u.0, refl, inl u.1))
-  below_some R S g (Par m n) v f (inl (m', e, inr h)) = let u = below_some R S g m m' f.0 h in (Par u.0 n, inl (u.0, refl, inr u.1))
-  below_some R S g (Par m n) v f (inr (n', e, inl h)) = let u = g n n' f.1 h in (Par m u.0, inr (u.0, refl, inl u.1))
-  below_some R S g (Par m n) v f (inr (n', e, inr h)) = let u = below_some R S g n n' f.1 h in (Par m u.0, inr (u.0, refl, inr u.1))
-  below_some R S g (If m n p) v f (m', e, inl h) = let u = g m m' f.0 h in (If u.0 n p, (u.0, refl, inl u.1))
-  below_some R S g (If m n p) v f (m', e, inr h) = let u = below_some R S g m m' f.0 h in (If u.0 n p, (u.0, refl, inr u.1))
-  below_some R S g (Bin op m n) v f (m', e, inl h) = let u = g m m' f.0 h in (Bin op u.0 n, (u.0, refl, inl u.1))
-  below_some R S g (Bin op m n) v f (m', e, inr h) = let u = below_some R S g m m' f.0 h in (Bin op u.0 n, (u.0, refl, inr u.1))
-  below_some R S g (Held k op n) v f (n', e, inl h) = let u = g n n' f h in (Held k op u.0, (u.0, refl, inl u.1))
-  below_some R S g (Held k op n) v f (n', e, inr h) = let u = below_some R S g n n' f h in (Held k op u.0, (u.0, refl, inr u.1))
-  below_some R S g (Not m) v f (m', e, inl h) = let u = g m m' f h in (Not u.0, (u.0, refl, inl u.1))
-  below_some R S g (Not m) v f (m', e, inr h) = let u = below_some R S g m m' f h in (Not u.0, (u.0, refl, inr u.1))
-  below_some R S g (Assign m n) v f (n', e, inl h) = let u = g n n' f.1 h in (Assign m u.0, (u.0, refl, inl u.1))
-  below_some R S g (Assign m n) v f (n', e, inr h) = let u = below_some R S g n n' f.1 h in (Assign m u.0, (u.0, refl, inr u.1))
-  below_some R S g (Scope l m) v f (m', e, inl h) = let u = g m m' f h in (Scope l u.0, (u.0, refl, inl u.1))
-  below_some R S g (Scope l m) v f (m', e, inr h) = let u = below_some R S g m m' f h in (Scope l u.0, (u.0, refl, inr u.1))
-  below_some R S g (Import x) v f h = absurd (no_below S z x (bytes_eq x y) v h)
-  below_some R S g (Wait x n) v f h = absurd (subst (λ (t : Term). Below S t v) (wait_at x n f) h)
-  below_some R S g m v f h = absurd h
+  mutual
+    below_some : (R S : Rel) → ((a v : Term) → HasNoWaitAt y a → S (at a) v → (t : Term) × R a t) → (m v : Term) → HasNoWaitAt y m
+        → Below S (at m) v → (t : Term) × Below R m t
+    below_some R S g (Seq m n) v f (m', e, inl h) = let u = g m m' f.0 h in (Seq u.0 n, (u.0, refl, inl u.1))
+    below_some R S g (Seq m n) v f (m', e, inr h) = let u = below_some R S g m m' f.0 h in (Seq u.0 n, (u.0, refl, inr u.1))
+    below_some R S g (Par m n) v f (inl (m', e, inl h)) = let u = g m m' f.0 h in (Par u.0 n, inl (u.0, refl, inl u.1))
+    below_some R S g (Par m n) v f (inl (m', e, inr h)) = let u = below_some R S g m m' f.0 h in (Par u.0 n, inl (u.0, refl, inr u.1))
+    below_some R S g (Par m n) v f (inr (n', e, inl h)) = let u = g n n' f.1 h in (Par m u.0, inr (u.0, refl, inl u.1))
+    below_some R S g (Par m n) v f (inr (n', e, inr h)) = let u = below_some R S g n n' f.1 h in (Par m u.0, inr (u.0, refl, inr u.1))
+    below_some R S g (If m n p) v f (m', e, inl h) = let u = g m m' f.0 h in (If u.0 n p, (u.0, refl, inl u.1))
+    below_some R S g (If m n p) v f (m', e, inr h) = let u = below_some R S g m m' f.0 h in (If u.0 n p, (u.0, refl, inr u.1))
+    below_some R S g (Bin op m n) v f (m', e, inl h) = let u = g m m' f.0 h in (Bin op u.0 n, (u.0, refl, inl u.1))
+    below_some R S g (Bin op m n) v f (m', e, inr h) = let u = below_some R S g m m' f.0 h in (Bin op u.0 n, (u.0, refl, inr u.1))
+    below_some R S g (Held k op n) v f (n', e, inl h) = let u = g n n' f h in (Held k op u.0, (u.0, refl, inl u.1))
+    below_some R S g (Held k op n) v f (n', e, inr h) = let u = below_some R S g n n' f h in (Held k op u.0, (u.0, refl, inr u.1))
+    below_some R S g (Not m) v f (m', e, inl h) = let u = g m m' f h in (Not u.0, (u.0, refl, inl u.1))
+    below_some R S g (Not m) v f (m', e, inr h) = let u = below_some R S g m m' f h in (Not u.0, (u.0, refl, inr u.1))
+    below_some R S g (Assign m n) v f (n', e, inl h) = let u = g n n' f.1 h in (Assign m u.0, (u.0, refl, inl u.1))
+    below_some R S g (Assign m n) v f (n', e, inr h) = let u = below_some R S g n n' f.1 h in (Assign m u.0, (u.0, refl, inr u.1))
+    below_some R S g (Scope l m) v f (m', e, inl h) = let u = g m m' f h in (Scope l u.0, (u.0, refl, inl u.1))
+    below_some R S g (Scope l m) v f (m', e, inr h) = let u = below_some R S g m m' f h in (Scope l u.0, (u.0, refl, inr u.1))
+    below_some R S g (Import x) v f h = absurd (no_below S z x (bytes_eq x y) v h)
+    below_some R S g (Wait x n) v f h = absurd (subst (λ (t : Term). Below S t v) (wait_at x n f) h)
+    below_some R S g (Deref m) v f (m', e, h) = let u = index_some R S g m m' f h in (Deref u.0, (u.0, refl, u.1))
+    below_some R S g (Put m k) v f (m', e, h) = let u = index_some R S g m m' f h in (Put u.0 k, (u.0, refl, u.1))
+    below_some R S g m v f h = absurd h
+
+    index_some : (R S : Rel) → ((a v : Term) → HasNoWaitAt y a → S (at a) v → (t : Term) × R a t) → (m v : Term) → HasNoWaitAt y m
+        → InIndex S (at m) v → (t : Term) × InIndex R m t
+    index_some R S g (App h (Both b n)) v f ((x, head), n', e, inl k) =
+        let u = g n n' f.1.1 k in (App h (Both b u.0), ((x, (is_wait h x 0 f.0 head).0), u.0, refl, inl u.1))
+    index_some R S g (App h (Both b n)) v f ((x, head), n', e, inr k) =
+        let u = below_some R S g n n' f.1.1 k in (App h (Both b u.0), ((x, (is_wait h x 0 f.0 head).0), u.0, refl, inr u.1))
+    index_some R S g (App h (Import y')) v f k = absurd (no_import_index S (at h) z y' (bytes_eq y' y) v k)
+    index_some R S g (App h (Wait y' s)) v f k = absurd (subst (λ (t : Term). InIndex S (App (at h) t) v) (wait_at y' s f.1) k)
+    index_some R S g (Import x) v f h = absurd (no_in_index S z x (bytes_eq x y) v h)
+    index_some R S g (Wait x n) v f h = absurd (subst (λ (t : Term). InIndex S t v) (wait_at x n f) h)
+    index_some R S g m v f h = absurd h
 
   pub reached_some : (R S : Rel) → ((a v : Term) → HasNoWaitAt y a → S (at a) v → (t : Term) × R a t) → (m v : Term) → HasNoWaitAt y m
       → Reached S (at m) v → (t : Term) × Reached R m t

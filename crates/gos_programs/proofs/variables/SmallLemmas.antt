@@ -1,7 +1,8 @@
 -- Small terms, and how many waits stand in them.
 use Rattle.std.specs.Prelude.{◌≡◌, ◌+◌, ℕ, true, false}
-use Rattle.std.proofs.Common.{arith, refl, sym}
-use Rattle.gos_programs.specs.variables.SmallVariables.{OneWaits, WaitIsReached, LabelsAreCounted, AnswersAreNotActive}
+use Rattle.std.proofs.Common.{arith, refl, sym, inl, inr}
+use Rattle.gos_model.specs.SmallPrograms.{c}
+use Rattle.gos_programs.specs.variables.SmallVariables.{OneWaits, WaitIsReached, IndexWaitsToo, LabelsAreCounted, AnswersAreNotActive}
 
 not_false : true ≡ false → ⊥
 not_false e = cc e
@@ -14,6 +15,12 @@ wait_is_reached = ((1, 0, refl, refl, refl), none, λ h. not_false h.1)
   where
     none : (j : ℕ) × (k : ℕ) × (0 ≡ j + k) × (j ≡ 1) × (k ≡ 0) → ⊥
     none (j, k, e, one, zero) = omega (arith, e, one)
+
+zero_not_one : ◌≡◌ {A = ℕ} 1 0 → ⊥
+zero_not_one e = omega (arith, e)
+
+pub index_waits_too : IndexWaitsToo
+index_waits_too = (inr ((c, refl), refl, tt, refl), λ h. elim h [ inl g ↦ zero_not_one g.0 | inr g ↦ zero_not_one (cc g.0.1) ])
 
 pub labels_are_counted : LabelsAreCounted
 labels_are_counted = (refl, refl, refl)

@@ -1,18 +1,19 @@
 -- Two unfoldings of a term come together, and what is possible beside an unfolding stays possible.
 use Rattle.std.specs.Prelude.{◌≡◌, ◌⊎◌, ℕ, zero, suc}
 use Rattle.std.proofs.Common.{arith, refl, sym, ap, subst, inl, inr, ◌∙◌}
-use Rattle.gos_model.specs.Terms.{Name, Term, Skip, Lit, Import, App, Fst, Snd, Seq, Par, If, Assign, Deref, Not, Bin, Loc, Scope, Wait, Held, Put}
+use Rattle.gos_types.specs.Types.{Type'}
+use Rattle.gos_model.specs.Terms.{Name, Term, Skip, Lit, Import, Lam, App, Fst, Snd, Seq, Par, If, Assign, Deref, Not, Bin, Loc, Scope, Wait, Held, Put, Both}
 use Rattle.gos_model.specs.Typing.{Imports}
 use Rattle.gos_model.specs.Stores.{Store}
-use Rattle.gos_model.specs.Reach.{Rel, Reached, Below, Unfolds}
+use Rattle.gos_model.specs.Reach.{Rel, Reached, Below, InIndex, Unfolds}
 use Rattle.gos_model.specs.Steps.{Computes, IsValue}
 use Rattle.gos_model.specs.Labels.{Label}
 use Rattle.gos_model.specs.Moves.{Program, Config, Idle, Running, Act, Computing, Showing, ActsTo, Answers, Unfoldings, Move, Stalled}
-use Rattle.gos_model.proofs.HeadLemmas.{Lower, lower_one}
-use Rattle.gos_programs.specs.contexts.Contexts.{Context, SeqFirst, ParLeft, ParRight, IfTest, BinLeft, HeldRight, NotOf, AssignRight, ScopeBody, plug}
+use Rattle.gos_model.proofs.HeadLemmas.{Lower, lower_one, lower_no_index}
+use Rattle.gos_programs.specs.contexts.Contexts.{Context, SeqFirst, ParLeft, ParRight, IfTest, BinLeft, HeldRight, NotOf, AssignRight, ScopeBody, ReadIndex, WriteIndex, plug}
 use Rattle.gos_programs.proofs.contexts.BackwardLemmas.{OneHead, OneLabel}
 use Rattle.gos_programs.proofs.contexts.PluggedLemmas.{acts_of, acts_to, reached_plugged}
-use Rattle.gos_programs.specs.variables.Unfolded.{UnfoldingsMeet, ActsStay, WaitsBefore}
+use Rattle.gos_programs.specs.variables.Unfolded.{ActsStay, WaitsBefore}
 
 head_one : (m t u : Term) → OneHead m t → OneHead m u → t ≡ u
 head_one (Put m k) t u (inr (m', e, h)) (inr (m'', f, g)) = e ∙ (ap (λ (x : Term). Put x k) (lower_one m m' m'' h g) ∙ sym f)
@@ -34,8 +35,12 @@ head_below : (R : Rel) (m t u : Term) → OneHead m t → Below R m u → ⊥
 head_below R (App m n) t u h g = g
 head_below R (Fst m) t u h g = g
 head_below R (Snd m) t u h g = g
-head_below R (Put m k) t u h g = g
-head_below R (Deref m) t u h g = g
+head_below R (Put m k) t u (inr (m', e, h)) (c, f, g) = lower_no_index R m m' c h g
+head_below R (Put m k) t u (inl (inl h)) g = absurd h
+head_below R (Put m k) t u (inl (inr h)) g = absurd h
+head_below R (Deref m) t u (inr (m', e, h)) (c, f, g) = lower_no_index R m m' c h g
+head_below R (Deref m) t u (inl (inl h)) g = absurd h
+head_below R (Deref m) t u (inl (inr h)) g = absurd h
 head_below R m t u (inl (inl h)) g = absurd h
 head_below R m t u (inl (inr h)) g = absurd h
 head_below R m t u (inr h) g = absurd h
@@ -53,30 +58,43 @@ meet_in c a b x y ex ey (inr (v, h, g)) = inr (
   subst (λ (t : Term). Unfolds t (plug c v)) (sym ey) (reached_plugged OneHead c b v g),
 )
 
-pub unfoldings_meet : UnfoldingsMeet
-unfoldings_meet m a b (inl h) (inl g) = inl (head_one m a b h g)
-unfoldings_meet m a b (inl h) (inr g) = absurd (head_below OneHead m a b h g)
-unfoldings_meet m a b (inr h) (inl g) = absurd (head_below OneHead m b a g h)
-unfoldings_meet (Seq m n) a b (inr (c, e, h)) (inr (d, f, g)) = meet_in (SeqFirst n) c d a b e f (unfoldings_meet m c d h g)
-unfoldings_meet (If m n p) a b (inr (c, e, h)) (inr (d, f, g)) = meet_in (IfTest n p) c d a b e f (unfoldings_meet m c d h g)
-unfoldings_meet (Bin op m n) a b (inr (c, e, h)) (inr (d, f, g)) = meet_in (BinLeft op n) c d a b e f (unfoldings_meet m c d h g)
-unfoldings_meet (Held k op n) a b (inr (c, e, h)) (inr (d, f, g)) = meet_in (HeldRight k op) c d a b e f (unfoldings_meet n c d h g)
-unfoldings_meet (Not m) a b (inr (c, e, h)) (inr (d, f, g)) = meet_in NotOf c d a b e f (unfoldings_meet m c d h g)
-unfoldings_meet (Assign m n) a b (inr (c, e, h)) (inr (d, f, g)) = meet_in (AssignRight m) c d a b e f (unfoldings_meet n c d h g)
-unfoldings_meet (Scope l m) a b (inr (c, e, h)) (inr (d, f, g)) = meet_in (ScopeBody l) c d a b e f (unfoldings_meet m c d h g)
-unfoldings_meet (Par m n) a b (inr (inl (c, e, h))) (inr (inl (d, f, g))) = meet_in (ParLeft n) c d a b e f (unfoldings_meet m c d h g)
-unfoldings_meet (Par m n) a b (inr (inr (c, e, h))) (inr (inr (d, f, g))) = meet_in (ParRight m) c d a b e f (unfoldings_meet n c d h g)
-unfoldings_meet (Par m n) a b (inr (inl (c, e, h))) (inr (inr (d, f, g))) = inr (
-  Par c d,
-  subst (λ (t : Term). Unfolds t (Par c d)) (sym e) (reached_plugged OneHead (ParRight c) n d g),
-  subst (λ (t : Term). Unfolds t (Par c d)) (sym f) (reached_plugged OneHead (ParLeft d) m c h),
-)
-unfoldings_meet (Par m n) a b (inr (inr (c, e, h))) (inr (inl (d, f, g))) = inr (
-  Par d c,
-  subst (λ (t : Term). Unfolds t (Par d c)) (sym e) (reached_plugged OneHead (ParLeft c) m d g),
-  subst (λ (t : Term). Unfolds t (Par d c)) (sym f) (reached_plugged OneHead (ParRight d) n c h),
-)
-unfoldings_meet m a b (inr h) (inr g) = absurd h
+mutual
+  pub unfoldings_meet : (m a b : Term) → Unfolds m a → Unfolds m b → Meet a b
+  unfoldings_meet m a b (inl h) (inl g) = inl (head_one m a b h g)
+  unfoldings_meet m a b (inl h) (inr g) = absurd (head_below OneHead m a b h g)
+  unfoldings_meet m a b (inr h) (inl g) = absurd (head_below OneHead m b a g h)
+  unfoldings_meet (Seq m n) a b (inr (c, e, h)) (inr (d, f, g)) = meet_in (SeqFirst n) c d a b e f (unfoldings_meet m c d h g)
+  unfoldings_meet (If m n p) a b (inr (c, e, h)) (inr (d, f, g)) = meet_in (IfTest n p) c d a b e f (unfoldings_meet m c d h g)
+  unfoldings_meet (Bin op m n) a b (inr (c, e, h)) (inr (d, f, g)) = meet_in (BinLeft op n) c d a b e f (unfoldings_meet m c d h g)
+  unfoldings_meet (Held k op n) a b (inr (c, e, h)) (inr (d, f, g)) = meet_in (HeldRight k op) c d a b e f (unfoldings_meet n c d h g)
+  unfoldings_meet (Not m) a b (inr (c, e, h)) (inr (d, f, g)) = meet_in NotOf c d a b e f (unfoldings_meet m c d h g)
+  unfoldings_meet (Assign m n) a b (inr (c, e, h)) (inr (d, f, g)) = meet_in (AssignRight m) c d a b e f (unfoldings_meet n c d h g)
+  unfoldings_meet (Scope l m) a b (inr (c, e, h)) (inr (d, f, g)) = meet_in (ScopeBody l) c d a b e f (unfoldings_meet m c d h g)
+  unfoldings_meet (Par m n) a b (inr (inl (c, e, h))) (inr (inl (d, f, g))) = meet_in (ParLeft n) c d a b e f (unfoldings_meet m c d h g)
+  unfoldings_meet (Par m n) a b (inr (inr (c, e, h))) (inr (inr (d, f, g))) = meet_in (ParRight m) c d a b e f (unfoldings_meet n c d h g)
+  unfoldings_meet (Par m n) a b (inr (inl (c, e, h))) (inr (inr (d, f, g))) = inr (
+    Par c d,
+    subst (λ (t : Term). Unfolds t (Par c d)) (sym e) (reached_plugged OneHead (ParRight c) n d g),
+    subst (λ (t : Term). Unfolds t (Par c d)) (sym f) (reached_plugged OneHead (ParLeft d) m c h),
+  )
+  unfoldings_meet (Par m n) a b (inr (inr (c, e, h))) (inr (inl (d, f, g))) = inr (
+    Par d c,
+    subst (λ (t : Term). Unfolds t (Par d c)) (sym e) (reached_plugged OneHead (ParLeft c) m d g),
+    subst (λ (t : Term). Unfolds t (Par d c)) (sym f) (reached_plugged OneHead (ParRight d) n c h),
+  )
+  unfoldings_meet (Deref m) a b (inr (c, e, h)) (inr (d, f, g)) =
+      let (x, u, p, q, ep, eq, both) = index_meet m c d h g in
+      meet_in (ReadIndex x u) p q a b (e ∙ ap (λ (v : Term). Deref v) ep) (f ∙ ap (λ (v : Term). Deref v) eq) both
+  unfoldings_meet (Put m k) a b (inr (c, e, h)) (inr (d, f, g)) =
+      let (x, u, p, q, ep, eq, both) = index_meet m c d h g in
+      meet_in (WriteIndex x u k) p q a b (e ∙ ap (λ (v : Term). Put v k) ep) (f ∙ ap (λ (v : Term). Put v k) eq) both
+  unfoldings_meet m a b (inr h) (inr g) = absurd h
+
+  index_meet : (m c d : Term) → InIndex OneHead m c → InIndex OneHead m d
+      → (x : Name) × (u : Term) × (p : Term) × (q : Term) × (c ≡ App (Wait x 0) (Both u p)) × (d ≡ App (Wait x 0) (Both u q)) × Meet p q
+  index_meet (App h (Both u n)) c d ((x, head), p, e, k) ((y, other), q, f, l) =
+      (x, u, p, q, e ∙ ap (λ (v : Term). App v (Both u p)) head, f ∙ ap (λ (v : Term). App v (Both u q)) head, unfoldings_meet n p q k l)
+  index_meet m c d h g = absurd h
 
 -- where R changes a place, nothing unfolds there
 abbrev IsFinal : Rel → Type 0
@@ -86,30 +104,43 @@ IsFinal R = (m t v : Term) → R m t → Unfolds m v → ⊥
 stay_in : (R : Rel) (c : Context) (a v u : Term) → v ≡ plug c a → Reached R a u → (t : Term) × Reached R v t
 stay_in R c a v u e h = (plug c u, subst (λ (t : Term). Reached R t (plug c u)) (sym e) (reached_plugged R c a u h))
 
-reached_stays : (R : Rel) → IsFinal R → (m v t : Term) → Unfolds m v → Reached R m t → (u : Term) × Reached R v u
-reached_stays R final m v t h (inl g) = absurd (final m t v g h)
-reached_stays R final (Seq m n) v t (inr (c, e, h)) (inr (d, f, g)) =
-    let (u, stays) = reached_stays R final m c d h g in stay_in R (SeqFirst n) c v u e stays
-reached_stays R final (If m n p) v t (inr (c, e, h)) (inr (d, f, g)) =
-    let (u, stays) = reached_stays R final m c d h g in stay_in R (IfTest n p) c v u e stays
-reached_stays R final (Bin op m n) v t (inr (c, e, h)) (inr (d, f, g)) =
-    let (u, stays) = reached_stays R final m c d h g in stay_in R (BinLeft op n) c v u e stays
-reached_stays R final (Held k op n) v t (inr (c, e, h)) (inr (d, f, g)) =
-    let (u, stays) = reached_stays R final n c d h g in stay_in R (HeldRight k op) c v u e stays
-reached_stays R final (Not m) v t (inr (c, e, h)) (inr (d, f, g)) =
-    let (u, stays) = reached_stays R final m c d h g in stay_in R NotOf c v u e stays
-reached_stays R final (Assign m n) v t (inr (c, e, h)) (inr (d, f, g)) =
-    let (u, stays) = reached_stays R final n c d h g in stay_in R (AssignRight m) c v u e stays
-reached_stays R final (Scope l m) v t (inr (c, e, h)) (inr (d, f, g)) =
-    let (u, stays) = reached_stays R final m c d h g in stay_in R (ScopeBody l) c v u e stays
-reached_stays R final (Par m n) v t (inr (inl (c, e, h))) (inr (inl (d, f, g))) =
-    let (u, stays) = reached_stays R final m c d h g in stay_in R (ParLeft n) c v u e stays
-reached_stays R final (Par m n) v t (inr (inr (c, e, h))) (inr (inr (d, f, g))) =
-    let (u, stays) = reached_stays R final n c d h g in stay_in R (ParRight m) c v u e stays
-reached_stays R final (Par m n) v t (inr (inl (c, e, h))) (inr (inr (d, f, g))) = stay_in R (ParRight c) n v d e g
-reached_stays R final (Par m n) v t (inr (inr (c, e, h))) (inr (inl (d, f, g))) = stay_in R (ParLeft c) m v d e g
-reached_stays R final m v t (inl h) (inr g) = absurd (head_below R m v t h g)
-reached_stays R final m v t (inr h) (inr g) = absurd h
+mutual
+  reached_stays : (R : Rel) → IsFinal R → (m v t : Term) → Unfolds m v → Reached R m t → (u : Term) × Reached R v u
+  reached_stays R final m v t h (inl g) = absurd (final m t v g h)
+  reached_stays R final (Seq m n) v t (inr (c, e, h)) (inr (d, f, g)) =
+      let (u, stays) = reached_stays R final m c d h g in stay_in R (SeqFirst n) c v u e stays
+  reached_stays R final (If m n p) v t (inr (c, e, h)) (inr (d, f, g)) =
+      let (u, stays) = reached_stays R final m c d h g in stay_in R (IfTest n p) c v u e stays
+  reached_stays R final (Bin op m n) v t (inr (c, e, h)) (inr (d, f, g)) =
+      let (u, stays) = reached_stays R final m c d h g in stay_in R (BinLeft op n) c v u e stays
+  reached_stays R final (Held k op n) v t (inr (c, e, h)) (inr (d, f, g)) =
+      let (u, stays) = reached_stays R final n c d h g in stay_in R (HeldRight k op) c v u e stays
+  reached_stays R final (Not m) v t (inr (c, e, h)) (inr (d, f, g)) =
+      let (u, stays) = reached_stays R final m c d h g in stay_in R NotOf c v u e stays
+  reached_stays R final (Assign m n) v t (inr (c, e, h)) (inr (d, f, g)) =
+      let (u, stays) = reached_stays R final n c d h g in stay_in R (AssignRight m) c v u e stays
+  reached_stays R final (Scope l m) v t (inr (c, e, h)) (inr (d, f, g)) =
+      let (u, stays) = reached_stays R final m c d h g in stay_in R (ScopeBody l) c v u e stays
+  reached_stays R final (Par m n) v t (inr (inl (c, e, h))) (inr (inl (d, f, g))) =
+      let (u, stays) = reached_stays R final m c d h g in stay_in R (ParLeft n) c v u e stays
+  reached_stays R final (Par m n) v t (inr (inr (c, e, h))) (inr (inr (d, f, g))) =
+      let (u, stays) = reached_stays R final n c d h g in stay_in R (ParRight m) c v u e stays
+  reached_stays R final (Par m n) v t (inr (inl (c, e, h))) (inr (inr (d, f, g))) = stay_in R (ParRight c) n v d e g
+  reached_stays R final (Par m n) v t (inr (inr (c, e, h))) (inr (inl (d, f, g))) = stay_in R (ParLeft c) m v d e g
+  reached_stays R final (Deref m) v t (inr (c, e, h)) (inr (d, f, g)) =
+      let (x, b, p, ep, (u, stays)) = index_stays R final m c d h g in
+      stay_in R (ReadIndex x b) p v u (e ∙ ap (λ (y : Term). Deref y) ep) stays
+  reached_stays R final (Put m k) v t (inr (c, e, h)) (inr (d, f, g)) =
+      let (x, b, p, ep, (u, stays)) = index_stays R final m c d h g in
+      stay_in R (WriteIndex x b k) p v u (e ∙ ap (λ (y : Term). Put y k) ep) stays
+  reached_stays R final m v t (inl h) (inr g) = absurd (head_below R m v t h g)
+  reached_stays R final m v t (inr h) (inr g) = absurd h
+
+  index_stays : (R : Rel) → IsFinal R → (m c d : Term) → InIndex OneHead m c → InIndex R m d
+      → (x : Name) × (b : Term) × (p : Term) × (c ≡ App (Wait x 0) (Both b p)) × ((u : Term) × Reached R p u)
+  index_stays R final (App h (Both b n)) c d ((x, head), p, e, k) ((y, other), q, f, l) =
+      (x, b, p, e ∙ ap (λ (v : Term). App v (Both b p)) head, reached_stays R final n p q k l)
+  index_stays R final m c d h g = absurd h
 
 -- a row of computation, and a label, are final
 value_rests : (m v : Term) → IsValue m → Unfolds m v → ⊥
@@ -149,6 +180,8 @@ row_final s s' (Assign m n) t v (k, w, en, et, es) (inr (c, e, h)) = value_rests
 row_final s s' (Scope l m) t v (is, et, es) (inr (c, e, h)) = value_rests m c is h
 row_final s s' (Put m k) t v (d, em, here, et, es) (inl (inr (c, e, h))) = no_lower_loc m d.place c em h
 row_final s s' (Deref m) t v (d, em, here, et, es) (inl (inr (c, e, h))) = no_lower_loc m d.place c em h
+row_final s s' (Put m k) t v (d, em, here, et, es) (inr (c, e, h)) = absurd (subst (λ (u : Term). InIndex OneHead u c) em h)
+row_final s s' (Deref m) t v (d, em, here, et, es) (inr (c, e, h)) = absurd (subst (λ (u : Term). InIndex OneHead u c) em h)
 row_final s s' (App m n) t v g h = absurd g
 row_final s s' (Fst m) t v g h = absurd g
 row_final s s' (Snd m) t v g h = absurd g
@@ -157,9 +190,60 @@ row_final s s' m t v g (inl (inl (inr h))) = absurd h
 row_final s s' m t v g (inl (inr h)) = absurd h
 row_final s s' m t v g (inr h) = absurd h
 
+-- nothing unfolds in an access of a port, but in the index that is asked for
+abbrev IsPortTerm : Term → Type 0
+IsPortTerm h = ((x : Name) × (h ≡ Import x)) ⊎ ((x : Name) × (s : ℕ) × (h ≡ Wait x s))
+
+port_rests : (h t : Term) → IsPortTerm h → Lower h t → ⊥
+port_rests h t (inl (x, e)) g = no_lower_import h x t e g
+port_rests h t (inr (x, s, e)) g = none (subst (λ (y : Term). Lower y t) e g)
+  where
+    none : Lower (Wait x s) t → ⊥
+    none (inl k) = k
+    none (inr k) = k
+
+port_no_lam : (h : Term) (a : Type') (b : Term) → IsPortTerm h → h ≡ Lam a b → ⊥
+port_no_lam h a b (inl (x, e)) g = let bad : Lam a b ≡ Import x = sym g ∙ e in cc bad
+port_no_lam h a b (inr (x, s, e)) g = let bad : Lam a b ≡ Wait x s = sym g ∙ e in cc bad
+
+no_lower_port : (m h n c : Term) → IsPortTerm h → m ≡ App h n → Lower m c → ⊥
+no_lower_port m h n c port em g = by (subst (λ (y : Term). Lower y c) em g)
+  where
+    by : Lower (App h n) c → ⊥
+    by (inl (a, b, eh, et)) = port_no_lam h a b port eh
+    by (inr (h', e, k)) = port_rests h h' port k
+
+one_not_zero : ◌≡◌ {A = ℕ} 1 0 → ⊥
+one_not_zero e = omega (arith, e)
+
+no_index_in : (h a c : Term) → ((y : Name) → h ≡ Wait y 0 → ⊥) → InIndex OneHead (App h a) c → ⊥
+no_index_in h (Both n m) c none g = none g.0.0 g.0.1
+no_index_in h a c none g = absurd g
+
+no_index_before : (m h n c : Term) → ((y : Name) → h ≡ Wait y 0 → ⊥) → m ≡ App h n → InIndex OneHead m c → ⊥
+no_index_before m h n c none em g = no_index_in h n c none (subst (λ (y : Term). InIndex OneHead y c) em g)
+
+index_rests : (m : Term) (x : Name) (n j c : Term) (k w : ℕ) → m ≡ App (Wait x 0) (Both n j) → j ≡ Lit k w → InIndex OneHead m c → ⊥
+index_rests m x n j c k w em ej g =
+    let (head, p, e, h) = subst (λ (y : Term). InIndex OneHead y c) em g in value_rests j p (inr (k, w, ej)) h
+
 label_final : (i : Imports) (o : Label) → IsFinal (OneLabel i o)
-label_final i o (Put m k) t v (inl (x, w, em, h, e, et)) (inl (inr (c, f, g))) = no_lower_import m x c em g
-label_final i o (Deref m) t v (inl (x, w, em, h, e, et)) (inl (inr (c, f, g))) = no_lower_import m x c em g
+label_final i o (Put m k) t v (inl (inl (x, w, em, h, e, et))) (inl (inr (c, f, g))) = no_lower_import m x c em g
+label_final i o (Deref m) t v (inl (inl (x, w, em, h, e, et))) (inl (inr (c, f, g))) = no_lower_import m x c em g
+label_final i o (Put m k) t v (inl (inl (x, w, em, h, e, et))) (inr (c, f, g)) = absurd (subst (λ (u : Term). InIndex OneHead u c) em g)
+label_final i o (Put m k) t v (inl (inr (x, p, (d, w, n, array, inl (em, ee, ek, et))))) (inl (inr (c, f, g))) = no_lower_port m (Import x) n c (inl (x, refl)) em g
+label_final i o (Put m k) t v (inl (inr (x, p, (d, w, n, array, inr (j, em, ej, ee, et))))) (inl (inr (c, f, g))) = no_lower_port m (Wait x 0) (Both n j) c (inr (x, 0, refl)) em g
+label_final i o (Put m k) t v (inr (x, p, (d, w, n, j, array, em, rest))) (inl (inr (c, f, g))) = no_lower_port m (Wait x 1) (Both n j) c (inr (x, 1, refl)) em g
+label_final i o (Put m k) t v (inl (inr (x, p, (d, w, n, array, inl (em, ee, ek, et))))) (inr (c, f, g)) = no_index_before m (Import x) n c (λ y e. cc e) em g
+label_final i o (Put m k) t v (inl (inr (x, p, (d, w, n, array, inr (j, em, ej, ee, et))))) (inr (c, f, g)) = index_rests m x n j c o.value d em ej g
+label_final i o (Put m k) t v (inr (x, p, (d, w, n, j, array, em, rest))) (inr (c, f, g)) = no_index_before m (Wait x 1) (Both n j) c (λ y e. one_not_zero (cc e)) em g
+label_final i o (Deref m) t v (inl (inl (x, w, em, h, e, et))) (inr (c, f, g)) = absurd (subst (λ (u : Term). InIndex OneHead u c) em g)
+label_final i o (Deref m) t v (inl (inr (x, p, (d, w, n, array, inl (em, ee, ek, et))))) (inl (inr (c, f, g))) = no_lower_port m (Import x) n c (inl (x, refl)) em g
+label_final i o (Deref m) t v (inl (inr (x, p, (d, w, n, array, inr (j, em, ej, ee, et))))) (inl (inr (c, f, g))) = no_lower_port m (Wait x 0) (Both n j) c (inr (x, 0, refl)) em g
+label_final i o (Deref m) t v (inr (x, p, (d, w, n, j, array, em, rest))) (inl (inr (c, f, g))) = no_lower_port m (Wait x 1) (Both n j) c (inr (x, 1, refl)) em g
+label_final i o (Deref m) t v (inl (inr (x, p, (d, w, n, array, inl (em, ee, ek, et))))) (inr (c, f, g)) = no_index_before m (Import x) n c (λ y e. cc e) em g
+label_final i o (Deref m) t v (inl (inr (x, p, (d, w, n, array, inr (j, em, ej, ee, et))))) (inr (c, f, g)) = index_rests m x n j c o.value d em ej g
+label_final i o (Deref m) t v (inr (x, p, (d, w, n, j, array, em, rest))) (inr (c, f, g)) = no_index_before m (Wait x 1) (Both n j) c (λ y e. one_not_zero (cc e)) em g
 label_final i o (Import x) t v h (inl (inl (inl g))) = g
 label_final i o (Import x) t v h (inl (inl (inr g))) = g
 label_final i o (Import x) t v h (inl (inr g)) = g
@@ -170,10 +254,8 @@ label_final i o (Wait x n) t v h (inl (inr g)) = g
 label_final i o (Wait x n) t v h (inr g) = g
 label_final i o (Put m k) t v h (inl (inl (inl g))) = g
 label_final i o (Put m k) t v h (inl (inl (inr g))) = g
-label_final i o (Put m k) t v h (inr g) = g
 label_final i o (Deref m) t v h (inl (inl (inl g))) = g
 label_final i o (Deref m) t v h (inl (inl (inr g))) = g
-label_final i o (Deref m) t v h (inr g) = g
 label_final i o m t v (inl h) g = absurd h
 label_final i o m t v (inr h) g = absurd h
 

@@ -3,7 +3,7 @@ use Rattle.std.specs.Prelude.{◌≡◌, ◌⊎◌, ℕ, Bool, true, false, if�
 use Rattle.std.proofs.Common.{arith, refl, sym, ap, subst, inl, inr, ◌∙◌}
 use Rattle.std.specs.Str.{bytes_eq}
 use Rattle.gos_types.specs.Types.{Type', Var}
-use Rattle.gos_model.specs.Terms.{Name, Term, Skip, Lit, Import, Seq, Par, If, While, Assign, Deref, New, Not, Bin, Loc, Scope, Wait, Held, Put, result_of, result_width, complement}
+use Rattle.gos_model.specs.Terms.{Name, Term, Skip, Lit, Import, Seq, Par, If, While, Assign, Deref, New, Not, Bin, Loc, Scope, Wait, Held, Put, result_of, result_width, complement, Both}
 use Rattle.gos_model.specs.Substitution.{instantiate}
 use Rattle.gos_model.specs.Typing.{Imports, import_type}
 use Rattle.gos_model.specs.Stores.{Entry, Store, entry_at, store_put, without}
@@ -11,6 +11,7 @@ use Rattle.gos_model.specs.Reach.{Rel, Reached}
 use Rattle.gos_model.specs.Steps.{Computes, Steps}
 use Rattle.gos_model.specs.Labels.{Label, taken, is_output, IsAnswer}
 use Rattle.gos_model.specs.Moves.{Program, Config, Idle, Running, Act, Computing, Showing, ActsTo, Unfoldings, Answers, Move}
+use Rattle.gos_model.proofs.AccessMapLemmas.{ComesFrom, puts_back, reads_back, writes_back}
 use Rattle.gos_programs.specs.contexts.Contexts.{Context, plug}
 use Rattle.gos_programs.specs.contexts.Renaming.{beside}
 use Rattle.gos_programs.specs.contexts.LocalVariable.{placed, HasOthers, IsHome}
@@ -21,7 +22,7 @@ use Rattle.gos_programs.proofs.contexts.RenamedStoreLemmas.{entry_beside, moved,
 use Rattle.gos_programs.proofs.contexts.PlacedLemmas.{name_cases}
 use Rattle.gos_programs.specs.variables.Waits.{HasNoWaitAt}
 use Rattle.gos_programs.specs.variables.PlacedBack.{IsActive, PlacedMovesBack, PlacedWaits}
-use Rattle.gos_programs.proofs.variables.PlacedBackLemmas.{wait_at, import_at, is_skip, is_lit, is_import, is_loc, value_back, reached_some, unfoldings_back}
+use Rattle.gos_programs.proofs.variables.PlacedBackLemmas.{wait_at, import_at, is_skip, is_lit, is_import, is_wait, is_app, is_pair, is_loc, value_back, reached_some, unfoldings_back}
 
 -- a computation step to any store, or an output
 abbrev Active : Imports → Store → Rel
@@ -43,6 +44,22 @@ active_there i s m t h = reached_lifted (Active i s) (ActiveThere i s) here lift
 
 module _ (y : Name) (r : ℕ → ℕ) (z w k : ℕ) (f s : Store) (i j : Imports) (typed : import_type i y ≡ Some (Var w)) (others : HasOthers y i j)
     (home : IsHome r f z w k) where
+  pair_back : (m h n : Term) → HasNoWaitAt y m → placed r y z m ≡ Both h n
+      → (u : Term) × (v : Term) × (m ≡ Both u v) × (placed r y z u ≡ h) × (placed r y z v ≡ n) × HasNoWaitAt y u × HasNoWaitAt y v
+  pair_back m h n free e =
+      let (u, v, whole, eu, ev) = is_pair r y z m h n free e in
+      let both : HasNoWaitAt y (Both u v) = subst (HasNoWaitAt y) whole free in (u, v, whole, eu, ev, both.0, both.1)
+
+  comes_back : (x : Name) → ComesFrom i j (placed r y z) (HasNoWaitAt y) x
+  comes_back x =
+      record {
+        app = λ m h n free e. is_app r y z m h n free e;
+        both = λ m h n free e. pair_back m h n free e;
+        literal = λ m k w free e. is_lit r y z m k w free e;
+        import = λ m free e. let (same, other) = is_import r y z m x free e in (same, sym (others x other));
+        wait = λ m s free e. let (same, other) = is_wait r y z m x s free e in (same, sym (others x other));
+      }
+
   -- labels
   label_some : (o : Label) (a v : Term) → HasNoWaitAt y a → OneLabel j o (placed r y z a) v → (t : Term) × OneLabel i o a t
   label_some o (Import x) v free h =
@@ -58,10 +75,18 @@ module _ (y : Name) (r : ℕ → ℕ) (z w k : ℕ) (f s : Store) (i j : Imports
       other apart (inl (inl (g, e, et))) = (v, inl (inl (sym (others x apart) ∙ g, e, et)))
       other apart (inl (inr (n, g, e, et))) = (v, inl (inr (n, sym (others x apart) ∙ g, e, et)))
       other apart (inr g) = absurd g
-  label_some o (Deref m) v free (inl (x, n, em, g, e, et)) =
-      let there = is_import r y z m x free em in (v, inl (x, n, there.0, sym (others x there.1) ∙ g, e, et))
-  label_some o (Put m l) v free (inl (x, n, em, g, e, et)) =
-      let there = is_import r y z m x free em in (v, inl (x, n, there.0, sym (others x there.1) ∙ g, e, et))
+  label_some o (Deref m) v free (inl (inl (x, n, em, g, e, et))) =
+      let there = is_import r y z m x free em in (v, inl (inl (x, n, there.0, sym (others x there.1) ∙ g, e, et)))
+  label_some o (Deref m) v free (inl (inr (x, p, h))) =
+      let u = puts_back i j (placed r y z) (HasNoWaitAt y) (λ (u : Term). Deref u) x (comes_back x) 2 0 o.event o.value m v free h in (u.0, inl (inr (x, p, u.1)))
+  label_some o (Deref m) v free (inr (x, p, h)) =
+      let u = reads_back i j (placed r y z) (HasNoWaitAt y) (λ (u : Term). Deref u) x (comes_back x) o.event o.value m v free h in (u.0, inr (x, p, u.1))
+  label_some o (Put m l) v free (inl (inl (x, n, em, g, e, et))) =
+      let there = is_import r y z m x free em in (v, inl (inl (x, n, there.0, sym (others x there.1) ∙ g, e, et)))
+  label_some o (Put m l) v free (inl (inr (x, p, h))) =
+      let u = puts_back i j (placed r y z) (HasNoWaitAt y) (λ (u : Term). Put u l) x (comes_back x) 4 l o.event o.value m v free h in (u.0, inl (inr (x, p, u.1)))
+  label_some o (Put m l) v free (inr (x, p, h)) =
+      let u = writes_back i j (placed r y z) (HasNoWaitAt y) (λ (u : Term). Put u l) x (comes_back x) o.event o.value m v free h in (u.0, inr (x, p, u.1))
   label_some o (Wait x n) v free h = other (subst (λ (u : Term). OneLabel j o u v) (wait_at r y z x n free) h)
     where
       other : OneLabel j o (Wait x n) v → (t : Term) × OneLabel i o (Wait x n) t
@@ -82,10 +107,10 @@ module _ (y : Name) (r : ℕ → ℕ) (z w k : ℕ) (f s : Store) (i j : Imports
       found there (Some d) q = let one = entry_place s l d q in (d, sym one, ap (entry_at s) one ∙ q)
 
   import_there : (m : Term) (k : ℕ) → m ≡ Import y → (t : Term) × Active i s (Put m k) t
-  import_there m k is = (Wait y 3, inr (taken y 2 k, refl, inl (y, w, is, typed, refl, refl)))
+  import_there m k is = (Wait y 3, inr (taken y 2 k, refl, inl (inl (y, w, is, typed, refl, refl))))
 
   import_read : (m : Term) → m ≡ Import y → (t : Term) × Active i s (Deref m) t
-  import_read m is = (Wait y 1, inr (taken y 0 0, refl, inl (y, w, is, typed, refl, refl)))
+  import_read m is = (Wait y 1, inr (taken y 0 0, refl, inl (inl (y, w, is, typed, refl, refl))))
 
   -- computation
   row_some : (u : Store) (a v : Term) → HasNoWaitAt y a → Computes (beside r s f) u (placed r y z a) v → (t : Term) × Active i s a t

@@ -1,5 +1,5 @@
 -- How many waits at a port stand in a term, and what each move makes of their number.
-use Rattle.std.specs.Prelude.{◌≡◌, ℕ, zero, suc, ◌+◌, ◌&&◌, not, Bool, true, false, ◌∷◌, Option, Some, nat_eq, if◌then◌else◌}
+use Rattle.std.specs.Prelude.{◌≡◌, ◌⊎◌, ℕ, zero, suc, ◌+◌, ◌&&◌, not, Bool, true, false, ◌∷◌, Option, Some, nat_eq, if◌then◌else◌}
 use Rattle.std.proofs.Common.{arith, refl, sym, ap, subst, inl, inr, ◌∙◌}
 use Rattle.std.specs.Str.{bytes_eq}
 use Rattle.gos_types.specs.Types.{Type', Com, Exp, Var, Pair, Fun}
@@ -7,15 +7,18 @@ use Rattle.gos_model.specs.Terms.{Name, Term, Skip, Lit, Bound, Import, Lam, App
 use Rattle.gos_model.specs.Substitution.{put_at}
 use Rattle.gos_model.specs.Typing.{Imports, import_type}
 use Rattle.gos_model.specs.Stores.{Store}
-use Rattle.gos_model.specs.Reach.{Rel, Rewrites, Under, Aside, Unfolds}
+use Rattle.gos_model.specs.Reach.{Rel, InIndex, Rewrites, Under, Aside, Unfolds}
 use Rattle.gos_model.specs.Steps.{Computes, IsValue}
 use Rattle.gos_model.specs.Labels.{Port, Taken, Label, taken, is_answer, IsAnswer}
+use Rattle.gos_model.specs.Accesses.{IsArrayImport}
+use Rattle.gos_model.proofs.HeadLemmas.{lower_no_index}
 use Rattle.gos_model.specs.Moves.{Act, Computing, Showing, Acts, Unfoldings}
-use Rattle.gos_programs.specs.contexts.Contexts.{Context, SeqFirst, ParLeft, ParRight, IfTest, BinLeft, HeldRight, NotOf, AssignRight, ScopeBody, plug}
+use Rattle.gos_programs.specs.contexts.Contexts.{Context, SeqFirst, ParLeft, ParRight, IfTest, BinLeft, HeldRight, NotOf, AssignRight, ScopeBody, ReadIndex, WriteIndex, plug}
 use Rattle.gos_programs.proofs.contexts.BackwardLemmas.{OneHead, OneLabel}
 use Rattle.gos_programs.proofs.contexts.PluggedLemmas.{acts_of}
 use Rattle.gos_programs.proofs.contexts.ReachedLemmas.{reached_lifted}
-use Rattle.gos_programs.specs.variables.Waits.{HasNoWaitAt, WaitsAt, request_of, answer_of, requests_at, answers_at, SourcesDoNotWait, NoWaitIsZero, ZeroIsNoWait, UnfoldingsKeepWaits, WaitsAreCounted}
+use Rattle.gos_programs.proofs.contexts.PlacedLemmas.{name_cases}
+use Rattle.gos_programs.specs.variables.Waits.{HasNoWaitAt, WaitsAt, WaitsInIndex, request_of, answer_of, requests_at, answers_at, SourcesDoNotWait, NoWaitIsZero, ZeroIsNoWait, UnfoldingsKeepWaits, WaitsAreCounted}
 
 pub sources_wait : SourcesDoNotWait
 sources_wait y i g Skip t h = tt
@@ -111,23 +114,34 @@ none_waits y (Bin op m n) h = (none_waits y m h.0, h.1)
 none_waits y (Scope l m) h = none_waits y m h
 none_waits y (Wait x n) h = sym (ap (λ (b : Bool). if b then 1 else 0) h)
 none_waits y (Held k op n) h = none_waits y n h
+none_waits y (Deref m) h = inl (refl, h)
+none_waits y (Put m k) h = inl (refl, h)
 none_waits y m h = (refl, h)
 
 not_one : (b : Bool) (n : ℕ) → n ≡ 0 → n ≡ (if b then 1 else 0) → b ≡ false
 not_one true n e h = let bad : 0 ≡ 1 = sym e ∙ h in absurd (omega (arith, bad))
 not_one false n e h = refl
 
-no_waits : (y : Name) (n : ℕ) (m : Term) → n ≡ 0 → WaitsAt y n m → HasNoWaitAt y m
-no_waits y n (Seq a b) e h = (no_waits y n a e h.0, h.1)
-no_waits y n (Par a b) e (j, k, g, p, q) = (no_waits y j a (omega (arith, e, g)) p, no_waits y k b (omega (arith, e, g)) q)
-no_waits y n (If a b c) e h = (no_waits y n a e h.0, h.1, h.2)
-no_waits y n (Assign a b) e h = (h.0, no_waits y n b e h.1)
-no_waits y n (Not a) e h = no_waits y n a e h
-no_waits y n (Bin op a b) e h = (no_waits y n a e h.0, h.1)
-no_waits y n (Scope l a) e h = no_waits y n a e h
-no_waits y n (Wait x k) e h = not_one (bytes_eq x y) n e h
-no_waits y n (Held k op b) e h = no_waits y n b e h
-no_waits y n m e h = h.1
+mutual
+  no_waits : (y : Name) (n : ℕ) (m : Term) → n ≡ 0 → WaitsAt y n m → HasNoWaitAt y m
+  no_waits y n (Seq a b) e h = (no_waits y n a e h.0, h.1)
+  no_waits y n (Par a b) e (j, k, g, p, q) = (no_waits y j a (omega (arith, e, g)) p, no_waits y k b (omega (arith, e, g)) q)
+  no_waits y n (If a b c) e h = (no_waits y n a e h.0, h.1, h.2)
+  no_waits y n (Assign a b) e h = (h.0, no_waits y n b e h.1)
+  no_waits y n (Not a) e h = no_waits y n a e h
+  no_waits y n (Bin op a b) e h = (no_waits y n a e h.0, h.1)
+  no_waits y n (Scope l a) e h = no_waits y n a e h
+  no_waits y n (Wait x k) e h = not_one (bytes_eq x y) n e h
+  no_waits y n (Held k op b) e h = no_waits y n b e h
+  no_waits y n (Deref m) e (inl h) = h.1
+  no_waits y n (Deref m) e (inr h) = index_free y n m e h
+  no_waits y n (Put m k) e (inl h) = h.1
+  no_waits y n (Put m k) e (inr h) = index_free y n m e h
+  no_waits y n m e h = h.1
+
+  index_free : (y : Name) (n : ℕ) (m : Term) → n ≡ 0 → WaitsInIndex y n m → HasNoWaitAt y m
+  index_free y n (App h (Both b a)) e (head, free, f, g) = (free, (f, no_waits y n a e g))
+  index_free y n m e h = absurd h
 
 pub zero_none : ZeroIsNoWait
 zero_none y m h = no_waits y 0 m refl h
@@ -139,6 +153,13 @@ value_waits y n v (inr (k, w, e)) h = (subst (WaitsAt y n) e h).0
 -- a change that takes d waits away and adds u
 abbrev Counts : Name → ℕ → ℕ → Rel
 Counts y d u a b = (n : ℕ) → WaitsAt y n a → (k : ℕ) × (k + d ≡ n + u) × WaitsAt y k b
+
+-- in the index of an access
+in_index : (y : Name) (n : ℕ) (x : Name) (c a : Term)
+    → ((n ≡ 0) × HasNoWaitAt y (App (Wait x 0) (Both c a))) ⊎ WaitsInIndex y n (App (Wait x 0) (Both c a))
+    → (bytes_eq x y ≡ false) × HasNoWaitAt y c × WaitsAt y n a
+in_index y n x c a (inl (e, (f, (g, h)))) = (f, g, subst (λ (k : ℕ). WaitsAt y k a) (sym e) (none_waits y a h))
+in_index y n x c a (inr (head, f, g, h)) = (f, g, h)
 
 counts_in : (y : Name) (d u : ℕ) (c : Context) (a b : Term) → Counts y d u a b → Counts y d u (plug c a) (plug c b)
 counts_in y d u (SeqFirst m) a b q n (h, g) = let x = q n h in (x.0, x.1, (x.2, g))
@@ -156,18 +177,39 @@ counts_in y d u (HeldRight k op) a b q n h = q n h
 counts_in y d u NotOf a b q n h = q n h
 counts_in y d u (AssignRight m) a b q n (h, g) = let x = q n g in (x.0, x.1, (h, x.2))
 counts_in y d u (ScopeBody l) a b q n h = q n h
+counts_in y d u (ReadIndex x c) a b q n h =
+    let w = in_index y n x c a h in
+    let r = q n w.2 in
+    (r.0, r.1, inr ((x, refl), w.0, w.1, r.2))
+counts_in y d u (WriteIndex x c k) a b q n h =
+    let w = in_index y n x c a h in
+    let r = q n w.2 in
+    (r.0, r.1, inr ((x, refl), w.0, w.1, r.2))
 
 -- what becomes nothing that waits, where nothing waited
 to_none : (y : Name) (n : ℕ) (b t : Term) → t ≡ b → n ≡ 0 → HasNoWaitAt y b → (k : ℕ) × (k + 0 ≡ n + 0) × WaitsAt y k t
 to_none y n b t et e h = (0, omega (arith, e), subst (WaitsAt y 0) (sym et) (none_waits y b h))
+
+abbrev Anything : Rel
+Anything a b = Unit {0}
+
+waits_index : (y : Name) (n : ℕ) (m : Term) → WaitsInIndex y n m → InIndex Anything m m
+waits_index y n (App h (Both b a)) (head, free, f, w) = (head, a, refl, inl tt)
+waits_index y n m w = absurd w
 
 -- heads
 head_waits : (y : Name) (n : ℕ) (a b : Term) → OneHead a b → WaitsAt y n a → (n ≡ 0) × HasNoWaitAt y a
 head_waits y n (App m k) b h w = w
 head_waits y n (Fst m) b h w = w
 head_waits y n (Snd m) b h w = w
-head_waits y n (Put m k) b h w = w
-head_waits y n (Deref m) b h w = w
+head_waits y n (Put m k) b h (inl w) = w
+head_waits y n (Put m k) b (inr (m', e, h)) (inr w) = absurd (lower_no_index Anything m m' m h (waits_index y n m w))
+head_waits y n (Put m k) b (inl (inl h)) (inr w) = absurd h
+head_waits y n (Put m k) b (inl (inr h)) (inr w) = absurd h
+head_waits y n (Deref m) b h (inl w) = w
+head_waits y n (Deref m) b (inr (m', e, h)) (inr w) = absurd (lower_no_index Anything m m' m h (waits_index y n m w))
+head_waits y n (Deref m) b (inl (inl h)) (inr w) = absurd h
+head_waits y n (Deref m) b (inl (inr h)) (inr w) = absurd h
 head_waits y n a b (inl (inl h)) w = absurd h
 head_waits y n a b (inl (inr h)) w = absurd h
 head_waits y n a b (inr h) w = absurd h
@@ -209,8 +251,10 @@ count_row y s s' (Held i op n) b (j, w, en, et, es) k h =
 count_row y s s' (Not m) b (j, w, em, et, es) k h =
     (0, (let e = value_waits y k m (inr (j, w, em)) h in omega (arith, e)), subst (WaitsAt y 0) (sym et) (refl, tt))
 count_row y s s' (Assign m n) b (j, w, en, et, es) k (g, h) = to_none y k (Put m j) b et (value_waits y k n (inr (j, w, en)) h) g
-count_row y s s' (Put m i) b (e, em, here, et, es) k (z, h) = to_none y k Skip b et z tt
-count_row y s s' (Deref m) b (e, em, here, et, es) k (z, h) = (0, omega (arith, z), subst (WaitsAt y 0) (sym et) (refl, tt))
+count_row y s s' (Put m i) b (e, em, here, et, es) k (inl (z, h)) = to_none y k Skip b et z tt
+count_row y s s' (Put m i) b (e, em, here, et, es) k (inr h) = absurd (subst (WaitsInIndex y k) em h)
+count_row y s s' (Deref m) b (e, em, here, et, es) k (inl (z, h)) = (0, omega (arith, z), subst (WaitsAt y 0) (sym et) (refl, tt))
+count_row y s s' (Deref m) b (e, em, here, et, es) k (inr h) = absurd (subst (WaitsInIndex y k) em h)
 count_row y s s' (New w m) b (l, absent, et, es) k (z, h) = to_none y k (Scope l (put_at 0 (Loc l) m)) b et z (none_put y m 0 (Loc l) tt h)
 count_row y s s' (Scope l m) b (is, et, es) k h = (k, refl, subst (WaitsAt y k) (sym et) h)
 count_row y s s' a b h k w = absurd h
@@ -258,21 +302,97 @@ answered_row y x o b n port answers none z =
     ap (λ (p : Port). request_of y p o.event) port ∙ (ap (λ (c : Bool). if bytes_eq x y && not c then 1 else 0) answers ∙ no_case (bytes_eq x y)) in
     (0, omega (arith, nothing, one, z), none)
 
-count_label : (y : Name) (i : Imports) (o : Label) (a b : Term) → OneLabel i o a b → Counts y (answers_at y (Showing o)) (requests_at y (Showing o)) a b
-count_label y i o (Import x) b (inl (inl (h, e, et))) n (z, g) = asked_row y x 0 0 1 o b n refl e et z
-count_label y i o (Import x) b (inl (inr (w, h, e, et))) n (z, g) = asked_row y x 0 0 1 o b n refl e et z
-count_label y i o (Deref m) b (inl (x, w, em, h, e, et)) n (z, g) = asked_row y x 0 0 1 o b n refl e et z
-count_label y i o (Put m j) b (inl (x, w, em, h, e, et)) n (z, g) = asked_row y x 2 j 3 o b n refl e et z
-count_label y i o (Wait x j) b (inr (p, e, h)) n z =
-    answered_row y x o b n p (ap is_answer e ∙ is_an_answer (import_type i x) j o.value b h) (answer_none y (import_type i x) j o.value b h) z
-count_label y i o a b (inl h) n w = absurd h
-count_label y i o a b (inr h) n w = absurd h
+-- a label of another port
+elsewhere : (y x : Name) (o : Label) → o.port ≡ Taken x → bytes_eq x y ≡ false → (answers_at y (Showing o) ≡ 0) × (requests_at y (Showing o) ≡ 0)
+elsewhere y x o port other = (
+  ap (λ (p : Port). answer_of y p o.event) port ∙ ap (λ (c : Bool). if c && is_answer o.event then 1 else 0) other,
+  ap (λ (p : Port). request_of y p o.event) port ∙ ap (λ (c : Bool). if c && not (is_answer o.event) then 1 else 0) other,
+)
 
-acts_count : (y : Name) (i : Imports) (a : Act) (s s' : Store) (m t : Term) → Acts i a s s' m t → Counts y (answers_at y a) (requests_at y a) m t
-acts_count y i Computing s s' m t h = reached_lifted (Computes s s') (Counts y 0 0) (count_row y s s') (counts_in y 0 0) m t h
-acts_count y i (Showing o) s s' m t (h, e) =
-    reached_lifted (OneLabel i o) (Counts y (answers_at y (Showing o)) (requests_at y (Showing o))) (count_label y i o)
+-- an access of another port, whose index is not asked for or has ended, has no wait
+unasked_index : (y : Name) (n : ℕ) (h a : Term) → ((x : Name) → h ≡ Wait x 0 → ⊥) → WaitsInIndex y n (App h a) → ⊥
+unasked_index y n h (Both b c) none w = none w.0.0 w.0.1
+unasked_index y n h a none w = absurd w
+
+no_index_yet : (y : Name) (n : ℕ) (m h a : Term) → m ≡ App h a → ((x : Name) → h ≡ Wait x 0 → ⊥)
+    → ((n ≡ 0) × HasNoWaitAt y m) ⊎ WaitsInIndex y n m → (n ≡ 0) × HasNoWaitAt y a
+no_index_yet y n m h a em none (inl (z, f)) = (z, (subst (HasNoWaitAt y) em f).1)
+no_index_yet y n m h a em none (inr w) = absurd (unasked_index y n h a none (subst (WaitsInIndex y n) em w))
+
+index_ended : (y : Name) (n : ℕ) (m : Term) (x : Name) (c a : Term) (k w : ℕ) → m ≡ App (Wait x 0) (Both c a) → a ≡ Lit k w
+    → ((n ≡ 0) × HasNoWaitAt y m) ⊎ WaitsInIndex y n m → (n ≡ 0) × HasNoWaitAt y (Both c a)
+index_ended y n m x c a k w em ea h =
+    let (f, g, waits) = in_index y n x c a (subst (λ (v : Term). ((n ≡ 0) × HasNoWaitAt y v) ⊎ WaitsInIndex y n v) em h) in
+    (value_waits y n a (inr (k, w, ea)) waits, (g, subst (HasNoWaitAt y) (sym ea) tt))
+
+-- what is left of an access of another port waits for nothing at this one
+access_left : (y x : Name) (o : Label) (t b : Term) (n : ℕ) → o.port ≡ Taken x → bytes_eq x y ≡ false → n ≡ 0 → b ≡ t → WaitsAt y 0 t
+    → (k : ℕ) × (k + answers_at y (Showing o) ≡ n + requests_at y (Showing o)) × WaitsAt y k b
+access_left y x o t b n port other z et w =
+    let none = elsewhere y x o port other in
+    let one : answers_at y (Showing o) ≡ 0 = none.0 in
+    let two : requests_at y (Showing o) ≡ 0 = none.1 in
+    (0, omega (arith, one, two, z), subst (WaitsAt y 0) (sym et) w)
+
+abbrev IsNoArray : Imports → Name → Type 0
+IsNoArray i y = (j w : ℕ) → IsArrayImport i y j w → ⊥
+
+other_array : (i : Imports) (y x : Name) (c w : ℕ) → IsNoArray i y → IsArrayImport i x c w → bytes_eq x y ≡ false
+other_array i y x c w none array =
+    name_cases x y (λ same t. absurd (none c w (subst (λ (v : Name). IsArrayImport i v c w) same array))) (λ f. f)
+
+request_waits : (x y : Name) → Wait x 1 ≡ Wait y 0 → ⊥
+request_waits x y e = let bad : ◌≡◌ {A = ℕ} 1 0 = cc e in omega (arith, bad)
+
+count_label : (y : Name) (i : Imports) → IsNoArray i y → (o : Label) (a b : Term) → OneLabel i o a b → Counts y (answers_at y (Showing o)) (requests_at y (Showing o)) a b
+count_label y i none o (Import x) b (inl (inl (h, e, et))) n (z, g) = asked_row y x 0 0 1 o b n refl e et z
+count_label y i none o (Import x) b (inl (inr (w, h, e, et))) n (z, g) = asked_row y x 0 0 1 o b n refl e et z
+count_label y i none o (Deref m) b (inl (inl (x, w, em, h, e, et))) n (inl (z, g)) = asked_row y x 0 0 1 o b n refl e et z
+count_label y i none o (Deref m) b (inl (inl (x, w, em, h, e, et))) n (inr g) = absurd (subst (WaitsInIndex y n) em g)
+count_label y i none o (Put m j) b (inl (inl (x, w, em, h, e, et))) n (inl (z, g)) = asked_row y x 2 j 3 o b n refl e et z
+count_label y i none o (Put m j) b (inl (inl (x, w, em, h, e, et))) n (inr g) = absurd (subst (WaitsInIndex y n) em g)
+count_label y i none o (Wait x j) b (inr (p, e, h)) n z =
+    answered_row y x o b n p (ap is_answer e ∙ is_an_answer (import_type i x) j o.value b h) (answer_none y (import_type i x) j o.value b h) z
+count_label y i none o (Deref m) b (inl (inr (x, p, (c, w, l, array, inl (em, ee, ek, et))))) n g =
+    let other = other_array i y x c w none array in
+    let rest = no_index_yet y n m (Import x) l em (λ v e. cc e) g in
+    access_left y x o (Deref (App (Wait x 1) (Both l l))) b n p other rest.0 et (inl (refl, (other, (rest.1, rest.1))))
+count_label y i none o (Deref m) b (inl (inr (x, p, (c, w, l, array, inr (q, em, eq, ee, et))))) n g =
+    let other = other_array i y x c w none array in
+    let rest = index_ended y n m x l q o.value c em eq g in
+    access_left y x o (Deref (App (Wait x 1) (Both l q))) b n p other rest.0 et (inl (refl, (other, rest.1)))
+count_label y i none o (Deref m) b (inr (x, p, (c, w, l, q, array, em, inl (ee, ek, et)))) n g =
+    let other = other_array i y x c w none array in
+    let rest = no_index_yet y n m (Wait x 1) (Both l q) em (request_waits x) g in
+    access_left y x o (Deref (App (Wait x 0) (Both l l))) b n p other rest.0 et (inl (refl, (other, (rest.1.0, rest.1.0))))
+count_label y i none o (Deref m) b (inr (x, p, (c, w, l, q, array, em, inr (ee, ek, et)))) n g =
+    let other = other_array i y x c w none array in
+    let rest = no_index_yet y n m (Wait x 1) (Both l q) em (request_waits x) g in
+    access_left y x o (Lit o.value w) b n p other rest.0 et (refl, tt)
+count_label y i none o (Put m j) b (inl (inr (x, p, (c, w, l, array, inl (em, ee, ek, et))))) n g =
+    let other = other_array i y x c w none array in
+    let rest = no_index_yet y n m (Import x) l em (λ v e. cc e) g in
+    access_left y x o (Put (App (Wait x 1) (Both l l)) j) b n p other rest.0 et (inl (refl, (other, (rest.1, rest.1))))
+count_label y i none o (Put m j) b (inl (inr (x, p, (c, w, l, array, inr (q, em, eq, ee, et))))) n g =
+    let other = other_array i y x c w none array in
+    let rest = index_ended y n m x l q o.value c em eq g in
+    access_left y x o (Put (App (Wait x 1) (Both l q)) j) b n p other rest.0 et (inl (refl, (other, rest.1)))
+count_label y i none o (Put m j) b (inr (x, p, (c, w, l, q, array, em, inl (ee, ek, et)))) n g =
+    let other = other_array i y x c w none array in
+    let rest = no_index_yet y n m (Wait x 1) (Both l q) em (request_waits x) g in
+    access_left y x o (Put (App (Wait x 0) (Both l l)) j) b n p other rest.0 et (inl (refl, (other, (rest.1.0, rest.1.0))))
+count_label y i none o (Put m j) b (inr (x, p, (c, w, l, q, array, em, inr (ee, ek, et)))) n g =
+    let other = other_array i y x c w none array in
+    let rest = no_index_yet y n m (Wait x 1) (Both l q) em (request_waits x) g in
+    access_left y x o (Skip) b n p other rest.0 et (refl, tt)
+count_label y i none o a b (inl h) n w = absurd h
+count_label y i none o a b (inr h) n w = absurd h
+
+acts_count : (y : Name) (i : Imports) → IsNoArray i y → (a : Act) (s s' : Store) (m t : Term) → Acts i a s s' m t → Counts y (answers_at y a) (requests_at y a) m t
+acts_count y i none Computing s s' m t h = reached_lifted (Computes s s') (Counts y 0 0) (count_row y s s') (counts_in y 0 0) m t h
+acts_count y i none (Showing o) s s' m t (h, e) =
+    reached_lifted (OneLabel i o) (Counts y (answers_at y (Showing o)) (requests_at y (Showing o))) (count_label y i none o)
     (counts_in y (answers_at y (Showing o)) (requests_at y (Showing o))) m t h
 
 pub waits_counted : WaitsAreCounted
-waits_counted p y a n m t s u (j, v, hs, h) w = acts_count y p.imports a s u v t (acts_of p.imports a s u v t h) n (unfoldings_keep y j n m v hs w)
+waits_counted p y a n m t s u none (j, v, hs, h) w = acts_count y p.imports none a s u v t (acts_of p.imports a s u v t h) n (unfoldings_keep y j n m v hs w)

@@ -2,7 +2,7 @@
 --
 -- Read first: Terms, Reach of gos_model. Each is a term with a hole at one reached place.
 use Rattle.std.specs.Prelude.{ℕ, List, [], ◌∷◌}
-use Rattle.gos_model.specs.Terms.{Term, Op, Seq, Par, If, Assign, Not, Bin, Scope, Held}
+use Rattle.gos_model.specs.Terms.{Name, Term, Op, App, Seq, Par, If, Assign, Deref, Not, Bin, Scope, Wait, Held, Put, Both}
 
 -- a place of a term, with all that stands beside it
 pub data Context : Type 0 where
@@ -15,6 +15,8 @@ pub data Context : Type 0 where
   NotOf : Context
   AssignRight : (m : Term) → Context
   ScopeBody : (l : ℕ) → Context
+  ReadIndex : (x : Name) (n : Term) → Context
+  WriteIndex : (x : Name) (n : Term) (k : ℕ) → Context
 
 -- the term with m at that place
 abbrev pub plug : Context → Term → Term
@@ -27,16 +29,21 @@ plug (HeldRight k op) m = Held k op m
 plug NotOf m = Not m
 plug (AssignRight n) m = Assign n m
 plug (ScopeBody l) m = Scope l m
+plug (ReadIndex x n) m = Deref (App (Wait x 0) (Both n m))
+plug (WriteIndex x n k) m = Put (App (Wait x 0) (Both n m)) k
 
 -- the term with m at the end of these places, the outermost first
 abbrev pub plug_all : List Context → Term → Term
 plug_all [] m = m
 plug_all (c ∷ cs) m = plug c (plug_all cs m)
 
--- no other part of it is reached: all contexts but the sides of `||`
+-- No other part of it is reached, and it shows nothing by itself: all contexts but the sides of `||`, and the index of an
+-- access, whose number is a label.
 abbrev pub IsAlone : Context → Type 0
 IsAlone (ParLeft n) = ⊥
 IsAlone (ParRight m) = ⊥
+IsAlone (ReadIndex x n) = ⊥
+IsAlone (WriteIndex x n k) = ⊥
 IsAlone c = Unit {0}
 
 abbrev pub AllAlone : List Context → Type 0

@@ -15,9 +15,11 @@ use Rattle.gos_model.specs.Labels.{Taken, taken}
 use Rattle.gos_model.specs.Moves.{Program, Config, Running, Act, Computing, Showing, Unfoldings, Move}
 use Rattle.gos_programs.specs.contexts.Renaming.{IsInjective, IsFreeOf, beside}
 
--- what stands for a wait: at the import, a read for that of its answer, and `skip` for that of the answer to a write
+-- What stands for a wait: at the import, a read for that of its answer, and `skip` for that of the answer to a write. For
+-- event 0, a request, it never waits.
 abbrev pub wait_for : Bool → ℕ → Name → ℕ → Term
 wait_for false z x n = Wait x n
+wait_for true z x zero = Wait x zero
 wait_for true z x (suc zero) = Deref (Loc z)
 wait_for true z x n = Skip
 

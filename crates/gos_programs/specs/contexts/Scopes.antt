@@ -5,6 +5,7 @@
 use Rattle.std.specs.Prelude.{◌≡◌, ◌⊎◌, ℕ, List, [], Some}
 use Rattle.gos_types.specs.Types.{Type'}
 use Rattle.gos_model.specs.Terms.{Term, Skip, Lit, Bound, Import, Lam, App, Both, Fst, Snd, Seq, Par, If, While, Assign, Deref, New, Not, Bin, Loc, Scope, Wait, Held, Put}
+use Rattle.gos_model.specs.Reach.{IsArrayHead}
 use Rattle.gos_model.specs.Typing.{Imports, Typed}
 use Rattle.gos_model.specs.Stores.{Entry, Store, entry_at}
 use Rattle.gos_model.specs.Steps.{IsValue}
@@ -36,29 +37,44 @@ IsShut (Wait x s) = Unit {0}
 IsShut (Held k op n) = IsShut n
 IsShut (Put m k) = IsShut m
 
--- no block is open in it but at reached places
-abbrev pub OpensInPlace : Term → Type 0
-OpensInPlace (Seq m n) = OpensInPlace m × IsShut n
-OpensInPlace (Par m n) = OpensInPlace m × OpensInPlace n
-OpensInPlace (If m n p) = OpensInPlace m × IsShut n × IsShut p
-OpensInPlace (Bin op m n) = OpensInPlace m × IsShut n
-OpensInPlace (Held k op n) = OpensInPlace n
-OpensInPlace (Not m) = OpensInPlace m
-OpensInPlace (Assign m n) = IsShut m × OpensInPlace n
-OpensInPlace (Scope l m) = OpensInPlace m
-OpensInPlace m = IsShut m
+abbrev mutual
+  -- no block is open in it but at reached places
+  pub OpensInPlace : Term → Type 0
+  OpensInPlace (Seq m n) = OpensInPlace m × IsShut n
+  OpensInPlace (Par m n) = OpensInPlace m × OpensInPlace n
+  OpensInPlace (If m n p) = OpensInPlace m × IsShut n × IsShut p
+  OpensInPlace (Bin op m n) = OpensInPlace m × IsShut n
+  OpensInPlace (Held k op n) = OpensInPlace n
+  OpensInPlace (Not m) = OpensInPlace m
+  OpensInPlace (Assign m n) = IsShut m × OpensInPlace n
+  OpensInPlace (Scope l m) = OpensInPlace m
+  OpensInPlace (Deref m) = IsShut m ⊎ OpensInIndex m
+  OpensInPlace (Put m k) = IsShut m ⊎ OpensInIndex m
+  OpensInPlace m = IsShut m
 
--- the location of a block that is open at a reached place
-abbrev pub IsOpen : ℕ → Term → Type 0
-IsOpen l (Seq m n) = IsOpen l m
-IsOpen l (Par m n) = IsOpen l m ⊎ IsOpen l n
-IsOpen l (If m n p) = IsOpen l m
-IsOpen l (Bin op m n) = IsOpen l m
-IsOpen l (Held k op n) = IsOpen l n
-IsOpen l (Not m) = IsOpen l m
-IsOpen l (Assign m n) = IsOpen l n
-IsOpen l (Scope k m) = (k ≡ l) ⊎ IsOpen l m
-IsOpen l m = ⊥
+  -- nor in an access but in its index
+  pub OpensInIndex : Term → Type 0
+  OpensInIndex (App h (Both n m)) = IsArrayHead h × IsShut n × OpensInPlace m
+  OpensInIndex m = ⊥
+
+abbrev mutual
+  -- the location of a block that is open at a reached place
+  pub IsOpen : ℕ → Term → Type 0
+  IsOpen l (Seq m n) = IsOpen l m
+  IsOpen l (Par m n) = IsOpen l m ⊎ IsOpen l n
+  IsOpen l (If m n p) = IsOpen l m
+  IsOpen l (Bin op m n) = IsOpen l m
+  IsOpen l (Held k op n) = IsOpen l n
+  IsOpen l (Not m) = IsOpen l m
+  IsOpen l (Assign m n) = IsOpen l n
+  IsOpen l (Scope k m) = (k ≡ l) ⊎ IsOpen l m
+  IsOpen l (Deref m) = IsOpenInIndex l m
+  IsOpen l (Put m k) = IsOpenInIndex l m
+  IsOpen l m = ⊥
+
+  pub IsOpenInIndex : ℕ → Term → Type 0
+  IsOpenInIndex l (App h (Both n m)) = IsArrayHead h × IsOpen l m
+  IsOpenInIndex l m = ⊥
 
 -- each location of the store is that of an open block
 abbrev pub KeepsScopes : Term → Store → Type 0

@@ -3,13 +3,13 @@
 -- Read first: Together, LocalVariable, Standing.
 use Rattle.std.specs.Prelude.{◌≡◌, ℕ, suc, [], ◌∷◌}
 use Rattle.gos_types.specs.Types.{Com, Var}
-use Rattle.gos_model.specs.Terms.{Term, Skip, Lit, Import, Seq, Par, Assign, Loc, Scope, Put}
+use Rattle.gos_model.specs.Terms.{Term, Skip, Lit, Import, App, Seq, Par, Assign, Deref, Loc, Scope, Wait, Put, Both}
 use Rattle.gos_model.specs.Typing.{Imports}
 use Rattle.gos_model.specs.Stores.{Store}
 use Rattle.gos_model.specs.Labels.{given, taken}
 use Rattle.gos_model.specs.Moves.{Computing, Showing}
 use Rattle.gos_model.specs.SmallPrograms.{c}
-use Rattle.gos_programs.specs.contexts.Contexts.{SeqFirst, ParLeft, IsAlone}
+use Rattle.gos_programs.specs.contexts.Contexts.{SeqFirst, ParLeft, ReadIndex, IsAlone}
 use Rattle.gos_programs.specs.contexts.Plugged.{AreInner}
 use Rattle.gos_programs.specs.contexts.Scopes.{IsShut, OpensInPlace, KeepsScopes}
 use Rattle.gos_programs.specs.contexts.Standing.{StandsIn, InScope, OpensDiffer}
@@ -43,6 +43,14 @@ RequestsAreNotInner = AreInner (Computing ∷ Showing (taken c 0 0) ∷ []) × (
 -- the block may be open where it is reached, and nowhere else
 abbrev pub BlocksOpenInPlace : Type 0
 BlocksOpenInPlace = OpensInPlace (Seq block Skip) × (OpensInPlace (Seq Skip block) → ⊥) × (IsShut block → ⊥)
+
+-- and in the index of an access that was asked for, but not in one that was not
+abbrev pub BlocksOpenInIndex : Type 0
+BlocksOpenInIndex = OpensInPlace (Deref (App (Wait c 0) (Both Skip block))) × (OpensInPlace (Deref (App (Wait c 1) (Both Skip block))) → ⊥)
+
+-- of an index no context is alone, since its number is a label
+abbrev pub IndexIsNotAlone : Type 0
+IndexIsNotAlone = IsAlone (ReadIndex c Skip) → ⊥
 
 -- a store keeps to the block, and doesn't outlast it
 abbrev pub StoresKeepScopes : Type 0

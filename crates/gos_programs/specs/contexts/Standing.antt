@@ -5,6 +5,7 @@
 use Rattle.std.specs.Prelude.{◌≡◌, ◌⊎◌, ℕ, List, [], ◌∷◌, Some}
 use Rattle.gos_types.specs.Types.{Type'}
 use Rattle.gos_model.specs.Terms.{Term, Skip, Lit, Bound, Import, Lam, App, Both, Fst, Snd, Seq, Par, If, While, Assign, Deref, New, Not, Bin, Loc, Scope, Wait, Held, Put}
+use Rattle.gos_model.specs.Reach.{IsArrayHead}
 use Rattle.gos_model.specs.Typing.{Typed}
 use Rattle.gos_model.specs.Stores.{Entry, Store, entry_at}
 use Rattle.gos_model.specs.Moves.{Program, Idle, Running, Act, Moves}
@@ -71,17 +72,24 @@ InScope ls (Wait x s) = Unit {0}
 InScope ls (Held k op n) = InScope ls n
 InScope ls (Put m k) = InScope ls m
 
--- no two open blocks have one location
-abbrev pub OpensDiffer : Term → Type 0
-OpensDiffer (Seq m n) = OpensDiffer m
-OpensDiffer (Par m n) = OpensDiffer m × OpensDiffer n × ((l : ℕ) → IsOpen l m → IsOpen l n → ⊥)
-OpensDiffer (If m n p) = OpensDiffer m
-OpensDiffer (Bin op m n) = OpensDiffer m
-OpensDiffer (Held k op n) = OpensDiffer n
-OpensDiffer (Not m) = OpensDiffer m
-OpensDiffer (Assign m n) = OpensDiffer n
-OpensDiffer (Scope l m) = (IsOpen l m → ⊥) × OpensDiffer m
-OpensDiffer m = Unit {0}
+abbrev mutual
+  -- no two open blocks have one location
+  pub OpensDiffer : Term → Type 0
+  OpensDiffer (Seq m n) = OpensDiffer m
+  OpensDiffer (Par m n) = OpensDiffer m × OpensDiffer n × ((l : ℕ) → IsOpen l m → IsOpen l n → ⊥)
+  OpensDiffer (If m n p) = OpensDiffer m
+  OpensDiffer (Bin op m n) = OpensDiffer m
+  OpensDiffer (Held k op n) = OpensDiffer n
+  OpensDiffer (Not m) = OpensDiffer m
+  OpensDiffer (Assign m n) = OpensDiffer n
+  OpensDiffer (Scope l m) = (IsOpen l m → ⊥) × OpensDiffer m
+  OpensDiffer (Deref m) = DifferInIndex m
+  OpensDiffer (Put m k) = DifferInIndex m
+  OpensDiffer m = Unit {0}
+
+  pub DifferInIndex : Term → Type 0
+  DifferInIndex (App h (Both n m)) = IsArrayHead h → OpensDiffer m
+  DifferInIndex m = Unit {0}
 
 -- in a run of a source
 abbrev pub RunsStay : Type 0

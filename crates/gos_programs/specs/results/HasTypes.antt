@@ -21,12 +21,15 @@ widths_of s l w = (e : Entry) × (entry_at s l ≡ Some e) × (e.width ≡ w)
 abbrev pub NumbersFit : Store → Type 0
 NumbersFit s = (l : ℕ) (e : Entry) → entry_at s l ≡ Some e → e.number < 2 ^ e.width
 
--- the type of what the answer with this event number leaves, at a port of this type
+-- The type of what the answer with this event number leaves, at a port of this type. In the access of an array what
+-- waits takes a pair, of the index as it was written and as it is now.
 abbrev pub AnswersWith : Option Type' → ℕ → Type' → Type 0
 AnswersWith (Some Com) (suc zero) t = t ≡ Com
 AnswersWith (Some (Exp w)) (suc zero) t = t ≡ Exp w
 AnswersWith (Some (Var w)) (suc zero) t = t ≡ Exp w
 AnswersWith (Some (Var w)) (suc (suc (suc zero))) t = t ≡ Com
+AnswersWith (Some (Fun (Exp i) (Var w))) zero t = t ≡ Fun (Pair (Exp i) (Exp i)) (Var w)
+AnswersWith (Some (Fun (Exp i) (Var w))) (suc zero) t = t ≡ Fun (Pair (Exp i) (Exp i)) (Var w)
 AnswersWith o n t = ⊥
 
 -- A running term, over these widths, with imports i and under binders of the types g, the innermost first, has type t.

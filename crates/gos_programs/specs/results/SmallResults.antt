@@ -1,10 +1,11 @@
 -- Small running terms and stores that meet the definitions, and others that miss them.
 use Rattle.std.specs.Prelude.{ℕ, [], ◌∷◌}
 use Rattle.gos_types.specs.Types.{Type', Com, Exp}
-use Rattle.gos_model.specs.Terms.{Lit, Import, Par, Loc, Wait, Put}
+use Rattle.gos_model.specs.Terms.{Lit, Import, App, Par, Deref, Loc, Wait, Put, Both}
 use Rattle.gos_model.specs.Typing.{Imports, Typed}
 use Rattle.gos_model.specs.Stores.{Store}
 use Rattle.gos_model.specs.SmallPrograms.{c}
+use Rattle.gos_model.specs.ArrayPorts.{a, an_array}
 use Rattle.gos_programs.specs.results.HasTypes.{widths_of, NumbersFit, HasType}
 use Rattle.gos_programs.specs.results.Results.{IsResult}
 
@@ -28,6 +29,12 @@ NoLocation = (t : Type') → HasType (widths_of []) [] [] (Loc 0) t → ⊥
 abbrev pub WaitsHaveTypes : Type 0
 WaitsHaveTypes =
     HasType (widths_of []) one_command [] (Wait c 1) Com × ((t : Type') → HasType (widths_of []) [] [] (Wait c 1) t → ⊥)
+
+-- the access of an array that was asked for its index is a number of the array's width, and the array alone is none
+abbrev pub AccessesHaveTypes : Type 0
+AccessesHaveTypes =
+    HasType (widths_of []) an_array [] (Deref (App (Wait a 0) (Both (Lit 1 1) (Lit 1 1)))) (Exp 8)
+    × ((t : Type') → HasType (widths_of []) an_array [] (Deref (Wait a 0)) t → ⊥)
 
 -- `c || c` has a type as a running term, and none as a source
 abbrev pub SharingIsNotAsked : Type 0

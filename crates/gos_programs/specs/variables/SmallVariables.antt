@@ -2,7 +2,7 @@
 --
 -- Read first: Waits, PlacedBack.
 use Rattle.std.specs.Prelude.{◌≡◌}
-use Rattle.gos_model.specs.Terms.{Import, Seq, Par, Wait}
+use Rattle.gos_model.specs.Terms.{Import, App, Seq, Par, Deref, Wait, Both}
 use Rattle.gos_model.specs.Labels.{taken}
 use Rattle.gos_model.specs.Moves.{Computing, Showing}
 use Rattle.gos_model.specs.SmallPrograms.{c, d}
@@ -17,6 +17,10 @@ OneWaits = HasNoWaitAt c (Seq (Import c) (Import c)) × (HasNoWaitAt c (Seq (Wai
 abbrev pub WaitIsReached : Type 0
 WaitIsReached =
     WaitsAt c 1 (Par (Wait c 1) (Wait d 1)) × (WaitsAt c 0 (Par (Wait c 1) (Wait d 1)) → ⊥) × (WaitsAt c 1 (Seq (Import c) (Wait c 1)) → ⊥)
+
+-- the index of an access of c waits at d where it was asked for, and at no reached place where it was not
+abbrev pub IndexWaitsToo : Type 0
+IndexWaitsToo = WaitsAt d 1 (Deref (App (Wait c 0) (Both (Import d) (Wait d 1)))) × (WaitsAt d 1 (Deref (App (Wait c 1) (Both (Import d) (Wait d 1)))) → ⊥)
 
 -- the request at c is one request at c, and no answer, and at d nothing
 abbrev pub LabelsAreCounted : Type 0

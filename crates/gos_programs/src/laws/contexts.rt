@@ -68,7 +68,7 @@ ghost use Rattle.gos_programs.specs.contexts.LocalVariable.{
   UnfoldingsBefore,
 };
 ghost use Rattle.gos_programs.specs.contexts.Ends.{RightWaitsForEnded, LeftWaitsForEnded};
-ghost use Rattle.gos_programs.specs.contexts.SmallContexts.{SidesAreNotAlone, RequestsAreNotInner, BlocksOpenInPlace, StoresKeepScopes, LocationsStand, LocationsAreScoped, BlocksDiffer, BlockIsRenamed, RenamingsTellApart, ZeroIsFree, NoneAreAmongSome, NamesAreKnown, EntriesInAnyOrder, StoresAreApart, StoreIsHeld, LocationIsPlaced, OthersAreLeft, HomeIsApart, LabelsElsewhere};
+ghost use Rattle.gos_programs.specs.contexts.SmallContexts.{SidesAreNotAlone, RequestsAreNotInner, BlocksOpenInPlace, BlocksOpenInIndex, IndexIsNotAlone, StoresKeepScopes, LocationsStand, LocationsAreScoped, BlocksDiffer, BlockIsRenamed, RenamingsTellApart, ZeroIsFree, NoneAreAmongSome, NamesAreKnown, EntriesInAnyOrder, StoresAreApart, StoreIsHeld, LocationIsPlaced, OthersAreLeft, HomeIsApart, LabelsElsewhere};
 
 /// What a term does it does also at a reached place of another one.
 pub fn moves_within()
@@ -189,6 +189,8 @@ pub fn small_contexts()
     ensures alone { SidesAreNotAlone }
     ensures inner { RequestsAreNotInner }
     ensures open { BlocksOpenInPlace }
+    ensures open_index { BlocksOpenInIndex }
+    ensures index { IndexIsNotAlone }
     ensures scopes { StoresKeepScopes }
     ensures stand { LocationsStand }
     ensures scoped { LocationsAreScoped }

@@ -1,6 +1,7 @@
 // What a running term ends with. Each theorem is the contract of a function that does nothing.
 ghost use Rattle.gos_programs.specs.results.Results.{AnswersAreTyped, ResultsAreTyped, RunsKeepTypes};
 ghost use Rattle.gos_programs.specs.results.SmallResults.{
+  AccessesHaveTypes,
   NoLocation,
   OneBitFits,
   SharingIsNotAsked,
@@ -21,6 +22,7 @@ pub fn small_results()
     ensures writes { WritesFit }
     ensures nowhere { NoLocation }
     ensures waits { WaitsHaveTypes }
+    ensures accesses { AccessesHaveTypes }
     ensures sharing { SharingIsNotAsked }
     ensures fits { OneBitFits }
     ensures results { SomeResults }

@@ -8,7 +8,7 @@ ghost use Rattle.gos_programs.specs.variables.Waits.{
 };
 ghost use Rattle.gos_programs.specs.variables.PlacedBack.{PlacedMovesBack, PlacedWaits};
 ghost use Rattle.gos_programs.specs.variables.Unfolded.{UnfoldingsMeet, ActsStay, WaitsBefore};
-ghost use Rattle.gos_programs.specs.variables.SmallVariables.{OneWaits, WaitIsReached, LabelsAreCounted, AnswersAreNotActive};
+ghost use Rattle.gos_programs.specs.variables.SmallVariables.{OneWaits, WaitIsReached, IndexWaitsToo, LabelsAreCounted, AnswersAreNotActive};
 
 /// How many waits at a port stand in a term, move by move.
 pub fn waits_at_ports()
@@ -36,6 +36,7 @@ pub fn unfolded_terms()
 pub fn small_variables()
     ensures one { OneWaits }
     ensures reached { WaitIsReached }
+    ensures index { IndexWaitsToo }
     ensures counted { LabelsAreCounted }
     ensures active { AnswersAreNotActive }
 {}

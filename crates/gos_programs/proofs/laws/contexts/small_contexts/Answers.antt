@@ -1,4 +1,4 @@
-use Rattle.gos_programs.proofs.contexts.SmallLemmas.{sides_are_not_alone, requests_are_not_inner, blocks_open_in_place, stores_keep_scopes, locations_stand, locations_are_scoped, blocks_differ, block_is_renamed, renamings_tell_apart, zero_is_free, none_are_among_some, names_are_known, entries_in_any_order, stores_are_apart, store_is_held, location_is_placed, others_are_left, home_is_apart, labels_elsewhere}
+use Rattle.gos_programs.proofs.contexts.SmallLemmas.{sides_are_not_alone, requests_are_not_inner, blocks_open_in_place, blocks_open_in_index, index_is_not_alone, stores_keep_scopes, locations_stand, locations_are_scoped, blocks_differ, block_is_renamed, renamings_tell_apart, zero_is_free, none_are_among_some, names_are_known, entries_in_any_order, stores_are_apart, store_is_held, location_is_placed, others_are_left, home_is_apart, labels_elsewhere}
 use Rattle.gos_programs.proofs.laws.contexts.small_contexts.Goals as goal
 
 pub returns-clause-alone : goal.returns-clause-alone
@@ -9,6 +9,12 @@ returns-clause-inner c = requests_are_not_inner
 
 pub returns-clause-open : goal.returns-clause-open
 returns-clause-open c = blocks_open_in_place
+
+pub returns-clause-open_index : goal.returns-clause-open_index
+returns-clause-open_index c = blocks_open_in_index
+
+pub returns-clause-index : goal.returns-clause-index
+returns-clause-index c = index_is_not_alone
 
 pub returns-clause-scopes : goal.returns-clause-scopes
 returns-clause-scopes c = stores_keep_scopes
