@@ -28,5 +28,8 @@ pub mod GroundTurnLemmas
 pub mod IdleLemmas
 pub mod ToldLemmas
 pub mod InputLemmas
+pub mod EachTurnLemmas
+pub mod PortLemmas
+pub mod PortInputLemmas
 pub mod MatchedLemmas
 pub mod PassLemmas

@@ -11,3 +11,5 @@ pub mod WritingLemmas
 pub mod WriteLemmas
 pub mod GroundLemmas
 pub mod SmallNameLemmas
+pub mod ArrayReadLemmas
+pub mod SmallArrayLemmas

@@ -5,7 +5,6 @@ pub mod OrderLemmas
 pub mod TurnLemmas
 pub mod AskedLemmas
 pub mod RegularLemmas
-pub mod ProtocolLemmas
 pub mod ImportLemmas
 pub mod DoneLemmas
 pub mod SettledLemmas

@@ -8,7 +8,7 @@ use Rattle.gos_plan.specs.Plans.{End, PartEnd, ImportEnd, ResultEnd, Plan, IsRig
 use Rattle.gos_plan.specs.Joining.{Place, place, Link, Linked, Wiring}
 use Rattle.gos_plan.proofs.WiringLemmas.{place_is}
 use Rattle.gos_realises.specs.realises.Regular.{count}
-use Rattle.gos_realises.specs.realises.Matched.{RealisesDone}
+use Rattle.gos_realises.specs.realises.Matched.{RealisesInTurn}
 use Rattle.gos_realises.specs.realises.Links.{LinksFit, IsJoined}
 use Rattle.gos_realises.specs.realises.Wirings.{lone, link, results_linked}
 use Rattle.gos_realises.specs.realises.Realises.{NamesDiffer, Suits, Means}
@@ -183,14 +183,14 @@ module _ (f : Renumber) (p q : Plan) (is : IsRenumbered f p q) where
         regular = regular_back f p q is suits.regular;
       }
 
-  done_back : (m : Term) → NamesDiffer p.imports → RealisesDone q m → RealisesDone p m
+  done_back : (m : Term) → NamesDiffer p.imports → RealisesInTurn q m → RealisesInTurn p m
   done_back m names done = realises_back f p q is m (reordered_same f.import f.import_back p.imports q.imports (reordered f p q is) names) done
 
-  done_of_other : (m : Term) → NamesDiffer q.imports → RealisesDone q m → RealisesDone p m
+  done_of_other : (m : Term) → NamesDiffer q.imports → RealisesInTurn q m → RealisesInTurn p m
   done_of_other m names done = done_back m (names_same f.import_back f.import q.imports p.imports back_reordered names) done
 
 abbrev DoneToo : Type' → Plan → Term → Type 0
-DoneToo t r m = Suits t r m × RealisesDone r m
+DoneToo t r m = Suits t r m × RealisesInTurn r m
 
 done_too : (g : Renumber) (r s : Plan) (t : Type') (m : Term) → IsRenumbered g r s → DoneToo t s m → DoneToo t r m
 done_too g r s t m is (suits, done) = (suits_back g r s is t m suits, done_of_other g r s is m suits.names done)

@@ -7,10 +7,10 @@ use Rattle.gos_types.proofs.BytesLemmas.{bytes_eq_same}
 use Rattle.gos_model.specs.Terms.{Name, Term, Skip, Lit, Bound, Import, Lam, App, Both, Fst, Snd, Seq, Par, If, While, Assign, Deref, New, Not, Bin, Loc, Scope, Wait, Held, Put}
 use Rattle.gos_model.specs.Typing.{Imported, Imports, import_type, Typed}
 use Rattle.gos_model.specs.Stores.{Store}
-use Rattle.gos_model.specs.Labels.{Port, Given, Taken, Label, Emits, Takes, IsAnswer}
+use Rattle.gos_model.specs.Labels.{Label, Emits, Takes, IsAnswer}
 use Rattle.gos_model.specs.Moves.{Program, Config, Idle, Running, Act, Computing, Showing, ActsTo, Move, Moves, Stalled}
-use Rattle.gos_model.specs.Protocol.{FitsAnswer, event_of, Allowed, KeepsAfter, KeepsProtocol}
 use Rattle.gos_model.proofs.ReachLemmas.{reached_map}
+use Rattle.gos_model.proofs.AccessMapLemmas.{puts_as, reads_as, writes_as}
 use Rattle.gos_realises.specs.realises.Realises.{AllGround, NamesDiffer, HaveOtherNames}
 use Rattle.gos_realises.proofs.realises.PlaceLemmas.{contains_at, place_of, ground_at, ground_by, differ_at, at_differ}
 
@@ -62,7 +62,9 @@ emits_same i j same o (Par m n) t h = h
 emits_same i j same o (If m n p) t h = h
 emits_same i j same o (While m n) t h = h
 emits_same i j same o (Assign m n) t h = h
-emits_same i j same o (Deref m) t (x, w, e, is, f, g) = (x, w, e, sym (same x) ∙ is, f, g)
+emits_same i j same o (Deref m) t (inl (x, w, e, is, f, g)) = inl (x, w, e, sym (same x) ∙ is, f, g)
+emits_same i j same o (Deref m) t (inr (x, p, h)) =
+    inr (x, p, puts_as i j (λ (u : Term). Deref u) 2 0 x o.event o.value m t (λ c w array. sym (same x) ∙ array) h)
 emits_same i j same o (New w m) t h = h
 emits_same i j same o (Not m) t h = h
 emits_same i j same o (Bin op m n) t h = h
@@ -70,7 +72,9 @@ emits_same i j same o (Loc l) t h = h
 emits_same i j same o (Scope l m) t h = h
 emits_same i j same o (Wait x s) t h = h
 emits_same i j same o (Held k op n) t h = h
-emits_same i j same o (Put m k) t (x, w, e, is, f, g) = (x, w, e, sym (same x) ∙ is, f, g)
+emits_same i j same o (Put m k) t (inl (x, w, e, is, f, g)) = inl (x, w, e, sym (same x) ∙ is, f, g)
+emits_same i j same o (Put m k) t (inr (x, p, h)) =
+    inr (x, p, puts_as i j (λ (u : Term). Put u k) 4 k x o.event o.value m t (λ c w array. sym (same x) ∙ array) h)
 
 takes_same : (i j : Imports) → SameImports i j → (o : Label) (m t : Term) → Takes i o m t → Takes j o m t
 takes_same i j same o Skip t h = h
@@ -87,7 +91,8 @@ takes_same i j same o (Par m n) t h = h
 takes_same i j same o (If m n p) t h = h
 takes_same i j same o (While m n) t h = h
 takes_same i j same o (Assign m n) t h = h
-takes_same i j same o (Deref m) t h = h
+takes_same i j same o (Deref m) t (x, p, h) =
+    (x, p, reads_as i j (λ (u : Term). Deref u) x o.event o.value m t (λ c w array. sym (same x) ∙ array) h)
 takes_same i j same o (New w m) t h = h
 takes_same i j same o (Not m) t h = h
 takes_same i j same o (Bin op m n) t h = h
@@ -95,7 +100,8 @@ takes_same i j same o (Loc l) t h = h
 takes_same i j same o (Scope l m) t h = h
 takes_same i j same o (Wait x s) t (at, event, answer) = (at, event, subst (λ (a : Option Type'). IsAnswer a s o.value t) (same x) answer)
 takes_same i j same o (Held k op n) t h = h
-takes_same i j same o (Put m k) t h = h
+takes_same i j same o (Put m k) t (x, p, h) =
+    (x, p, writes_as i j (λ (u : Term). Put u k) x o.event o.value m t (λ c w array. sym (same x) ∙ array) h)
 
 shows_same : (i j : Imports) → SameImports i j → (o : Label) (m t : Term) → Emits i o m t ⊎ Takes i o m t → Emits j o m t ⊎ Takes j o m t
 shows_same i j same o m t (inl h) = inl (emits_same i j same o m t h)
@@ -124,18 +130,6 @@ stalled_same i j same b c stalled = (
   λ d move. stalled.0 d (move_same j i (imports_back i j same) b Computing c d move),
   λ o d out move. stalled.1 o d out (move_same j i (imports_back i j same) b (Showing o) c d move),
 )
-
-allowed_same : (i j : Imports) → SameImports i j → (past : List Label) (p : Port) (n k : ℕ) → Allowed i past p n k → Allowed j past p n k
-allowed_same i j same past Given n k h = h
-allowed_same i j same past (Taken x) n k (fits, asked) = (subst (λ (t : Option Type'). FitsAnswer (event_of t n) k) (same x) fits, asked)
-
-keeps_after_same : (i j : Imports) → SameImports i j → (past ls : List Label) → KeepsAfter i past ls → KeepsAfter j past ls
-keeps_after_same i j same past [] h = h
-keeps_after_same i j same past (l ∷ ls) (allowed, rest) =
-    (λ input. allowed_same i j same past l.port l.event l.value (allowed input), keeps_after_same i j same (l ∷ past) ls rest)
-
-pub protocol_same : (i j : Imports) → SameImports i j → (ls : List Label) → KeepsProtocol i ls → KeepsProtocol j ls
-protocol_same i j same ls keeps = keeps_after_same i j same [] ls keeps
 
 -- Imports in another order: number n of these is number `to n` of those.
 pub record AreReordered (to from : ℕ → ℕ) (is js : List Imported) : Type 0 where

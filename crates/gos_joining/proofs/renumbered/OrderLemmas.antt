@@ -1,23 +1,21 @@
 -- Renumbering the parts and the imports of a plan changes nothing that is seen: orderly lists are orderly, what passes ports
 -- keeps turns, and lists are matched.
-use Rattle.std.specs.Prelude.{◌≡◌, ℕ, Bool, true, false, List, [], ◌∷◌, ◌++◌, Option, Some, None, slice_get, if◌then◌else◌}
+use Rattle.std.specs.Prelude.{◌≡◌, ℕ, Bool, true, false, List, [], ◌∷◌, Option, Some, None, slice_get, if◌then◌else◌}
 use Rattle.std.proofs.Common.{refl, sym, ◌∙◌, ap, subst}
 use Rattle.gos_types.specs.Events.{Direction, Request, Answer}
 use Rattle.gos_model.specs.Terms.{Term}
-use Rattle.gos_model.specs.Labels.{Label}
 use Rattle.gos_model.specs.Moves.{Config, Idle, Act}
-use Rattle.gos_model.specs.Protocol.{KeepsProtocol}
 use Rattle.gos_plan.specs.Kinds.{Contact}
 use Rattle.gos_plan.specs.Firing.{Slot, Req, Ans, Token, Row}
 use Rattle.gos_plan.specs.Plans.{End, PartEnd, ImportEnd, ResultEnd, Plan, contact_at}
 use Rattle.gos_plan.specs.Tokens.{Tokens, Element, Fire, Out, In, places_of, token_at, with_token, with_state, end_of, way_of, way_taken, way_put, firing_of, IsIdle}
 use Rattle.gos_plan.specs.Orderly.{Open, none_open, named_by, handshake_at, with_open, after_taken, after_put, after_puts, ComesWell, AllComeWell, ComesInOrder, AllWelcome, OrderlyFrom, IsOrderly}
 use Rattle.gos_realises.specs.realises.Regular.{Pass, pass, way_in, way_out, KeepsTurns, InputsKeepTurns, OutputsKeepTurns, IsRegular}
-use Rattle.gos_realises.specs.realises.Matched.{port_if, event_number, label_at, shows, all_shown, GoesOn, Agrees, IsMatched, program_of, RealisesDone}
+use Rattle.gos_realises.specs.realises.Matched.{port_if, event_number, shows, GoesOn, Agrees, IsMatched, program_of, RealisesInTurn}
 use Rattle.gos_joining.specs.webs.Renumbering.{Renumber, IsOneToOne, IsRenumbered, back, moved_end, moved, moved_list, moved_tokens}
 use Rattle.gos_joining.proofs.webs.IdleLemmas.{renumbered_back}
 use Rattle.gos_joining.proofs.webs.MovedLemmas.{moved_if, back_and_there, same_moved, place_moved, token_moved, token_filled, state_filled, contact_moved, tokens_round, does_is_moved, runs_is_moved, quiet_is_moved}
-use Rattle.gos_joining.proofs.renumbered.ImportLemmas.{SameImports, imports_back, moves_same, stalled_same, protocol_same, AreReordered}
+use Rattle.gos_joining.proofs.renumbered.ImportLemmas.{SameImports, imports_back, moves_same, stalled_same, AreReordered}
 use Rattle.gos_joining.proofs.renumbered.TurnLemmas.{moved_pass, moved_passes, turns_forth, turns_back}
 
 abbrev pub moved_open : Renumber → Open → Open
@@ -153,23 +151,14 @@ module _ (f : Renumber) (p q : Plan) (is : IsRenumbered f p q) where
   goes_back (In e v) s acts goes = tt
 
   -- what is shown
-  label_moved : (e : End) (way : Direction) (v : ℕ) → label_at q (moved_end f e) way v ≡ label_at p e way v
-  label_moved (PartEnd i h) way v = refl
-  label_moved (ImportEnd i h) way v = λ k. record { port = port_if (is.imports i k); event = event_number way h; value = v }
-  label_moved (ResultEnd h) way v = refl
-
   shows_same : (x : Element) → shows q (moved f x) ≡ shows p x
   shows_same (Fire i t) = refl
-  shows_same (Out e v) =
-      ap (λ (c : Option Contact). label_at q (moved_end f e) (way_out c) v ∷ []) (contact_moved f p q is e)
-      ∙ ap (λ (l : Label). l ∷ []) (label_moved e (way_out (contact_at p e)) v)
-  shows_same (In e v) =
-      ap (λ (c : Option Contact). label_at q (moved_end f e) (way_in c) v ∷ []) (contact_moved f p q is e)
-      ∙ ap (λ (l : Label). l ∷ []) (label_moved e (way_in (contact_at p e)) v)
-
-  all_shown_same : (xs : List Element) → all_shown q (moved_list f xs) ≡ all_shown p xs
-  all_shown_same [] = refl
-  all_shown_same (x ∷ xs) = λ i. shows_same x i ++ all_shown_same xs i
+  shows_same (Out (PartEnd i h) v) = refl
+  shows_same (Out (ImportEnd i h) v) = λ k. record { port = port_if (is.imports i k); event = event_number Request h; value = v } ∷ []
+  shows_same (Out (ResultEnd h) v) = refl
+  shows_same (In (PartEnd i h) v) = refl
+  shows_same (In (ImportEnd i h) v) = λ k. record { port = port_if (is.imports i k); event = event_number Answer h; value = v } ∷ []
+  shows_same (In (ResultEnd h) v) = refl
 
   -- turns
   pub out_pass : (e : End) → pass (moved_end f e) (way_out (contact_at q (moved_end f e))) ≡ moved_pass f (pass e (way_out (contact_at p e)))
@@ -261,10 +250,10 @@ module _ (f : Renumber) (p q : Plan) (is : IsRenumbered f p q) where
           ),
     )
 
-    pub realises_back : RealisesDone q m → RealisesDone p m
+    pub realises_back : RealisesInTurn q m → RealisesInTurn p m
     realises_back done s t xs idle runs keeps =
         let both =
         done (moved_tokens f s) (moved_tokens f t) (moved_list f xs) (idle_moved f p q s idle) (runs_is_moved f p q xs s t is runs)
-        (subst (KeepsProtocol q.imports) (sym (all_shown_same f p q is xs)) (protocol_same p.imports q.imports same (all_shown p xs) keeps))
+        (inputs_moved f p q is xs [] keeps)
         in
         (matched_back xs s Idle both.0, ordered_back xs s both.1)

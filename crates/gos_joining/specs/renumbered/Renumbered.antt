@@ -6,7 +6,7 @@ use Rattle.gos_types.specs.Types.{Type'}
 use Rattle.gos_model.specs.Terms.{Term}
 use Rattle.gos_plan.specs.Plans.{Plan}
 use Rattle.gos_realises.specs.realises.Regular.{IsRegular}
-use Rattle.gos_realises.specs.realises.Matched.{RealisesDone}
+use Rattle.gos_realises.specs.realises.Matched.{RealisesInTurn}
 use Rattle.gos_realises.specs.realises.Realises.{NamesDiffer, Realises}
 use Rattle.gos_joining.specs.webs.Renumbering.{Renumber, IsRenumbered}
 
@@ -17,7 +17,7 @@ RenumberedIsRegular = (f : Renumber) (p q : Plan) → IsRenumbered f p q → IsR
 -- and realises a program of a ground type
 abbrev pub RenumberedIsDone : Type 0
 RenumberedIsDone =
-    (f : Renumber) (p q : Plan) (m : Term) → IsRenumbered f p q → NamesDiffer p.imports → RealisesDone q m → RealisesDone p m
+    (f : Renumber) (p q : Plan) (m : Term) → IsRenumbered f p q → NamesDiffer p.imports → RealisesInTurn q m → RealisesInTurn p m
 
 -- and of any type
 abbrev pub RenumberedIsRealised : Type 0

@@ -1,5 +1,5 @@
 -- A plan of one part with one handshake, which answers each request with one number: the ring of the request, its firing and the answer.
-use Rattle.std.specs.Prelude.{◌≡◌, ℕ, zero, suc, ◌<◌, Bool, true, false, IsTrue, List, [], ◌∷◌, ◌++◌, Option, Some, None, slice_get}
+use Rattle.std.specs.Prelude.{◌≡◌, ℕ, zero, suc, ◌<◌, Bool, true, false, IsTrue, List, [], ◌∷◌, Option, Some, None, slice_get}
 use Rattle.std.proofs.Common.{refl, sym, ◌∙◌, ap, subst, arith}
 use Rattle.std.proofs.lemmas.Option.{none-some, same_Some}
 use Rattle.gos_types.specs.Types.{Type'}
@@ -14,9 +14,9 @@ use Rattle.gos_plan.specs.Tokens.{Tokens, Element, Fire, Out, In, token_at, fire
 use Rattle.gos_plan.specs.Turns.{IsEmptyAt}
 use Rattle.gos_plan.specs.Orderly.{Open, with_open, after_taken, after_put, after_puts, ComesWell, AllComeWell, ComesInOrder, AllWelcome}
 use Rattle.gos_realises.specs.realises.Regular.{Pass, pass, way_in, way_out, is_open, KeepsTurnsOf, ComesInTurn, KeepsTurns}
-use Rattle.gos_realises.specs.realises.Matched.{label_at, shows, GoesOn, Agrees, program_of, RealisesDone}
+use Rattle.gos_realises.specs.realises.Matched.{shows, GoesOn, Agrees, program_of, RealisesInTurn}
 use Rattle.gos_realises.proofs.realises.OneJointLemmas.{Lies, rests_alone, is_idle, with_request, with_answer, not_both}
-use Rattle.gos_realises.proofs.realises.RingLemmas.{after, told_open, OutputTurns, MayCome, IsCircle, IsRing, IsFirst, ring_realises}
+use Rattle.gos_realises.proofs.realises.RingLemmas.{after, OutputTurns, IsCircle, IsRing, IsFirst, ring_realises}
 
 pub data Stage : Type 0 where
   Resting Asked Answered : Stage
@@ -165,24 +165,10 @@ module _ (weight : ℕ) (t : Type') (k : Part) (width number : ℕ) (is : Answer
       (subst (λ (c : Option Contact). ComesInTurn past (ResultEnd 0) (way_in c)) is.asking
       (subst (λ (x : End). ComesInTurn past x (way_in (contact_at plan x))) it.0 turn))
 
-  allowed : (q : Stage) (e : End) (v : ℕ) (s w : Tokens) (past : List Label)
-      → Does plan (In e v) s w → Opened q (told_open plan past)
-      → MayCome plan past (label_at plan e (way_in (contact_at plan e)) v) → In e v ≡ next number q
-  allowed q e v s w past does o may =
-      let it = in_request e v s w does in
-      comes_in q e v (told_open plan past) o it
-      (subst (λ (c : Option Contact). MayCome plan past (label_at plan (ResultEnd 0) (way_in c) v)) is.asking
-      (subst (λ (x : End). MayCome plan past (label_at plan x (way_in (contact_at plan x)) v)) it.0 may) refl).2
-
   passed : (q : Stage) (past : List Pass) → Opened q (is_open past) → Opened (succ q) (is_open (after plan (next number q) past))
   passed Resting past o = ap (λ (c : Option Contact). is_open (pass (ResultEnd 0) (way_in c) ∷ past) (ResultEnd 0)) is.asking
   passed Asked past o = o
   passed Answered past o = ap (λ (c : Option Contact). is_open (pass (ResultEnd 0) (way_out c) ∷ past) (ResultEnd 0)) is.asking
-
-  told : (q : Stage) (past : List Label) → Opened q (told_open plan past) → Opened (succ q) (told_open plan (shows plan (next number q) ++ past))
-  told Resting past o = ap (λ (c : Option Contact). told_open plan (label_at plan (ResultEnd 0) (way_in c) 0 ∷ past) (ResultEnd 0)) is.asking
-  told Asked past o = o
-  told Answered past o = ap (λ (c : Option Contact). told_open plan (label_at plan (ResultEnd 0) (way_out c) number ∷ past) (ResultEnd 0)) is.asking
 
   turns : (q : Stage) (past : List Pass) → Opened q (is_open past) → OutputTurns plan past (next number q)
   turns Resting past o = tt
@@ -245,7 +231,7 @@ module _ (weight : ℕ) (t : Type') (k : Part) (width number : ℕ) (is : Answer
       }
 
   pub first : IsFirst plan Stage (At number) OpenAt Opened Resting
-  first = record { rests = λ s idle. rests_alone (ResultEnd 0) plan s idle; none = refl; closed = refl; silent = refl }
+  first = record { rests = λ s idle. rests_alone (ResultEnd 0) plan s idle; none = refl; closed = refl }
 
   -- a term that ends with the number's label realises it
   module _ (m : Term) (ends : Moves (program_of plan m) (Showing (given 1 number) ∷ []) (Running m []) Idle) where
@@ -287,9 +273,9 @@ module _ (weight : ℕ) (t : Type') (k : Part) (width number : ℕ) (is : Answer
     moves Answered = ends
 
     shown : (q : Stage) → labels (acts q) ≡ shows plan (next number q)
-    shown Resting = sym (ap (λ (c : Option Contact). label_at plan (ResultEnd 0) (way_in c) 0 ∷ []) is.asking)
+    shown Resting = refl
     shown Asked = refl
-    shown Answered = sym (ap (λ (c : Option Contact). label_at plan (ResultEnd 0) (way_out c) number ∷ []) is.asking)
+    shown Answered = refl
 
     goes_on : (q : Stage) (s : Tokens) → At number q s → GoesOn plan s (next number q) (acts q)
     goes_on Resting s here = tt
@@ -300,13 +286,11 @@ module _ (weight : ℕ) (t : Type') (k : Part) (width number : ℕ) (is : Answer
     ring =
         record {
           circle = circle;
-          allowed = allowed;
-          told = told;
           agrees = agrees;
           moves = moves;
           shown = shown;
           goes_on = goes_on;
         }
 
-    pub answer_realises : RealisesDone plan m
+    pub answer_realises : RealisesInTurn plan m
     answer_realises = ring_realises plan m Stage (next number) succ acts config (At number) OpenAt Opened ring Resting refl first

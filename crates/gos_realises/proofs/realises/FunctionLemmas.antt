@@ -175,6 +175,6 @@ pub empty_is_no_function : EmptyIsNoFunction
 empty_is_no_function r =
     let done = (r.means skip_plan lost terms.Skip (λ i j has none. absurd (none_in_empty j none)) skip_is_realised.suits skip_is_realised.means joined).1 in
     let comes : Does lost (In (ResultEnd 0) 0) at_first at_first = (tt, (omega arith, refl)) in
-    let both = done at_first at_first (In (ResultEnd 0) 0 ∷ []) (first_is_idle lost) (at_first, comes, refl) ((λ shut. (refl, refl, refl)), tt) in
+    let both = done at_first at_first (In (ResultEnd 0) 0 ∷ []) (first_is_idle lost) (at_first, comes, refl) ((refl, tt), tt) in
     let (acts, e, moves, shown, goes, last) = both.0.1 at_first comes in
     can_answer (subst (λ x. Stalled program x) (first_moves acts e moves shown) (last.0 (lost_is_quiet at_first)))

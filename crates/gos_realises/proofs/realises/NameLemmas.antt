@@ -1,5 +1,5 @@
 -- The plan of `import c : com; c` realises the name: the ring of its run, of c's run and answer, and of its own answer.
-use Rattle.std.specs.Prelude.{◌≡◌, ℕ, zero, suc, ◌<◌, Bool, true, false, IsTrue, List, [], ◌∷◌, ◌++◌, ◌⊎◌, Some, None}
+use Rattle.std.specs.Prelude.{◌≡◌, ℕ, zero, suc, ◌<◌, Bool, true, false, IsTrue, List, [], ◌∷◌, ◌⊎◌, Some, None}
 use Rattle.std.proofs.Common.{refl, sym, subst, arith, inl, inr}
 use Rattle.gos_types.specs.Events.{Request, Answer}
 use Rattle.gos_types.proofs.ListLemmas.{none_in_empty}
@@ -10,19 +10,18 @@ use Rattle.gos_model.specs.Labels.{Label, given, taken, is_output}
 use Rattle.gos_model.specs.Moves.{Program, Config, Idle, Running, Act, Computing, Showing, Moves, labels, Unfoldings, ActsTo, Stalled}
 use Rattle.gos_model.specs.SmallPrograms.{c}
 use Rattle.gos_plan.specs.Firing.{Slot}
-use Rattle.gos_plan.specs.Plans.{End, PartEnd, ImportEnd, ResultEnd, contact_at}
+use Rattle.gos_plan.specs.Plans.{End, PartEnd, ImportEnd, ResultEnd}
 use Rattle.gos_plan.specs.Tokens.{Tokens, Element, Fire, Out, In, with_token, Does}
 use Rattle.gos_plan.specs.Orderly.{Open}
 use Rattle.gos_plan.specs.SmallCalls.{call_plan}
-use Rattle.gos_realises.specs.realises.Regular.{way_in}
-use Rattle.gos_realises.specs.realises.Matched.{label_at, shows, GoesOn, Agrees, program_of}
+use Rattle.gos_realises.specs.realises.Matched.{shows, GoesOn, Agrees, program_of}
 use Rattle.gos_realises.specs.realises.SmallRealisers.{NameIsRealised}
 use Rattle.gos_realises.proofs.realises.LiteralLemmas.{no_literals}
 use Rattle.gos_realises.proofs.realises.OneJointLemmas.{is_idle}
 use Rattle.gos_realises.proofs.realises.SkipLemmas.{run_is_no_output, running_is_not_idle}
 use Rattle.gos_realises.proofs.realises.RelayLemmas as relay
-use Rattle.gos_realises.proofs.realises.RelayLemmas.{Stage, Resting, Asked, Away, Back, succ, IsRelay, comes_in}
-use Rattle.gos_realises.proofs.realises.RingLemmas.{told_open, MayCome, IsCircle, IsRing, IsFirst, circle_is_regular, ring_realises}
+use Rattle.gos_realises.proofs.realises.RelayLemmas.{Stage, Resting, Asked, Away, Back, succ, IsRelay}
+use Rattle.gos_realises.proofs.realises.RingLemmas.{IsCircle, IsRing, IsFirst, circle_is_regular, ring_realises}
 
 abbrev next : Stage → Element
 next = relay.next (ResultEnd 0) (ImportEnd 0 0)
@@ -87,7 +86,6 @@ call_is_relay =
       in_of = in_of;
       asks_in_turn = λ past up down. (down, (tt, tt, λ asked. rw up refl));
       answers_in_turn = λ past up down. (up, (tt, tt, λ asked. let no : false ≡ true = rw down at asked in absurd (cc no)));
-      silent = (refl, refl);
     }
 
 circle : IsCircle call_plan Stage next succ At OpenAt Opened
@@ -95,28 +93,6 @@ circle = relay.circle call_plan (ResultEnd 0) (ImportEnd 0 0) call_is_relay
 
 first : IsFirst call_plan Stage At OpenAt Opened Resting
 first = relay.first call_plan (ResultEnd 0) (ImportEnd 0 0) call_is_relay
-
--- where the result's handshake is open and the import's is not, nothing may come; and so on
-run_may : (e : End) (v : ℕ) (past : List Label) → e ≡ ResultEnd 0 → MayCome call_plan past (label_at call_plan e (way_in (contact_at call_plan e)) v)
-    → told_open call_plan past (ResultEnd 0) ≡ false
-run_may e v past is may = (subst (λ x. MayCome call_plan past (label_at call_plan x (way_in (contact_at call_plan x)) v)) is may refl).2
-
-answer_may : (e : End) (v : ℕ) (past : List Label) → e ≡ ImportEnd 0 0 → MayCome call_plan past (label_at call_plan e (way_in (contact_at call_plan e)) v)
-    → told_open call_plan past (ImportEnd 0 0) ≡ true
-answer_may e v past is may = (subst (λ x. MayCome call_plan past (label_at call_plan x (way_in (contact_at call_plan x)) v)) is may refl).1
-
-allowed : (q : Stage) (e : End) (v : ℕ) (s w : Tokens) (past : List Label)
-    → Does call_plan (In e v) s w → Opened q (told_open call_plan past)
-    → MayCome call_plan past (label_at call_plan e (way_in (contact_at call_plan e)) v) → In e v ≡ next q
-allowed q e v s w past does o may =
-    comes_in call_plan (ResultEnd 0) (ImportEnd 0 0) call_is_relay q e v s w (told_open call_plan past) o does
-    (λ at. run_may e v past at may) (λ at. answer_may e v past at may)
-
-told : (q : Stage) (past : List Label) → Opened q (told_open call_plan past) → Opened (succ q) (told_open call_plan (shows call_plan (next q) ++ past))
-told Resting past o = (refl, o.1)
-told Asked past o = (o.0, refl)
-told Away past o = (o.0, refl)
-told Back past o = (refl, o.1)
 
 idle_is_stalled : Stalled program Idle
 idle_is_stalled = (λ d move. let e = move.0 in cc e, λ o d out move. run_is_no_output o out move.0)
@@ -180,8 +156,6 @@ ring : IsRing call_plan program Stage next succ acts config At OpenAt Opened
 ring =
     record {
       circle = circle;
-      allowed = allowed;
-      told = told;
       agrees = agrees;
       moves = moves;
       shown = shown;

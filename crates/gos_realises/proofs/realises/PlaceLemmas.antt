@@ -1,11 +1,13 @@
 -- Elements of lists by their places; and imports of different names, which stand at one place each.
-use Rattle.std.specs.Prelude.{◌≡◌, ◌≢◌, ℕ, zero, suc, List, [], ◌∷◌, ◌++◌, ◌⊎◌, Some, Contains, slice_get}
+use Rattle.std.specs.Prelude.{◌≡◌, ◌≢◌, ℕ, zero, suc, Bool, true, false, List, [], ◌∷◌, ◌++◌, ◌⊎◌, Some, Contains, slice_get, if◌then◌else◌}
+use Rattle.std.specs.Str.{bytes_eq}
 use Rattle.std.proofs.Common.{refl, sym, ◌∙◌, ap, subst, arith, inl, inr}
 use Rattle.std.proofs.lemmas.List.Elements.{Contains-append_left, Contains-append_right, Contains-append_cases}
 use Rattle.std.proofs.lemmas.Option.{slice_get_within, get_or_from_slice_get}
-use Rattle.gos_types.specs.Types.{IsGround}
-use Rattle.gos_model.specs.Typing.{Imported}
-use Rattle.gos_realises.specs.realises.Realises.{AllGround, NamesDiffer, HaveOtherNames}
+use Rattle.gos_types.specs.Types.{Type', IsGround, IsPort}
+use Rattle.gos_model.specs.Terms.{Name}
+use Rattle.gos_model.specs.Typing.{Imported, Imports, import_type}
+use Rattle.gos_realises.specs.realises.Realises.{AllGround, AllPorts, NamesDiffer, HaveOtherNames}
 
 -- what stands at a place is contained, and what is contained stands at one
 pub contains_at : {X : Type 0} (xs : List X) (k : ℕ) (x : X) → slice_get xs k ≡ Some x → Contains xs x
@@ -25,6 +27,26 @@ ground_at (x ∷ is) all i (suc k, small, e) = ground_at is all.1 i (k, omega (a
 pub ground_by : (is : List Imported) → ((i : Imported) → Contains is i → IsGround i.ty) → AllGround is
 ground_by [] each = tt
 ground_by (x ∷ is) each = (each x (0, omega arith, refl), ground_by is (λ i has. each i (suc has.0, (let small = has.1 in omega (arith, small)), has.2)))
+
+-- so has the import of a name; and each is a port where all are
+some_type : (a b : Type') → Some a ≡ Some b → a ≡ b
+some_type a b e = cc
+
+pub ground_import : (is : Imports) → AllGround is → (x : Name) (t : Type') → import_type is x ≡ Some t → IsGround t
+ground_import [] all x t e = absurd (cc e)
+ground_import (i ∷ is) all x t e = tested (bytes_eq i.name x) e (ground_import is all.1 x t)
+  where
+    tested : (b : Bool) → (if b then Some i.ty else import_type is x) ≡ Some t → (import_type is x ≡ Some t → IsGround t) → IsGround t
+    tested true same further = subst IsGround (some_type i.ty t same) all.0
+    tested false other further = further other
+
+pub port_import : (is : Imports) → AllPorts is → (x : Name) (t : Type') → import_type is x ≡ Some t → IsPort t
+port_import [] all x t e = absurd (cc e)
+port_import (i ∷ is) all x t e = tested (bytes_eq i.name x) e (port_import is all.1 x t)
+  where
+    tested : (b : Bool) → (if b then Some i.ty else import_type is x) ≡ Some t → (import_type is x ≡ Some t → IsPort t) → IsPort t
+    tested true same further = subst IsPort (some_type i.ty t same) all.0
+    tested false other further = further other
 
 -- imports of one name stand at one place
 abbrev pub DifferAt : List Imported → Type 0

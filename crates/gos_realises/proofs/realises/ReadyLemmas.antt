@@ -7,7 +7,7 @@ use Rattle.gos_model.specs.Typing.{Imports}
 use Rattle.gos_model.specs.Moves.{Program, Config, Idle, Running, Act, Computing, Showing, Move, Unfoldings, ActsTo, Stalled}
 use Rattle.gos_model.proofs.HeadLemmas.{IsReady}
 use Rattle.gos_plan.specs.Plans.{Plan}
-use Rattle.gos_realises.specs.realises.Matched.{RealisesDone}
+use Rattle.gos_realises.specs.realises.Matched.{RealisesInTurn}
 use Rattle.gos_realises.proofs.realises.SimulationLemmas.{Follows, followed_is_realised}
 
 -- of any two programs with these imports: a running term does what it unfolds to does
@@ -62,5 +62,5 @@ module _ (is : Imports) (m n : Term) (ready : IsReady m n) where
   follows : Follows lagging prompt Late
   follows = record { starts = same Idle; step = step; stalls = stalls; idles = idles }
 
-pub ready_is_realised : (p : Plan) (m n : Term) → IsReady m n → RealisesDone p n → RealisesDone p m
+pub ready_is_realised : (p : Plan) (m n : Term) → IsReady m n → RealisesInTurn p n → RealisesInTurn p m
 ready_is_realised p m n ready = followed_is_realised p m n (Late p.imports m n ready) (follows p.imports m n ready)

@@ -1,5 +1,5 @@
 -- A plan of one joint between two ports: the ring of a request, of what it asks, of the answer to that, and of its own answer.
-use Rattle.std.specs.Prelude.{◌≡◌, ℕ, Bool, true, false, List, [], ◌∷◌, ◌⊎◌, Option, Some, None, if◌then◌else◌}
+use Rattle.std.specs.Prelude.{◌≡◌, ℕ, Bool, true, false, List, ◌∷◌, ◌⊎◌, Option, Some, None, if◌then◌else◌}
 use Rattle.std.proofs.Common.{refl, sym, ◌∙◌, ap, subst, inl, inr}
 use Rattle.std.proofs.lemmas.Option.{same_Some}
 use Rattle.gos_types.specs.Events.{Direction, Request, Answer}
@@ -13,7 +13,7 @@ use Rattle.gos_plan.specs.Orderly.{Open, named_by, handshake_at, with_open, afte
 use Rattle.gos_plan.proofs.JointLemmas.{same_itself}
 use Rattle.gos_realises.specs.realises.Regular.{Pass, pass, way_in, way_out, is_request, is_open, ComesInTurn}
 use Rattle.gos_realises.proofs.realises.OneJointLemmas.{Lies, rests_alone, with_request, with_answer, not_both}
-use Rattle.gos_realises.proofs.realises.RingLemmas.{after, told_open, OutputTurns, IsCircle, IsFirst}
+use Rattle.gos_realises.proofs.realises.RingLemmas.{after, OutputTurns, IsCircle, IsFirst}
 use Rattle.gos_realises.proofs.realises.PassLemmas.{open_itself}
 
 pub data Stage : Type 0 where
@@ -67,7 +67,6 @@ pub record IsRelay (p : Plan) (a b : End) : Type 0 where
   pub in_of : (e : End) (v : ℕ) (s w : Tokens) → Does p (In e v) s w → ((e ≡ a) ⊎ (e ≡ b)) × (v ≡ 0)
   pub asks_in_turn : (past : List Pass) → is_open past a ≡ true → is_open past b ≡ false → OutputTurns p past (Out b 0)
   pub answers_in_turn : (past : List Pass) → is_open past a ≡ true → is_open past b ≡ false → OutputTurns p past (Out a 0)
-  pub silent : (told_open p [] a ≡ false) × (told_open p [] b ≡ false)
 
 other_pass : (d e : End) (way : Direction) (past : List Pass) → same_end d e ≡ false → is_open (pass d way ∷ past) e ≡ is_open past e
 other_pass d e way past apart = ap (λ (t : Bool). if t then is_request way else is_open past e) apart
@@ -228,4 +227,4 @@ module _ (p : Plan) (a b : End) (is : IsRelay p a b) where
       }
 
   pub first : IsFirst p Stage (At a) (OpenAt a) (Opened a b) Resting
-  first = record { rests = λ s idle. rests_alone a p s idle; none = refl; closed = (refl, refl); silent = is.silent }
+  first = record { rests = λ s idle. rests_alone a p s idle; none = refl; closed = (refl, refl) }

@@ -2,19 +2,18 @@
 --
 -- Token states, open handshakes and lists are moved along. A lemma in one direction is one in the other, since a
 -- renumbering can be undone.
-use Rattle.std.specs.Prelude.{◌≡◌, ℕ, Bool, true, false, ◌&&◌, List, [], ◌∷◌, ◌++◌, Option, Some, None, nat_eq, slice_get, if◌then◌else◌}
+use Rattle.std.specs.Prelude.{◌≡◌, ℕ, Bool, true, false, ◌&&◌, List, [], ◌∷◌, Option, Some, None, nat_eq, slice_get, if◌then◌else◌}
 use Rattle.std.proofs.Common.{refl, sym, ◌∙◌, ap, subst, arith}
 use Rattle.gos_types.specs.Events.{Direction, Request, Answer}
 use Rattle.gos_model.specs.Terms.{Term}
 use Rattle.gos_model.specs.Moves.{Program, Config, Idle, Act}
-use Rattle.gos_model.specs.Protocol.{KeepsProtocol}
 use Rattle.gos_plan.specs.Kinds.{Part, Contact}
 use Rattle.gos_plan.specs.Firing.{Slot, Req, Ans, State, Token, Row}
 use Rattle.gos_plan.specs.Plans.{End, PartEnd, ImportEnd, ResultEnd, Joint, Plan, contact_at, contacts_of_part, same_end}
 use Rattle.gos_plan.specs.Tokens.{Tokens, Element, Fire, Out, In, IsPortEnd, Passes, places_of, held_at, with_held, with_place, with_state, same_way, token_at, with_token, with_puts, shake_of, end_of, way_of, way_taken, way_put, firing_of, fired, Does, Runs, IsIdle, IsQuiet}
 use Rattle.gos_plan.specs.Orderly.{Open, none_open, named_by, handshake_at, with_open, after_taken, after_put, after_puts, ComesWell, AllComeWell, ComesInOrder, AllWelcome, OrderlyFrom, IsOrderly}
 use Rattle.gos_realises.specs.realises.Regular.{Pass, pass, way_in, way_out, InputsKeepTurns, OutputsKeepTurns, IsRegular}
-use Rattle.gos_realises.specs.realises.Matched.{shows, all_shown, GoesOn, Agrees, IsMatched, program_of, RealisesDone}
+use Rattle.gos_realises.specs.realises.Matched.{shows, GoesOn, Agrees, IsMatched, program_of, RealisesInTurn}
 use Rattle.gos_realises.specs.realises.Renumbered.{moved, moved_if, RenumberingKeeps}
 
 -- the same, where the imports and the outcome show in the handshakes at ports alone
@@ -356,10 +355,6 @@ module _
   shows_same (In (ImportEnd i h) v) = refl
   shows_same (In (ResultEnd h) v) = refl
 
-  all_shown_same : (xs : List Element) → all_shown (with_body r w ps js) (moved_list forth xs) ≡ all_shown r xs
-  all_shown_same [] = refl
-  all_shown_same (x ∷ xs) = λ i. shows_same x i ++ all_shown_same xs i
-
   agrees_back : (g : Program) (s : Tokens) (c : Config) → Agrees (with_body r w ps js) g (moved_tokens back s) c → Agrees r g s c
   agrees_back g s c agrees = (
     λ quiet. agrees.0 (quiet_moved forth back r (with_body r w ps js) rn s quiet),
@@ -376,13 +371,6 @@ module _
         (acts, d, moves, shown ∙ shows_same x, goes_back forth back r (with_body r w ps js) rn x s acts goes, matched_back g xs t d rest),
   )
 
-  realises_back : (m : Term) → RealisesDone (with_body r w ps js) m → RealisesDone r m
-  realises_back m done s t xs idle runs keeps =
-      let both =
-      done (moved_tokens back s) (moved_tokens back t) (moved_list forth xs) (idle_moved forth back r (with_body r w ps js) rn s idle)
-      (runs_moved forth back r (with_body r w ps js) rn xs s t runs) (subst (KeepsProtocol r.imports) (sym (all_shown_same xs)) keeps) in
-      (matched_back (program_of r m) xs s Idle both.0, ordered_back forth back r (with_body r w ps js) rn xs s both.1)
-
   inputs_moved : (xs : List Element) (past : List Pass) (s t : Tokens) → Runs r xs s t
       → InputsKeepTurns r past xs → InputsKeepTurns (with_body r w ps js) past (moved_list forth xs)
   inputs_moved [] past s t runs keeps = tt
@@ -397,6 +385,13 @@ module _
       (keeps.0, inputs_moved xs (pass (ImportEnd i h) (way_in (contact_at r (ImportEnd i h))) ∷ past) z t runs keeps.1)
   inputs_moved (In (ResultEnd h) v ∷ xs) past s t (z, does, runs) keeps =
       (keeps.0, inputs_moved xs (pass (ResultEnd h) (way_in (contact_at r (ResultEnd h))) ∷ past) z t runs keeps.1)
+
+  realises_back : (m : Term) → RealisesInTurn (with_body r w ps js) m → RealisesInTurn r m
+  realises_back m done s t xs idle runs keeps =
+      let both =
+      done (moved_tokens back s) (moved_tokens back t) (moved_list forth xs) (idle_moved forth back r (with_body r w ps js) rn s idle)
+      (runs_moved forth back r (with_body r w ps js) rn xs s t runs) (inputs_moved xs [] s t runs keeps) in
+      (matched_back (program_of r m) xs s Idle both.0, ordered_back forth back r (with_body r w ps js) rn xs s both.1)
 
   outputs_back : (xs : List Element) (past : List Pass) (s t : Tokens) → Runs r xs s t
       → OutputsKeepTurns (with_body r w ps js) past (moved_list forth xs) → OutputsKeepTurns r past xs
@@ -423,7 +418,7 @@ module _
 pub renumbering_keeps : RenumberingKeeps
 renumbering_keeps forth back r q rn = (
   λ regular. regular_back forth back r q.weight q.parts q.joints there (subst IsRegular same regular),
-  λ m done. realises_back forth back r q.weight q.parts q.joints there m (subst (λ p. RealisesDone p m) same done),
+  λ m done. realises_back forth back r q.weight q.parts q.joints there m (subst (λ p. RealisesInTurn p m) same done),
 )
   where
     same : q ≡ with_body r q.weight q.parts q.joints

@@ -1,20 +1,17 @@
 -- Plans whose lists go round a ring of stages: from each stage one element leads on.
 --
--- Where the inputs of a list keep turns, or keep the protocol, each of its elements is the one of its stage (`Script`).
+-- Where the inputs of a list keep turns, each of its elements is the one of its stage (`Script`).
 -- From this follow the order and the turns, and the moves of a program that goes round with it.
-use Rattle.std.specs.Prelude.{◌≡◌, ℕ, Bool, IsFalse, List, [], ◌∷◌, ◌++◌, slice_get}
+use Rattle.std.specs.Prelude.{◌≡◌, ℕ, Bool, List, [], ◌∷◌}
 use Rattle.std.proofs.Common.{refl, sym, ◌∙◌, ap, subst}
 use Rattle.gos_model.specs.Terms.{Term}
-use Rattle.gos_model.specs.Labels.{Given, Label, is_output}
 use Rattle.gos_model.specs.Moves.{Program, Config, Idle, Act, Moves, labels}
-use Rattle.gos_model.specs.Protocol.{Allowed, KeepsAfter}
-use Rattle.gos_model.specs.Protocol as protocol
 use Rattle.gos_plan.specs.Firing.{Slot}
-use Rattle.gos_plan.specs.Plans.{End, PartEnd, ImportEnd, ResultEnd, Plan, contact_at}
+use Rattle.gos_plan.specs.Plans.{End, Plan, contact_at}
 use Rattle.gos_plan.specs.Tokens.{Tokens, Element, Fire, Out, In, Does, Runs, IsIdle}
 use Rattle.gos_plan.specs.Orderly.{Open, none_open, ComesInOrder, AllWelcome, OrderlyFrom}
 use Rattle.gos_realises.specs.realises.Regular.{Pass, pass, way_in, way_out, is_open, ComesInTurn, KeepsTurns, InputsKeepTurns, OutputsKeepTurns, IsRegular}
-use Rattle.gos_realises.specs.realises.Matched.{port_if, label_at, shows, all_shown, GoesOn, Agrees, IsMatched, program_of, RealisesDone}
+use Rattle.gos_realises.specs.realises.Matched.{shows, GoesOn, Agrees, IsMatched, program_of, RealisesInTurn}
 
 -- what passed, after an element
 abbrev pub after : Plan → Element → List Pass → List Pass
@@ -22,21 +19,11 @@ after p (Fire i t) past = past
 after p (Out e v) past = pass e (way_out (contact_at p e)) ∷ past
 after p (In e v) past = pass e (way_in (contact_at p e)) ∷ past
 
--- which handshakes at ports labels leave open
-abbrev pub told_open : Plan → List Label → End → Bool
-told_open p past (PartEnd i h) = protocol.is_open past Given h
-told_open p past (ImportEnd i h) = protocol.is_open past (port_if (slice_get p.imports i)) h
-told_open p past (ResultEnd h) = protocol.is_open past Given h
-
 -- an output keeps turns
 abbrev pub OutputTurns : Plan → List Pass → Element → Type 0
 OutputTurns p past (Fire i t) = Unit {0}
 OutputTurns p past (Out e v) = KeepsTurns p past (pass e (way_out (contact_at p e)))
 OutputTurns p past (In e v) = Unit {0}
-
--- an input may come after these labels
-abbrev pub MayCome : Plan → List Label → Label → Type 0
-MayCome p past l = IsFalse (is_output l) → Allowed p.imports past l.port l.event l.value
 
 -- The stages of a plan: in each the tokens, the handshakes that are open and those that are open at ports are of some form,
 -- one element alone may come in turn, and it leads to the next stage.
@@ -56,15 +43,11 @@ pub record IsCircle
       → At q s → OpenAt q o → Does p (next q) s w → (u : Open) × ComesInOrder p (next q) s o u × OpenAt (succ q) u
   pub welcome : (q : S) (s : Tokens) → At q s → AllWelcome p s
 
--- and of a program: that element alone is allowed by the protocol, and the program moves along
+-- and of a program, which moves along
 pub record IsRing
     (p : Plan) (g : Program) (S : Type 0) (next : S → Element) (succ : S → S) (acts : S → List Act) (config : S → Config)
     (At : S → Tokens → Type 0) (OpenAt : S → Open → Type 0) (Opened : S → (End → Bool) → Type 0) : Type 0 where
   pub circle : IsCircle p S next succ At OpenAt Opened
-  pub allowed :
-      (q : S) (e : End) (v : ℕ) (s w : Tokens) (past : List Label)
-      → Does p (In e v) s w → Opened q (told_open p past) → MayCome p past (label_at p e (way_in (contact_at p e)) v) → In e v ≡ next q
-  pub told : (q : S) (past : List Label) → Opened q (told_open p past) → Opened (succ q) (told_open p (shows p (next q) ++ past))
   pub agrees : (q : S) (s : Tokens) → At q s → Agrees p g s (config q)
   pub moves : (q : S) → Moves g (acts q) (config q) (config (succ q))
   pub shown : (q : S) → labels (acts q) ≡ shows p (next q)
@@ -76,7 +59,6 @@ pub record IsFirst
   pub rests : (s : Tokens) → IsIdle p s → At q s
   pub none : OpenAt q none_open
   pub closed : Opened q (is_open [])
-  pub silent : Opened q (told_open p [])
 
 -- each element of the list is the one of its stage
 abbrev pub Script : (S : Type 0) → (S → Element) → (S → S) → List Element → S → Type 0
@@ -137,25 +119,8 @@ module _
     (p : Plan) (m : Term) (S : Type 0) (next : S → Element) (succ : S → S) (acts : S → List Act) (config : S → Config)
     (At : S → Tokens → Type 0) (OpenAt : S → Open → Type 0) (Opened : S → (End → Bool) → Type 0)
     (ring : IsRing p (program_of p m) S next succ acts config At OpenAt Opened) where
-  told_on : (x : Element) (q : S) (past : List Label) → x ≡ next q → Opened q (told_open p past) → Opened (succ q) (told_open p (shows p x ++ past))
-  told_on x q past e o =
-      subst (λ (y : Element). Opened (succ q) (told_open p (shows p y ++ past))) (sym e) (ring.told q past o)
-
   led : (x : Element) (q : S) (s w : Tokens) → x ≡ next q → At q s → Does p x s w → At (succ q) w
   led = leads_on p S next succ At OpenAt Opened ring.circle
-
-  by_labels : (xs : List Element) (q : S) (s t : Tokens) (past : List Label)
-      → At q s → Runs p xs s t → Opened q (told_open p past) → KeepsAfter p.imports past (all_shown p xs) → Script S next succ xs q
-  by_labels [] q s t past here runs o keeps = tt
-  by_labels (Fire i k ∷ xs) q s t past here (w, does, runs) o keeps =
-      let e = ring.circle.fires q i k s w here does in
-      (e, by_labels xs (succ q) w t past (led (Fire i k) q s w e here does) runs (told_on (Fire i k) q past e o) keeps)
-  by_labels (Out a v ∷ xs) q s t past here (w, does, runs) o keeps =
-      let e = ring.circle.puts_out q a v s w here does in
-      (e, by_labels xs (succ q) w t (shows p (Out a v) ++ past) (led (Out a v) q s w e here does) runs (told_on (Out a v) q past e o) keeps.1)
-  by_labels (In a v ∷ xs) q s t past here (w, does, runs) o keeps =
-      let e = ring.allowed q a v s w past does o keeps.0 in
-      (e, by_labels xs (succ q) w t (shows p (In a v) ++ past) (led (In a v) q s w e here does) runs (told_on (In a v) q past e o) keeps.1)
 
   matched : (xs : List Element) (q : S) (s : Tokens) → At q s → Script S next succ xs q → IsMatched p (program_of p m) xs s (config q)
   matched [] q s here script = ring.agrees q s here
@@ -171,10 +136,10 @@ module _
     ),
   )
 
-  pub ring_realises : (q : S) → config q ≡ Idle → IsFirst p S At OpenAt Opened q → RealisesDone p m
+  pub ring_realises : (q : S) → config q ≡ Idle → IsFirst p S At OpenAt Opened q → RealisesInTurn p m
   ring_realises q is_idle first s t xs idle runs keeps =
       let here = first.rests s idle in
-      let script = by_labels xs q s t [] here runs first.silent keeps in (
+      let script = by_turns p S next succ At OpenAt Opened ring.circle xs q s t [] here runs first.closed keeps in (
         subst (IsMatched p (program_of p m) xs s) is_idle (matched xs q s here script),
         ordered p S next succ At OpenAt Opened ring.circle xs q s t none_open here first.none runs script,
       )

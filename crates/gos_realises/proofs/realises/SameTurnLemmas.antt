@@ -44,7 +44,6 @@ same_is_relay =
       in_of = in_of;
       asks_in_turn = λ past up down. (down, (tt, tt, λ asked. rw up refl));
       answers_in_turn = λ past up down. (up, (tt, tt, λ asked. let no : false ≡ true = rw down at asked in absurd (cc no)));
-      silent = (refl, refl);
     }
 
 pub same_is_regular : IsRegular same_plan

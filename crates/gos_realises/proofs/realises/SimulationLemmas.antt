@@ -5,7 +5,7 @@ use Rattle.gos_model.specs.Terms.{Term}
 use Rattle.gos_model.specs.Moves.{Program, Config, Idle, Act, Move, Moves, Stalled}
 use Rattle.gos_plan.specs.Plans.{Plan}
 use Rattle.gos_plan.specs.Tokens.{Tokens, Element}
-use Rattle.gos_realises.specs.realises.Matched.{Agrees, IsMatched, RealisesDone, program_of}
+use Rattle.gos_realises.specs.realises.Matched.{Agrees, IsMatched, RealisesInTurn, program_of}
 
 -- what the second program does the first does as well, from configurations that R relates
 pub record Follows (g f : Program) (R : Config → Config → Type 0) : Type 0 where
@@ -36,6 +36,6 @@ module _ (p : Plan) (m n : Term) (R : Config → Config → Type 0) (follows : F
         (acts, b, own, shown, goes, matches xs t b d then rest),
   )
 
-  pub followed_is_realised : RealisesDone p n → RealisesDone p m
+  pub followed_is_realised : RealisesInTurn p n → RealisesInTurn p m
   followed_is_realised done s t xs idle runs keeps =
       let (matched, orderly) = done s t xs idle runs keeps in (matches xs s Idle Idle follows.starts matched, orderly)

@@ -9,6 +9,7 @@ use Rattle.gos_types.specs.Events.{Direction, Request, Answer}
 use Rattle.gos_types.proofs.BytesLemmas.{same_bytes_eq}
 use Rattle.gos_model.specs.Typing.{Imported, Imports}
 use Rattle.gos_model.specs.Labels.{Given, Label, is_answer}
+use Rattle.gos_model.specs.Protocol as protocol
 use Rattle.gos_model.specs.Protocol.{shake_of, same_port}
 use Rattle.gos_plan.specs.Kinds.{Contact}
 use Rattle.gos_plan.specs.Plans.{End, PartEnd, ImportEnd, ResultEnd, Plan, contact_at, contacts_of_import, same_end}
@@ -18,7 +19,12 @@ use Rattle.gos_realises.specs.realises.Matched.{port_if, event_number, label_at}
 use Rattle.gos_realises.specs.realises.Realises.{NamesDiffer}
 pub use Rattle.gos_realises.proofs.realises.PlaceLemmas.{contains_at}
 use Rattle.gos_realises.proofs.realises.RenumberLemmas.{tests_agree}
-use Rattle.gos_realises.proofs.realises.RingLemmas.{told_open}
+
+-- which handshakes at ports labels leave open
+abbrev pub told_open : Plan → List Label → End → Bool
+told_open p past (PartEnd i h) = protocol.is_open past Given h
+told_open p past (ImportEnd i h) = protocol.is_open past (port_if (slice_get p.imports i)) h
+told_open p past (ResultEnd h) = protocol.is_open past Given h
 
 -- names
 pub test_differ : (x y : List ℕ) → (x ≡ y → ⊥) → bytes_eq x y ≡ false

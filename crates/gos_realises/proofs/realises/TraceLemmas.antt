@@ -14,6 +14,7 @@ use Rattle.gos_plan.specs.Firing.{First, Slot, Req, Row, row, at, put}
 use Rattle.gos_plan.specs.Plans.{End, PartEnd, ImportEnd, ResultEnd, Plan}
 use Rattle.gos_plan.specs.Tokens.{Tokens, Element, Fire, Out, In, fired, with_token, Does, Runs, IsIdle, IsQuiet}
 use Rattle.gos_plan.specs.SmallPlans.{at_first}
+use Rattle.gos_realises.specs.realises.Regular.{InputsKeepTurns}
 use Rattle.gos_realises.specs.realises.Matched.{all_shown, IsMatched, program_of}
 use Rattle.gos_realises.specs.realises.SmallRealisers.{ListsAreTraces}
 use Rattle.gos_realises.specs.realises.OtherPlans.{empty_plan, EmptyIsNotSkip, other_first, OrderIsTold}
@@ -78,7 +79,7 @@ first_is_idle p = ((λ way e. refl), λ i. refl)
 pub empty_is_not_skip : EmptyIsNotSkip
 empty_is_not_skip r =
     let comes : Does empty_plan (In (ResultEnd 0) 0) at_first at_first = (tt, (omega arith, refl)) in
-    let both = r.means at_first at_first (In (ResultEnd 0) 0 ∷ []) (first_is_idle empty_plan) (at_first, comes, refl) ((λ shut. (refl, refl, refl)), tt) in
+    let both = r.means at_first at_first (In (ResultEnd 0) 0 ∷ []) (first_is_idle empty_plan) (at_first, comes, refl) ((refl, tt), tt) in
     let (acts, e, moves, shown, goes, last) = both.0.1 at_first comes in
     can_answer (subst (λ x. Stalled skip x) (first_moves acts e moves shown) (last.0 (empty_is_quiet at_first)))
 
@@ -98,11 +99,13 @@ started = fired other_first 0 begins 0 asked
 abbrev gone : Tokens
 gone = with_token other_first (ImportEnd 1 0) Request None started
 
+in_turn : InputsKeepTurns other_first [] d_first
+in_turn = ((refl, (tt, (tt, tt, λ asked. absurd (cc asked)), λ asked. absurd (cc asked))), tt)
+
 pub order_is_told : OrderIsTold
 order_is_told r =
     let runs : Runs other_first d_first at_first gone =
     (asked, (tt, (omega arith, refl)), (started, (0, begins, refl, refl, refl), (gone, (tt, (refl, refl)), refl))) in
     let (acts, b, moves, told) =
-    lists_are_traces other_first one_then_other.body d_first at_first gone r.means (first_is_idle other_first) runs
-    ((λ shut. (refl, refl, refl)), ((λ shut. absurd (cc shut)), tt)) in
+    traced other_first one_then_other d_first at_first gone Idle (r.means at_first gone d_first (first_is_idle other_first) runs in_turn).0 runs in
     seq_waits (acts, b, moves, told)

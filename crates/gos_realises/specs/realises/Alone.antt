@@ -7,7 +7,7 @@ use Rattle.gos_plan.specs.Plans.{Plan, IsRight}
 use Rattle.gos_plan.specs.Joining.{IsJoining, IsSameButOrder}
 use Rattle.gos_plan.specs.SmallPlans.{skip_plan}
 use Rattle.gos_realises.specs.realises.Regular.{IsRegular}
-use Rattle.gos_realises.specs.realises.Matched.{RealisesDone}
+use Rattle.gos_realises.specs.realises.Matched.{RealisesInTurn}
 use Rattle.gos_realises.specs.realises.Wirings.{side}
 use Rattle.gos_realises.specs.realises.Modules.{RealisesModule}
 
@@ -19,7 +19,7 @@ AloneIsItself = (p r : Plan) → IsRight p → IsJoining (side 0 p.outcome p) r 
 abbrev pub OrderIsFree : Type 0
 OrderIsFree =
     (p r : Plan)
-    → IsRight p → IsRight r → IsSameButOrder r p → (IsRegular p → IsRegular r) × ((m : Term) → RealisesDone p m → RealisesDone r m)
+    → IsRight p → IsRight r → IsSameButOrder r p → (IsRegular p → IsRegular r) × ((m : Term) → RealisesInTurn p m → RealisesInTurn r m)
 
 -- the plan of `skip` realises the module `export skip`
 abbrev pub SkipModuleIsRealised : Type 0

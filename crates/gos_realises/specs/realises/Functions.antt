@@ -6,12 +6,12 @@ use Rattle.gos_model.specs.Terms.{Term, Bound, Lam}
 use Rattle.gos_model.specs.Reach.{Rewrites}
 use Rattle.gos_plan.specs.Plans.{Plan}
 use Rattle.gos_plan.specs.SmallPlans.{same_plan}
-use Rattle.gos_realises.specs.realises.Matched.{RealisesDone}
+use Rattle.gos_realises.specs.realises.Matched.{RealisesInTurn}
 use Rattle.gos_realises.specs.realises.Realises.{Realises}
 
 -- a plan realises a head, as a function with its argument, where it realises what the head unfolds to
 abbrev pub HeadsAreRealised : Type 0
-HeadsAreRealised = (p : Plan) (m n : Term) → Rewrites m n → RealisesDone p n → RealisesDone p m
+HeadsAreRealised = (p : Plan) (m n : Term) → Rewrites m n → RealisesInTurn p n → RealisesInTurn p m
 
 -- The plan of `fun a : com . a` realises it: joined to any plan that realises an argument, it realises the application.
 abbrev pub SameIsRealised : Type 0

@@ -10,20 +10,32 @@ use Rattle.gos_model.specs.Moves.{Program, Config, Idle, Act, Moves, labels, Sta
 use Rattle.gos_model.specs.Protocol.{KeepsProtocol}
 use Rattle.gos_plan.specs.Firing.{Slot, Req, Ans, Token, Row}
 use Rattle.gos_model.specs.Typing.{Imported}
-use Rattle.gos_plan.specs.Plans.{End, PartEnd, ImportEnd, ResultEnd, Plan, contact_at}
+use Rattle.gos_plan.specs.Plans.{End, PartEnd, ImportEnd, ResultEnd, Plan}
 use Rattle.gos_plan.specs.Tokens.{Tokens, Element, Fire, Out, In, token_at, firing_of, Does, Runs, IsIdle, IsQuiet}
 use Rattle.gos_plan.specs.Orderly.{IsOrderly}
-use Rattle.gos_realises.specs.realises.Regular.{way_in, way_out}
+use Rattle.gos_realises.specs.realises.Regular.{InputsKeepTurns}
 
 -- the port of an import that there is; where there is none, the given one
 abbrev pub port_if : Option Imported → Port
 port_if None = Given
 port_if (Some i) = Taken i.name
 
--- the number of an event: of the request or the answer of handshake h
+-- the number of an event: of the first or the second of handshake h, which are a request and an answer
 abbrev pub event_number : Direction → ℕ → ℕ
 event_number Request h = h + h
 event_number Answer h = h + h + 1
+
+-- Which event of its handshake is shown: at an import the program puts the first and takes the second, at its result it takes
+-- the first and puts the second. At ports that are ground these are the request and the answer.
+abbrev pub outward : End → Direction
+outward (PartEnd i h) = Answer
+outward (ImportEnd i h) = Request
+outward (ResultEnd h) = Answer
+
+abbrev pub inward : End → Direction
+inward (PartEnd i h) = Request
+inward (ImportEnd i h) = Answer
+inward (ResultEnd h) = Request
 
 -- the label of a token that passes a port's end
 abbrev pub label_at : Plan → End → Direction → ℕ → Label
@@ -34,8 +46,8 @@ label_at p (ResultEnd h) way v = record { port = Given; event = event_number way
 -- what an element shows: an output or an input its label, a firing nothing
 abbrev pub shows : Plan → Element → List Label
 shows p (Fire i t) = []
-shows p (Out e v) = label_at p e (way_out (contact_at p e)) v ∷ []
-shows p (In e v) = label_at p e (way_in (contact_at p e)) v ∷ []
+shows p (Out e v) = label_at p e (outward e) v ∷ []
+shows p (In e v) = label_at p e (inward e) v ∷ []
 
 abbrev pub all_shown : Plan → List Element → List Label
 all_shown p [] = []
@@ -74,7 +86,13 @@ IsMatched p g (x ∷ xs) s c =
 abbrev pub program_of : Plan → Term → Program
 program_of p m = record { imports = p.imports; body = m }
 
--- From every idle state each list whose inputs keep the protocol is matched by moves from Idle, and is orderly.
+-- From every idle state each list whose inputs keep turns is matched by moves from Idle, and is orderly.
+abbrev pub RealisesInTurn : Plan → Term → Type 0
+RealisesInTurn p m =
+    (s t : Tokens) (xs : List Element)
+    → IsIdle p s → Runs p xs s t → InputsKeepTurns p [] xs → IsMatched p (program_of p m) xs s Idle × IsOrderly p xs s
+
+-- The same of lists whose inputs keep the protocol. Where a plan is regular and its imports are ground this is the same: Inputs.
 abbrev pub RealisesDone : Plan → Term → Type 0
 RealisesDone p m =
     (s t : Tokens) (xs : List Element)

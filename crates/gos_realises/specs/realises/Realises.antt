@@ -4,19 +4,24 @@
 -- (Plotkin 1973): a plan of a function type realises a function where, joined to any plan that realises an argument, it
 -- realises the application.
 use Rattle.std.specs.Prelude.{◌≡◌, ◌≢◌, ℕ, ◌^◌, ◌<◌, List, [], ◌∷◌, All, Contains}
-use Rattle.gos_types.specs.Types.{Type', Com, Exp, Var, Pair, Fun, IsGround}
+use Rattle.gos_types.specs.Types.{Type', Com, Exp, Var, Pair, Fun, IsGround, IsPort}
 use Rattle.gos_model.specs.Terms.{Term, Lit, App, Fst, Snd, Assign, Deref}
 use Rattle.gos_model.specs.Typing.{Imported, Typed}
 use Rattle.gos_plan.specs.Plans.{Plan, IsRight}
 use Rattle.gos_plan.specs.TokenBits.{LiteralFits}
 use Rattle.gos_realises.specs.realises.Regular.{count, IsRegular}
-use Rattle.gos_realises.specs.realises.Matched.{RealisesDone}
+use Rattle.gos_realises.specs.realises.Matched.{RealisesInTurn}
 use Rattle.gos_realises.specs.realises.Links.{IsJoined}
 use Rattle.gos_realises.specs.realises.Wirings.{reading, writing, side, applying}
 
 abbrev pub AllGround : List Imported → Type 0
 AllGround [] = Unit {0}
 AllGround (i ∷ is) = IsGround i.ty × AllGround is
+
+-- each is a port: ground, or an array's
+abbrev pub AllPorts : List Imported → Type 0
+AllPorts [] = Unit {0}
+AllPorts (i ∷ is) = IsPort i.ty × AllPorts is
 
 -- no two imports have one name, and none of these has the name of one of those
 abbrev pub NamesDiffer : List Imported → Type 0
@@ -40,11 +45,11 @@ pub record Suits (t : Type') (p : Plan) (m : Term) : Type 0 where
 
 -- What a plan that suits does, by the type. Each plan that is joined to it, and each that comes of it, suits as well.
 abbrev pub Means : Type' → Plan → Term → Type 0
-Means Com p m = RealisesDone p m
-Means (Exp w) p m = RealisesDone p m
+Means Com p m = RealisesInTurn p m
+Means (Exp w) p m = RealisesInTurn p m
 Means (Var w) p m =
-    ((r : Plan) → IsJoined (reading w p) r → Suits (Exp w) r (Deref m) × RealisesDone r (Deref m))
-    × ((r : Plan) (k : ℕ) → k < 2 ^ w → IsJoined (writing w k p) r → Suits Com r (Assign m (Lit k w)) × RealisesDone r (Assign m (Lit k w)))
+    ((r : Plan) → IsJoined (reading w p) r → Suits (Exp w) r (Deref m) × RealisesInTurn r (Deref m))
+    × ((r : Plan) (k : ℕ) → k < 2 ^ w → IsJoined (writing w k p) r → Suits Com r (Assign m (Lit k w)) × RealisesInTurn r (Assign m (Lit k w)))
 Means (Pair a b) p m =
     ((r : Plan) → IsJoined (side 0 a p) r → Suits a r (Fst m) × Means a r (Fst m))
     × ((r : Plan) → IsJoined (side (count a) b p) r → Suits b r (Snd m) × Means b r (Snd m))

@@ -7,7 +7,7 @@ use Rattle.gos_model.specs.Terms.{Term}
 use Rattle.gos_plan.specs.Plans.{End, PartEnd, ImportEnd, ResultEnd, Plan}
 use Rattle.gos_plan.specs.Tokens.{places_of}
 use Rattle.gos_realises.specs.realises.Regular.{IsRegular}
-use Rattle.gos_realises.specs.realises.Matched.{RealisesDone}
+use Rattle.gos_realises.specs.realises.Matched.{RealisesInTurn}
 
 -- an end, with its part's number moved
 abbrev pub moved : (ℕ → ℕ) → End → End
@@ -32,4 +32,4 @@ pub record IsRenumbered (forth back : ℕ → ℕ) (r q : Plan) : Type 0 where
 abbrev pub RenumberingKeeps : Type 0
 RenumberingKeeps =
     (forth back : ℕ → ℕ) (r q : Plan)
-    → IsRenumbered forth back r q → (IsRegular q → IsRegular r) × ((m : Term) → RealisesDone q m → RealisesDone r m)
+    → IsRenumbered forth back r q → (IsRegular q → IsRegular r) × ((m : Term) → RealisesInTurn q m → RealisesInTurn r m)

@@ -2,7 +2,7 @@
 ghost use Rattle.gos_realises.specs.realises.Alone.{AloneIsItself, OrderIsFree, SkipModuleIsRealised};
 ghost use Rattle.gos_realises.specs.realises.Functions.{HeadsAreRealised, SameIsRealised};
 ghost use Rattle.gos_realises.specs.realises.Fitting.{AppliedFits, SidesFit, VariablesFit, SuppliedFits};
-ghost use Rattle.gos_realises.specs.realises.Inputs.{ProtocolKeepsTurns, MatchingSuffices};
+ghost use Rattle.gos_realises.specs.realises.Inputs.{ProtocolKeepsTurns, PortsKeepTurns, TurnsKeepPorts, MatchingSuffices, RealisingIsByTurns};
 ghost use Rattle.gos_realises.specs.realises.Renumbered.{RenumberingKeeps};
 ghost use Rattle.gos_realises.specs.realises.SmallLinks.{SameFits, NumberDoesNotFit, TwiceDoesNotFit, PartDoesNotFit, NowhereDoesNotFit, SkipIsSlim, WeightIsNeeded};
 ghost use Rattle.gos_realises.specs.realises.SmallTurns.{SkipIsRegular, BothSidesAreNot};
@@ -81,10 +81,14 @@ pub fn functions()
 {}
 
 /// Inputs that keep the protocol keep turns, in a regular plan of a command or an expression; so its lists are orderly, and
-/// it realises a program where they are matched.
+/// it realises a program where they are matched. At ports that are ground or of arrays the protocol and turns are the same,
+/// and to realise is to match each list whose inputs keep turns.
 pub fn inputs()
     ensures turns { ProtocolKeepsTurns }
+    ensures ports { PortsKeepTurns }
+    ensures labels { TurnsKeepPorts }
     ensures matching { MatchingSuffices }
+    ensures by_turns { RealisingIsByTurns }
 {}
 
 /// Renumbering the parts of a plan keeps it regular, and realising its program.

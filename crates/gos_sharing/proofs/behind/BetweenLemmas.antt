@@ -21,7 +21,6 @@ use Rattle.gos_realises.specs.realises.Regular.{count, some_open, beyond, KeepsT
 use Rattle.gos_realises.proofs.realises.GroundTurnLemmas.{first_open, some_there, there_some, count_fun}
 use Rattle.gos_realises.proofs.realises.CountLemmas.{count_pair}
 use Rattle.gos_joining.proofs.renumbered.TurnLemmas.{of_import, of_result, ImportKeeps, EachKeeps}
-use Rattle.gos_supplies.proofs.turns.WholeLemmas.{shut_turned}
 use Rattle.gos_supplies.proofs.turns.BetweenLemmas.{pair_first, fun_first}
 
 -- what is open in f is open in g, where the handshake is served; where it is asked the other way round

@@ -16,7 +16,7 @@ use Rattle.gos_plan.proofs.JointLemmas.{IsIn, same_itself, fits, contained, apar
 use Rattle.gos_plan.proofs.AskingLemmas.{source_at, first_caller_at, second_caller_at}
 use Rattle.gos_plan.proofs.ContactLemmas.{turned_of, as_serves, turned_asks}
 use Rattle.gos_realises.specs.realises.Regular.{count, IsRegular}
-use Rattle.gos_realises.specs.realises.Matched.{RealisesDone}
+use Rattle.gos_realises.specs.realises.Matched.{RealisesInTurn}
 use Rattle.gos_realises.specs.realises.Realises.{Suits}
 use Rattle.gos_joining.specs.webs.Webs.{joint}
 use Rattle.gos_joining.specs.webs.Cutting.{StandsIn}
@@ -525,9 +525,9 @@ buffered_is_buffer c p two right ground result = is_buffer c p two right ground 
 
 -- so it realises what the plan realises
 loosely : (t : Type') (c : ℕ) (p : Plan) → c < 2 → p.outcome ≡ t → IsGround t → ResultIsJoined p → IsRight p
-    → IsRight (buffered t c p) × (IsRegular p → IsRegular (buffered t c p)) × ((m : Term) → RealisesDone p m → RealisesDone (buffered t c p) m)
+    → IsRight (buffered t c p) × (IsRegular p → IsRegular (buffered t c p)) × ((m : Term) → RealisesInTurn p m → RealisesInTurn (buffered t c p) m)
 loosely t c p two outcome ground result right =
-    subst (λ (u : Type'). IsRight (buffered u c p) × (IsRegular p → IsRegular (buffered u c p)) × ((m : Term) → RealisesDone p m → RealisesDone (buffered u c p) m)) outcome (
+    subst (λ (u : Type'). IsRight (buffered u c p) × (IsRegular p → IsRegular (buffered u c p)) × ((m : Term) → RealisesInTurn p m → RealisesInTurn (buffered u c p) m)) outcome (
       whole_right c p two right own,
       (λ regular. buffered_is_regular (length p.parts) p.outcome c (buffered p.outcome c p) (with_part (Share p.outcome) p) buffer ((loose_part_is_free (Share p.outcome) p right).0 regular)),
       (λ m realises. buffered_realises (length p.parts) p.outcome c (buffered p.outcome c p) (with_part (Share p.outcome) p) m buffer ((loose_part_is_free (Share p.outcome) p right).1 m realises)),
@@ -556,6 +556,6 @@ done_suits t c p m two ground result suits =
     }
 
 -- a command or an expression
-pub done_is_buffered : (t : Type') (c : ℕ) (p : Plan) (m : Term) → c < 2 → IsGround t → ResultIsJoined p → Suits t p m → RealisesDone p m → Suits t (buffered t c p) m × RealisesDone (buffered t c p) m
+pub done_is_buffered : (t : Type') (c : ℕ) (p : Plan) (m : Term) → c < 2 → IsGround t → ResultIsJoined p → Suits t p m → RealisesInTurn p m → Suits t (buffered t c p) m × RealisesInTurn (buffered t c p) m
 done_is_buffered t c p m two ground result suits done =
     (done_suits t c p m two ground result suits, (loosely t c p two suits.outcome ground result suits.right).2 m done)

@@ -12,7 +12,7 @@ use Rattle.gos_plan.specs.Plans.{End, PartEnd, ImportEnd, ResultEnd, Plan, conta
 use Rattle.gos_plan.specs.Tokens.{places_of}
 use Rattle.gos_plan.proofs.JointLemmas.{IsIn, found, fits, contained}
 use Rattle.gos_realises.specs.realises.Regular.{IsRegular}
-use Rattle.gos_realises.specs.realises.Matched.{RealisesDone}
+use Rattle.gos_realises.specs.realises.Matched.{RealisesInTurn}
 use Rattle.gos_realises.specs.realises.Renumbered.{moved, moved_if, IsRenumbered}
 use Rattle.gos_realises.proofs.realises.RenumberLemmas.{renumbering_keeps, moved_twice}
 use Rattle.gos_joining.specs.webs.Webs.{joint}
@@ -282,7 +282,7 @@ module _
         places = λ e. moved_places onto from (returns number (length ds)) (comes number (length ds)) q (with_part k r) loose.right loose_right joints_moved e;
       }
 
-  pub loose_keeps : (IsRegular r → IsRegular q) × ((m : Term) → RealisesDone r m → RealisesDone q m)
+  pub loose_keeps : (IsRegular r → IsRegular q) × ((m : Term) → RealisesInTurn r m → RealisesInTurn q m)
   loose_keeps =
       let free = loose_part_is_free k r driven.right in
       let keeps = renumbering_keeps onto from q (with_part k r) renumbered in

@@ -1,10 +1,8 @@
 -- A part that stands in no joint does nothing: the plan with it has the same lists, in the same states.
 use Rattle.std.specs.Prelude.{None, slice_get}
-use Rattle.std.proofs.Common.{◌≡◌, ℕ, zero, suc, List, [], ◌∷◌, ◌++◌, Option, Some, refl, sym, ◌∙◌, ap, subst}
+use Rattle.std.proofs.Common.{◌≡◌, ℕ, zero, suc, List, [], ◌∷◌, ◌++◌, Option, Some, refl, sym, ◌∙◌, ap}
 use Rattle.gos_model.specs.Terms.{Term}
-use Rattle.gos_model.specs.Labels.{Label}
 use Rattle.gos_model.specs.Moves.{Program, Config, Idle, Act}
-use Rattle.gos_model.specs.Protocol.{KeepsProtocol}
 use Rattle.gos_plan.specs.Kinds.{Contact, Part, asks, serves}
 use Rattle.gos_plan.specs.Plans.{End, PartEnd, ImportEnd, ResultEnd, Joint, Plan, contact_at, contacts_of_part, AreRight, IsRight}
 use Rattle.gos_plan.specs.Firing.{Slot, Req, Ans, Token}
@@ -12,7 +10,7 @@ use Rattle.gos_plan.specs.Tokens.{Tokens, Element, Fire, Out, In, places_of, hel
 use Rattle.gos_plan.specs.Orderly.{Open, none_open, after_taken, after_put, after_puts, AllComeWell, ComesInOrder, AllWelcome, OrderlyFrom, IsOrderly}
 use Rattle.gos_plan.proofs.JointLemmas.{joined}
 use Rattle.gos_realises.specs.realises.Regular.{Pass, pass, way_in, way_out, InputsKeepTurns, OutputsKeepTurns, IsRegular}
-use Rattle.gos_realises.specs.realises.Matched.{shows, all_shown, GoesOn, Agrees, IsMatched, program_of, RealisesDone}
+use Rattle.gos_realises.specs.realises.Matched.{shows, GoesOn, Agrees, IsMatched, program_of, RealisesInTurn}
 use Rattle.gos_sharing.specs.buffers.Buffering.{with_part, LoosePartIsFree}
 
 in_front : (xs ys : List Part) (i : ℕ) (k : Part) → slice_get xs i ≡ Some k → slice_get (xs ++ ys) i ≡ Some k
@@ -142,10 +140,6 @@ module _ (k : Part) (p : Plan) (right : IsRight p) where
   same_shows (In (ImportEnd i h) v) s w does = refl
   same_shows (In (ResultEnd h) v) s w does = refl
 
-  all_same : (xs : List Element) (s w : Tokens) → Runs p xs s w → all_shown (with_part k p) xs ≡ all_shown p xs
-  all_same [] s w runs = refl
-  all_same (x ∷ xs) s w (v, does, runs) = λ n. same_shows x s v does n ++ all_same xs v w runs n
-
   quiet_back : (s : Tokens) → IsQuiet (with_part k p) s → IsQuiet p s
   quiet_back s quiet = (λ i t w does. quiet.0 i t w (does_on (Fire i t) s w does), λ e v w does. quiet.1 e v w (does_on (Out e v) s w does))
 
@@ -168,10 +162,10 @@ module _ (k : Part) (p : Plan) (right : IsRight p) where
         (acts, d, moves, shown ∙ sym (same_shows x s w was), goes_on x s acts goes, matched_on g xs w d rest),
   )
 
-  realises_on : (m : Term) → RealisesDone p m → RealisesDone (with_part k p) m
+  realises_on : (m : Term) → RealisesInTurn p m → RealisesInTurn (with_part k p) m
   realises_on m realises s w xs idle runs keeps =
       let was = runs_back xs s w runs in
-      let (matched, orderly) = realises s w xs idle was (subst (λ (ls : List Label). KeepsProtocol p.imports ls) (all_same xs s w was) keeps) in
+      let (matched, orderly) = realises s w xs idle was (inputs_back xs [] s w was keeps) in
       (matched_on (program_of p m) xs s Idle matched, is_orderly_on xs s orderly)
 
 -- it is right with it

@@ -3,16 +3,14 @@
 -- Along a list of the plan with the Share the match of what is seen of it is a match of the list itself: a firing of the Share
 -- is matched by no move. Where what is seen is idle, nothing waits at the Share.
 use Rattle.std.specs.Prelude.{◌⊎◌, ◌+◌, ◌*◌, ◌-◌, ◌<◌, ◌≢◌, ◌&&◌, None, nat_eq, slice_get}
-use Rattle.std.proofs.Common.{◌≡◌, ℕ, Bool, true, false, List, [], ◌∷◌, ◌++◌, Option, Some, Contains, inl, inr, refl, sym, ◌∙◌, ap, subst, arith, if◌then◌else◌}
+use Rattle.std.proofs.Common.{◌≡◌, ℕ, Bool, true, false, List, [], ◌∷◌, Option, Some, Contains, inl, inr, refl, sym, ◌∙◌, ap, subst, arith, if◌then◌else◌}
 use Rattle.gos_types.specs.Types.{Type'}
 use Rattle.gos_types.specs.Handshakes.{turned}
 use Rattle.gos_types.specs.declared.shakes.Role.{Role}
 use Rattle.gos_types.specs.declared.shakes.Role.TheVariants.{Serve, Ask}
-use Rattle.gos_types.specs.Events.{Direction, Answer}
-use Rattle.gos_model.specs.Labels.{Label}
+use Rattle.gos_types.specs.Events.{Direction, Request, Answer}
 use Rattle.gos_model.specs.Moves.{Program, Config, Idle, Act, Moves, labels}
 use Rattle.gos_model.specs.Typing.{Imports}
-use Rattle.gos_model.specs.Protocol.{KeepsAfter, KeepsProtocol}
 use Rattle.gos_plan.specs.Kinds.{Contact, Part, Share, asks, serves, contacts_of, turned_contact, part_contacts}
 use Rattle.gos_plan.specs.Plans.{End, PartEnd, ImportEnd, ResultEnd, Plan, contact_at, same_end}
 use Rattle.gos_plan.specs.Firing.{Rest, State, at, Slot, Req, Ans, Token, put, Row}
@@ -23,8 +21,8 @@ use Rattle.gos_plan.proofs.RowLemmas.{role_taking}
 use Rattle.gos_plan.proofs.AskingLemmas.{RoleIs, row_roles, source_at}
 use Rattle.gos_plan.proofs.DecidedLemmas.{one_state}
 use Rattle.gos_plan.proofs.ContactLemmas.{part_contact}
-use Rattle.gos_realises.specs.realises.Regular.{count, way_in, way_out}
-use Rattle.gos_realises.specs.realises.Matched.{port_if, event_number, label_at, shows, all_shown, asks_on, GoesOn, Agrees, IsMatched, program_of}
+use Rattle.gos_realises.specs.realises.Regular.{count, InputsKeepTurns}
+use Rattle.gos_realises.specs.realises.Matched.{port_if, event_number, shows, asks_on, GoesOn, Agrees, IsMatched, program_of}
 use Rattle.gos_joining.specs.webs.Webs.{joint}
 use Rattle.gos_joining.specs.webs.Cutting.{asks_in, StandsIn}
 use Rattle.gos_joining.proofs.webs.MovedLemmas.{listed}
@@ -32,7 +30,6 @@ use Rattle.gos_sharing.specs.sharing.Sharing.{source_end, caller_end, IsOfPart, 
 use Rattle.gos_sharing.proofs.sharing.SeenIdleLemmas.{idle_is_seen}
 use Rattle.gos_sharing.proofs.sharing.SeenPlaceLemmas.{asks_so, asker, other_in, followed, to_source}
 use Rattle.gos_sharing.proofs.sharing.SeenTokenLemmas.{next, place_asking, place_serving}
-use Rattle.gos_sharing.proofs.sharing.SeenFireLemmas.{contact_seen}
 use Rattle.gos_sharing.proofs.sharing.SeenFillLemmas.{token_seen}
 use Rattle.gos_sharing.proofs.sharing.ShareRowLemmas.{asked_there, Passed, IsRequestPassed, IsAnswerPassed, share_passes, share_seen}
 use Rattle.gos_sharing.proofs.sharing.SeenKeptLemmas.{Kept, fit_none, all_clear}
@@ -42,9 +39,9 @@ use Rattle.gos_sharing.proofs.sharing.SeenQuietLemmas.{quiet_here}
 use Rattle.gos_sharing.specs.buffers.Buffers.{IsBuffer, BufferedRealises}
 use Rattle.gos_sharing.proofs.buffers.BranchLemmas.{Branch, one_of_two, caller_shake, source_shake, for_one, share_leaves, fire_leaves, out_leaves, in_leaves, branch_step, works_for_one, place_stands}
 use Rattle.gos_sharing.proofs.buffers.GroundLemmas.{OfCaller, ground_serves}
-use Rattle.gos_sharing.proofs.buffers.RegularLemmas.{same_number, outside_share, same_state, same_row, beside_first, orderly_from_idle}
+use Rattle.gos_sharing.proofs.buffers.RegularLemmas.{same_number, outside_share, same_state, same_row, beside_first, orderly_from_idle, turns_begin, inputs_seen}
 use Rattle.gos_realises.proofs.realises.IdleLemmas.{idle_welcome}
-use Rattle.gos_realises.proofs.realises.MatchedLemmas.{matched_agrees, shown_then}
+use Rattle.gos_realises.proofs.realises.MatchedLemmas.{matched_agrees}
 use Rattle.gos_joining.proofs.webs.CutLemmas.{asker_asks}
 
 -- nothing lies where there is no joint
@@ -233,31 +230,14 @@ agrees_too i t c r q is g o s d carried agrees = (
 )
 
 -- what is shown
-label_seen : (i : ℕ) (t : Type') (c : ℕ) (r q : Plan) → IsSeenThrough i t c r q → (e : End) (way : Direction) (v : ℕ) → label_at q e way v ≡ label_at r e way v
-label_seen i t c r q is (PartEnd k h) way v = refl
-label_seen i t c r q is (ImportEnd k h) way v = λ n. record { port = port_if (slice_get (is.imports n) k); event = event_number way h; value = v }
-label_seen i t c r q is (ResultEnd h) way v = refl
-
 shows_seen : (i : ℕ) (t : Type') (c : ℕ) (r q : Plan) → IsSeenThrough i t c r q → (x : Element) → shows q x ≡ shows r x
 shows_seen i t c r q is (Fire k slot) = refl
-shows_seen i t c r q is (Out e v) =
-    ap (λ d. label_at q e (way_out d) v ∷ []) (contact_seen i t c r q is e) ∙ ap (λ l. l ∷ []) (label_seen i t c r q is e (way_out (contact_at r e)) v)
-shows_seen i t c r q is (In e v) =
-    ap (λ d. label_at q e (way_in d) v ∷ []) (contact_seen i t c r q is e) ∙ ap (λ l. l ∷ []) (label_seen i t c r q is e (way_in (contact_at r e)) v)
-
-all_shown_seen : (i : ℕ) (t : Type') (c : ℕ) (r q : Plan) → IsSeenThrough i t c r q → (xs : List Element) → all_shown q (without i xs) ≡ all_shown r xs
-all_shown_seen i t c r q is [] = refl
-all_shown_seen i t c r q is (Fire k slot ∷ xs) = by_test (nat_eq k i) (all_shown_seen i t c r q is xs)
-  where
-    by_test : (b : Bool) → all_shown q (without i xs) ≡ all_shown r xs → all_shown q (if b then without i xs else Fire k slot ∷ without i xs) ≡ all_shown r xs
-    by_test true h = h
-    by_test false h = h
-all_shown_seen i t c r q is (Out e v ∷ xs) = λ n. shows_seen i t c r q is (Out e v) n ++ all_shown_seen i t c r q is xs n
-all_shown_seen i t c r q is (In e v ∷ xs) = λ n. shows_seen i t c r q is (In e v) n ++ all_shown_seen i t c r q is xs n
-
-protocol_begins : (is : Imports) (past xs ys : List Label) → KeepsAfter is past (xs ++ ys) → KeepsAfter is past xs
-protocol_begins is past [] ys h = tt
-protocol_begins is past (l ∷ xs) ys h = (h.0, protocol_begins is (l ∷ past) xs ys h.1)
+shows_seen i t c r q is (Out (PartEnd k h) v) = refl
+shows_seen i t c r q is (Out (ImportEnd k h) v) = λ n. record { port = port_if (slice_get (is.imports n) k); event = event_number Request h; value = v } ∷ []
+shows_seen i t c r q is (Out (ResultEnd h) v) = refl
+shows_seen i t c r q is (In (PartEnd k h) v) = refl
+shows_seen i t c r q is (In (ImportEnd k h) v) = λ n. record { port = port_if (slice_get (is.imports n) k); event = event_number Answer h; value = v } ∷ []
+shows_seen i t c r q is (In (ResultEnd h) v) = refl
 
 -- the Share's firing goes on for nobody
 no_request : (i : ℕ) (t : Type') (c : ℕ) (r q : Plan) (h : ℕ) (s w : Tokens) → Passed i t c r (Ans h) s w → (v : ℕ) (row : Row)
@@ -405,15 +385,12 @@ buffered_realises i t c r q m is realises s w xs idle runs keeps = (matched_of o
     idle_q : IsIdle q (seen_tokens i t c r q s)
     idle_q = idle_is_seen i t c r q s idle
 
-    keeps_q : KeepsProtocol q.imports (all_shown q (without i xs))
-    keeps_q =
-        subst (λ (ls : List Label). KeepsProtocol q.imports ls) (sym (all_shown_seen i t c r q is.seen xs))
-        (subst (λ (js : Imports). KeepsProtocol js (all_shown r xs)) (sym is.seen.imports) keeps)
+    keeps_q : InputsKeepTurns q [] (without i xs)
+    keeps_q = inputs_seen i t c r q is.seen [] xs keeps
 
     orderly : IsOrderly r xs s
     orderly =
-        orderly_from_idle i t c r q is xs (λ zs. KeepsProtocol q.imports (all_shown q zs)) s w
-        (λ zs ys k. protocol_begins q.imports [] (all_shown q zs) (all_shown q ys) (subst (λ (ls : List Label). KeepsProtocol q.imports ls) (shown_then q zs ys) k))
+        orderly_from_idle i t c r q is xs (InputsKeepTurns q []) s w (turns_begin q [])
         (λ zs v run k. (realises (seen_tokens i t c r q s) v zs idle_q run k).1) idle runs keeps_q
 
     matched_of : IsOrderly r xs s → IsMatched r (program_of r m) xs s Idle

@@ -331,7 +331,7 @@ orderly_from_idle i t c r q is xs may s w begins orders idle runs comes =
     (idle_welcome q (seen_tokens i t c r q s) (idle_is_seen i t c r q s idle)) runs comes
 
 -- turns
-turns_begin : (q : Plan) (past : List Pass) (xs ys : List Element) → InputsKeepTurns q past (xs ++ ys) → InputsKeepTurns q past xs
+pub turns_begin : (q : Plan) (past : List Pass) (xs ys : List Element) → InputsKeepTurns q past (xs ++ ys) → InputsKeepTurns q past xs
 turns_begin q past [] ys h = tt
 turns_begin q past (Fire k slot ∷ xs) ys h = turns_begin q past xs ys h
 turns_begin q past (Out e v ∷ xs) ys h = turns_begin q (pass e (way_out (contact_at q e)) ∷ past) xs ys h
@@ -342,7 +342,7 @@ turn_seen : (i : ℕ) (t : Type') (c : ℕ) (r q : Plan) → IsSeenThrough i t c
 turn_seen i t c r q is past x =
     λ n. ComesInTurn past x.end x.way × KeepsTurnsOf (whole_type (sym is.imports n) (sym is.outcome n)) (λ h. is_open (x ∷ past) (whole_end 0 (sym is.imports n) h))
 
-inputs_seen : (i : ℕ) (t : Type') (c : ℕ) (r q : Plan) → IsSeenThrough i t c r q → (past : List Pass) (xs : List Element) → InputsKeepTurns r past xs → InputsKeepTurns q past (without i xs)
+pub inputs_seen : (i : ℕ) (t : Type') (c : ℕ) (r q : Plan) → IsSeenThrough i t c r q → (past : List Pass) (xs : List Element) → InputsKeepTurns r past xs → InputsKeepTurns q past (without i xs)
 inputs_seen i t c r q is past [] h = tt
 inputs_seen i t c r q is past (Fire k slot ∷ xs) h = by_test (nat_eq k i) (inputs_seen i t c r q is past xs h)
   where

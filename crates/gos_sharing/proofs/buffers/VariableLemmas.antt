@@ -12,7 +12,7 @@ use Rattle.gos_plan.specs.Kinds.{Part, Share}
 use Rattle.gos_plan.specs.Plans.{Plan, IsRight}
 use Rattle.gos_plan.specs.TokenBits.{LiteralFits}
 use Rattle.gos_realises.specs.realises.Regular.{count, IsRegular}
-use Rattle.gos_realises.specs.realises.Matched.{RealisesDone}
+use Rattle.gos_realises.specs.realises.Matched.{RealisesInTurn}
 use Rattle.gos_realises.specs.realises.Links.{IsJoined}
 use Rattle.gos_realises.specs.realises.Wirings.{reading, writing}
 use Rattle.gos_realises.specs.realises.Realises.{AllGround, NamesDiffer, Suits, Means}
@@ -34,7 +34,7 @@ driven_keeps : (v f : ℕ) (ds : List Part) (Own : ℕ → Rattle.gos_plan.specs
     → (c : ℕ) (p : Plan) → c < 2 → IsRight p → IsGround p.outcome → ResultIsJoined p → v < count p.outcome → (r q plain : Plan)
     → IsDriven v f ds Own (buffered p.outcome c p) r → IsDriven v f ds Own (with_part (Share p.outcome) p) q → IsDriven v f ds Own p plain
     → q.outcome ≡ r.outcome → q.outcome ≡ plain.outcome
-    → (IsRegular plain → IsRegular r) × ((m : Term) → RealisesDone plain m → RealisesDone r m)
+    → (IsRegular plain → IsRegular r) × ((m : Term) → RealisesInTurn plain m → RealisesInTurn r m)
 driven_keeps v f ds Own own later some c p two right ground result known r q plain driven loose alone one_outcome other_outcome =
     let buffer = driven_buffer v f ds Own own c p two right ground result r q driven loose one_outcome known in
     let keeps = loose_keeps v f ds Own later some (Share p.outcome) p right q plain loose alone other_outcome in (
@@ -80,11 +80,11 @@ module _ (w c : ℕ) (p : Plan) (m : Term) (two : c < 2) (right : IsRight p) (ou
   driven_literals ds r are driving =
       literals_same r.parts (whole.parts ++ ds) are (literals_append whole.parts ds (buffered_literals p.outcome c p literals) driving)
 
-  reads : ((r : Plan) → IsJoined (reading w p) r → Suits (Exp w) r (Deref m) × RealisesDone r (Deref m))
-      → (r : Plan) → IsJoined (reading w whole) r → Suits (Exp w) r (Deref m) × RealisesDone r (Deref m)
+  reads : ((r : Plan) → IsJoined (reading w p) r → Suits (Exp w) r (Deref m) × RealisesInTurn r (Deref m))
+      → (r : Plan) → IsJoined (reading w whole) r → Suits (Exp w) r (Deref m) × RealisesInTurn r (Deref m)
   reads alone r join = of_joinings (variables_are_joined w 0 p right outcome).0 (variables_are_joined w 0 loose loose_right outcome).0
     where
-      of_joinings : HasJoining (reading w p) → HasJoining (reading w loose) → Suits (Exp w) r (Deref m) × RealisesDone r (Deref m)
+      of_joinings : HasJoining (reading w p) → HasJoining (reading w loose) → Suits (Exp w) r (Deref m) × RealisesInTurn r (Deref m)
       of_joinings (plain, is_plain) (q, is_q) =
           let driven = read_is_driven w whole r is_right outcome join.joining in
           let bare = read_is_driven w loose q loose_right outcome is_q.joining in
@@ -98,11 +98,11 @@ module _ (w c : ℕ) (p : Plan) (m : Term) (two : c < 2) (right : IsRight p) (ou
             keeps.1 (Deref m) known.1,
           )
 
-  writes : ((r : Plan) (k : ℕ) → k < 2 ^ w → IsJoined (writing w k p) r → Suits Com r (Assign m (Lit k w)) × RealisesDone r (Assign m (Lit k w)))
-      → (r : Plan) (k : ℕ) → k < 2 ^ w → IsJoined (writing w k whole) r → Suits Com r (Assign m (Lit k w)) × RealisesDone r (Assign m (Lit k w))
+  writes : ((r : Plan) (k : ℕ) → k < 2 ^ w → IsJoined (writing w k p) r → Suits Com r (Assign m (Lit k w)) × RealisesInTurn r (Assign m (Lit k w)))
+      → (r : Plan) (k : ℕ) → k < 2 ^ w → IsJoined (writing w k whole) r → Suits Com r (Assign m (Lit k w)) × RealisesInTurn r (Assign m (Lit k w))
   writes alone r k small join = of_joinings (variables_are_joined w k p right outcome).1 (variables_are_joined w k loose loose_right outcome).1
     where
-      of_joinings : HasJoining (writing w k p) → HasJoining (writing w k loose) → Suits Com r (Assign m (Lit k w)) × RealisesDone r (Assign m (Lit k w))
+      of_joinings : HasJoining (writing w k p) → HasJoining (writing w k loose) → Suits Com r (Assign m (Lit k w)) × RealisesInTurn r (Assign m (Lit k w))
       of_joinings (plain, is_plain) (q, is_q) =
           let driven = write_is_driven w k whole r is_right outcome join.joining in
           let bare = write_is_driven w k loose q loose_right outcome is_q.joining in

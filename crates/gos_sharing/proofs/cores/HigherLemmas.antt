@@ -8,7 +8,7 @@ use Rattle.gos_plan.specs.Plans.{PartEnd, ResultEnd, Plan}
 use Rattle.gos_plan.specs.Joining.{Link, all_parts}
 use Rattle.gos_plan.specs.TokenBits.{LiteralFits}
 use Rattle.gos_realises.specs.realises.Regular.{count}
-use Rattle.gos_realises.specs.realises.Matched.{RealisesDone}
+use Rattle.gos_realises.specs.realises.Matched.{RealisesInTurn}
 use Rattle.gos_realises.specs.realises.Links.{IsJoined}
 use Rattle.gos_realises.specs.realises.Wirings.{lone, link, results_linked}
 use Rattle.gos_realises.specs.realises.Realises.{HaveOtherNames, Suits, Means}
@@ -57,15 +57,14 @@ module _ (f : Core) (r c : Plan) (is : IsCore f r c) (still : IsStill f r c) (li
         regular = core_regular f r c is still suits.regular;
       }
 
-  done_core : (t : Type') (m : Term) → IsDone t → Suits t c m → RealisesDone c m → RealisesDone r m
+  done_core : (t : Type') (m : Term) → IsDone t → Suits t c m → RealisesInTurn c m → RealisesInTurn r m
   done_core t m is_done suits done =
-      core_is_done f r c m is still fine.0 fine.1 (subst IsDone (sym (is.outcome ∙ suits.outcome)) is_done) suits.regular
-      (sources_known c.imports [] m t suits.typed) done
+      core_is_done f r c m is still fine.1 (sources_known c.imports [] m t suits.typed) done
 
   abbrev DoneToo : Type' → Term → Type 0
-  DoneToo t m = Suits t r m × RealisesDone r m
+  DoneToo t m = Suits t r m × RealisesInTurn r m
 
-  done_too : (t : Type') (m : Term) → IsDone t → Suits t c m × RealisesDone c m → DoneToo t m
+  done_too : (t : Type') (m : Term) → IsDone t → Suits t c m × RealisesInTurn c m → DoneToo t m
   done_too t m is_done (suits, done) = (suits_core t m suits, done_core t m is_done suits done)
 
 -- the joinings with the plan and with its core

@@ -1,42 +1,34 @@
 -- A plan whose core realises a command or an expression realises it.
-use Rattle.std.specs.Prelude.{List, [], ◌∷◌, ◌++◌, ℕ, Option, Some, None, Contains}
+use Rattle.std.specs.Prelude.{List, [], ◌∷◌, ℕ, Option, Some, None, Contains}
 use Rattle.std.proofs.Common.{◌≡◌, refl, sym, ◌∙◌, subst}
-use Rattle.gos_types.specs.Events.{Direction, Answer}
+use Rattle.gos_types.specs.Events.{Answer}
 use Rattle.gos_model.specs.Moves.{Program, Config, Act}
-use Rattle.gos_model.specs.Protocol.{KeepsProtocol}
 use Rattle.gos_plan.specs.Kinds.{Contact}
 use Rattle.gos_plan.specs.Firing.{Slot, Req, Ans}
 use Rattle.gos_plan.specs.Plans.{End, PartEnd, ImportEnd, ResultEnd, Joint, Plan, IsRight, contact_at}
 use Rattle.gos_plan.specs.Tokens.{Tokens, Element, Fire, Out, In, with_token, end_of, way_of, way_taken, fired, Passes, Does, IsQuiet}
 use Rattle.gos_plan.specs.Orderly.{none_open}
-use Rattle.gos_realises.specs.realises.Regular.{way_in, way_out}
-use Rattle.gos_realises.specs.realises.Matched.{label_at, shows, all_shown, GoesOn, Agrees, IsMatched, program_of}
-use Rattle.gos_realises.proofs.realises.InputLemmas.{protocol_keeps_turns}
+use Rattle.gos_realises.specs.realises.Matched.{shows, GoesOn, Agrees, IsMatched, program_of}
 use Rattle.gos_joining.specs.webs.Webs.{joint}
 use Rattle.gos_supplies.proofs.unjoined.DoneLemmas.{whole_done}
 use Rattle.gos_sharing.specs.cores.Cores.{CoreIsDone}
 use Rattle.gos_sharing.proofs.cores.TrimLemmas.{trimmed, Clear, ClearAlong, clear_first, lies_live, lies_small, token_live, contact_small, does_small, order_large}
 use Rattle.gos_sharing.proofs.cores.CoreLemmas.{seats, kept, live, within, live_placed}
-use Rattle.gos_sharing.proofs.cores.RegularLemmas.{along, live_runs, core_regular}
+use Rattle.gos_sharing.proofs.cores.RegularLemmas.{along, live_runs, inputs_small}
 
 module _ (r : Plan) (js : List Joint) (right : IsRight r) (within : (a b : End) → Contains js (joint a b) → Contains r.joints (joint a b)) where
   abbrev small : Plan
   small = trimmed r js
 
   -- what is shown
-  label_small : (e : End) (way : Direction) (v : ℕ) → label_at small e way v ≡ label_at r e way v
-  label_small (PartEnd i h) way v = refl
-  label_small (ImportEnd i h) way v = refl
-  label_small (ResultEnd h) way v = refl
-
   shows_small : (x : Element) → shows small x ≡ shows r x
   shows_small (Fire i t) = refl
-  shows_small (Out e v) = λ i. label_small e (way_out (contact_small r js right within e i)) v i ∷ []
-  shows_small (In e v) = λ i. label_small e (way_in (contact_small r js right within e i)) v i ∷ []
-
-  pub all_shown_small : (xs : List Element) → all_shown small xs ≡ all_shown r xs
-  all_shown_small [] = refl
-  all_shown_small (x ∷ xs) = λ i. shows_small x i ++ all_shown_small xs i
+  shows_small (Out (PartEnd i h) v) = refl
+  shows_small (Out (ImportEnd i h) v) = refl
+  shows_small (Out (ResultEnd h) v) = refl
+  shows_small (In (PartEnd i h) v) = refl
+  shows_small (In (ImportEnd i h) v) = refl
+  shows_small (In (ResultEnd h) v) = refl
 
   goes_large : (x : Element) (s : Tokens) (acts : List Act) → Clear r js right within s → GoesOn small s x acts → GoesOn r s x acts
   goes_large (Fire i (Req h)) s acts clear goes = tt
@@ -80,12 +72,11 @@ module _ (r : Plan) (js : List Joint) (right : IsRight r) (within : (a b : End) 
   )
 
 pub core_is_done : CoreIsDone
-core_is_done f r c m is still ground names done regular knows realised s t xs idle runs keeps =
-    let turns = protocol_keeps_turns r xs s t (core_regular f r c is still regular) ground names done idle runs keeps in
+core_is_done f r c m is still names knows realised s t xs idle runs turns =
     let clear = along f r c is still s xs idle turns in
     let (matched, (u, z, order)) =
-    whole_done (seats f r c is) (live f r c is) c (live_placed f r c is) m names knows ground realised s t xs idle (live_runs f r c is still s t xs idle runs turns)
-    (subst (KeepsProtocol r.imports) (sym (all_shown_small r (kept f r c is) is.right (within f r c is) xs)) keeps)
+    whole_done (seats f r c is) (live f r c is) c (live_placed f r c is) m names knows realised s t xs idle (live_runs f r c is still s t xs idle runs turns)
+    (inputs_small f r c is xs [] turns)
     in (
       matched_large r (kept f r c is) is.right (within f r c is) (program_of r m) xs s _ clear matched,
       (u, z, order_large r (kept f r c is) is.right (within f r c is) xs none_open s u z clear order),

@@ -11,7 +11,7 @@ use Rattle.gos_plan.specs.Tokens.{Tokens, Element, Fire, Out, In, IsPortEnd, Pas
 use Rattle.gos_plan.specs.Orderly.{Open, after_taken, after_put, after_puts, ComesWell, AllComeWell, ComesInOrder, AllWelcome}
 use Rattle.gos_plan.proofs.HeldLemmas as held
 use Rattle.gos_realises.specs.realises.Regular.{count, Pass, pass, way_in, way_out, is_open, KeepsTurns, KeepsTurnsOf, ComesInTurn, InputsKeepTurns, whole_type, whole_end}
-use Rattle.gos_realises.specs.realises.Matched.{shows, label_at, port_if, event_number, GoesOn}
+use Rattle.gos_realises.specs.realises.Matched.{outward, inward, shows, label_at, port_if, event_number, GoesOn}
 use Rattle.gos_model.specs.Moves.{Act}
 use Rattle.gos_realises.proofs.realises.RingLemmas.{after, OutputTurns}
 use Rattle.gos_realises.proofs.realises.InputLemmas.{InputTurns, in_there, out_there}
@@ -99,6 +99,7 @@ module _ (f : Splitting) (x u : Plan) (is : IsSplit f x u) where
     pub mine : Open
     pub comes : ComesInOrder x z s o opened
     pub turns : OutputTurns x past z
+    pub enters : (ys : List Element) → InputsKeepTurns u (after x z past) ys → InputsKeepTurns u past (there ∷ ys)
     pub shown : shows u there ≡ shows x z
     pub goes : (acts : List Act) → GoesOn u (seen s) there acts → GoesOn x s z acts
     pub alike : Alike (after x z past) opened mine w
@@ -147,6 +148,7 @@ module _ (f : Splitting) (x u : Plan) (is : IsSplit f x u) where
         mine = st.opened;
         comes = in_order;
         turns = tt;
+        enters = λ ys keeps. keeps;
         shown = refl;
         goes = goes slot;
         alike =
@@ -261,9 +263,8 @@ module _ (f : Splitting) (x u : Plan) (is : IsSplit f x u) where
             turns =
                 subst (λ (X : Type 0). X) (turns_so past (pass e (way_out (contact_at x e))))
                 (subst (λ (y : Option Contact). KeepsTurns u past (pass e (way_out y))) (port_contact e does.0) st.turns);
-            shown =
-                ap (λ (y : Option Contact). label_at u e (way_out y) v ∷ []) (port_contact e does.0)
-                ∙ ap (λ l. l ∷ []) (same_label e (way_out (contact_at x e)) v);
+            enters = λ ys keeps. subst (λ (y : Option Contact). InputsKeepTurns u (pass e (way_out y) ∷ past) ys) (sym (port_contact e does.0)) keeps;
+            shown = ap (λ l. l ∷ []) (same_label e (outward e) v);
             goes = λ acts on. tt;
             alike =
                 record {
@@ -331,9 +332,10 @@ module _ (f : Splitting) (x u : Plan) (is : IsSplit f x u) where
             mine = st.opened;
             comes = in_order;
             turns = tt;
-            shown =
-                ap (λ (y : Option Contact). label_at u e (way_in y) v ∷ []) (port_contact e does.0)
-                ∙ ap (λ l. l ∷ []) (same_label e (way_in (contact_at x e)) v);
+            enters = λ ys keeps.
+                subst (λ (y : Option Contact). KeepsTurns u past (pass e (way_in y)) × InputsKeepTurns u (pass e (way_in y) ∷ past) ys) (sym (port_contact e does.0))
+                (subst (λ (X : Type 0). X) (sym (turns_so past (pass e (way_in (contact_at x e))))) turn, keeps);
+            shown = ap (λ l. l ∷ []) (same_label e (inward e) v);
             goes = λ acts on. tt;
             alike =
                 record {

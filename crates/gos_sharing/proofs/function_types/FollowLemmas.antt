@@ -1,11 +1,10 @@
 -- Lists of the plan with the Share are lists of the one with the two Shares, and matched where these are.
-use Rattle.std.specs.Prelude.{◌≡◌, ℕ, Bool, true, false, List, [], ◌∷◌, ◌++◌, Option, Some, None, slice_get, nat_eq, if◌then◌else◌}
+use Rattle.std.specs.Prelude.{◌≡◌, ℕ, Bool, true, false, List, [], ◌∷◌, Option, Some, None, slice_get, nat_eq, if◌then◌else◌}
 use Rattle.std.proofs.Common.{refl, sym, ◌∙◌, ap, subst, inl, inr}
 use Rattle.std.proofs.lemmas.Bool.{cases_eq}
 use Rattle.gos_types.specs.Types.{Fun}
 use Rattle.gos_types.specs.Events.{Direction}
 use Rattle.gos_model.specs.Moves.{Program, Config, Idle}
-use Rattle.gos_model.specs.Protocol.{KeepsProtocol}
 use Rattle.gos_plan.specs.Kinds.{Part, Contact, asks, serves, part_contacts}
 use Rattle.gos_plan.specs.Firing.{Rest, State, at, Slot, firing}
 use Rattle.gos_plan.specs.Plans.{End, PartEnd, ImportEnd, ResultEnd, Plan, contact_at, contacts_of_part}
@@ -19,9 +18,9 @@ use Rattle.gos_plan.proofs.AskingLemmas.{RoleIs, row_roles}
 use Rattle.gos_plan.proofs.TurnLemmas.{way_to_take}
 use Rattle.gos_plan.proofs.ElementLemmas.{firing_part}
 use Rattle.gos_realises.specs.realises.Regular.{Pass, InputsKeepTurns, OutputsKeepTurns, IsRegular}
-use Rattle.gos_realises.specs.realises.Matched.{all_shown, Agrees, IsMatched, program_of}
+use Rattle.gos_realises.specs.realises.Matched.{Agrees, IsMatched, program_of}
 use Rattle.gos_realises.proofs.realises.RingLemmas.{after}
-use Rattle.gos_realises.proofs.realises.InputLemmas.{InputTurns, first_turn, later_turns, protocol_keeps_turns}
+use Rattle.gos_realises.proofs.realises.InputLemmas.{InputTurns, first_turn, later_turns}
 use Rattle.gos_joining.specs.webs.Webs.{joint}
 use Rattle.gos_joining.specs.webs.Cutting.{asks_in}
 use Rattle.gos_joining.proofs.webs.CutLemmas.{stands_by, asks_one, asks_there}
@@ -186,7 +185,7 @@ module _ (f : Splitting) (x u : Plan) (is : IsSplit f x u) where
   record Follows (past : List Pass) (o : Open) (s : Tokens) (xs : List Element) (w : Tokens) : Type 0 where
     list : List Element
     runs : Runs u list (before s) (before w)
-    shown : all_shown u list ≡ all_shown x xs
+    inputs : InputsKeepTurns u past list
     ordered : Ordered x xs o s
     turns : OutputsKeepTurns x past xs
     matched : (g : Program) (d : Config) → IsMatched u g list (before s) d → IsMatched x g xs s d
@@ -197,7 +196,7 @@ module _ (f : Splitting) (x u : Plan) (is : IsSplit f x u) where
       record {
         list = [];
         runs = ap before runs;
-        shown = refl;
+        inputs = tt;
         ordered = (o, s, (refl, refl));
         turns = tt;
         matched = λ g d matched. agrees_back past o mine s h g d matched;
@@ -208,7 +207,7 @@ module _ (f : Splitting) (x u : Plan) (is : IsSplit f x u) where
       record {
         list = next.there ∷ rest.list;
         runs = (before v, next.does, rest.runs);
-        shown = λ l. next.shown l ++ rest.shown l;
+        inputs = next.enters rest.list rest.inputs;
         ordered = (rest.ordered.0, rest.ordered.1, (next.opened, v, does, next.comes, welcome f x u is (after x z past) next.opened next.mine v next.alike, rest.ordered.2));
         turns = out_joined x past z xs next.turns rest.turns;
         matched = λ g d matched. (
@@ -251,11 +250,9 @@ split_is_regular f x u is loyal regular s w xs idle runs turns =
     let all = follows f x u is xs [] none_open none_open s w (alike_first f x u is s loyal regular idle) runs turns in (all.ordered, all.turns)
 
 pub split_is_done : SplitIsDone
-split_is_done f x u m is loyal ground names done regular realised s w xs idle runs keeps =
-    let turns = protocol_keeps_turns x xs s w (split_is_regular f x u is loyal regular) ground names done idle runs keeps in
+split_is_done f x u m is loyal regular realised s w xs idle runs turns =
     let all = follows f x u is xs [] none_open none_open s w (alike_first f x u is s loyal regular idle) runs turns in
-    let protocol : KeepsProtocol u.imports (all_shown u all.list) = subst (λ (X : Type 0). X) (λ l. KeepsProtocol (sym is.imports l) (sym all.shown l)) keeps in
-    let (matched, ordered) = realised (seen f x u is s) (seen f x u is w) all.list (idle_too f x u is s idle) all.runs protocol in (
+    let (matched, ordered) = realised (seen f x u is s) (seen f x u is w) all.list (idle_too f x u is s idle) all.runs all.inputs in (
       all.matched (program_of x m) Idle
           (subst (λ (g : Program). IsMatched u g all.list (seen f x u is s) Idle) (λ l. record { imports = is.imports l; body = m }) matched),
       all.ordered,

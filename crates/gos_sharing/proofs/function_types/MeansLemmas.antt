@@ -11,7 +11,7 @@ use Rattle.gos_plan.specs.Plans.{PartEnd, ResultEnd, Plan}
 use Rattle.gos_plan.specs.TokenBits.{LiteralFits}
 use Rattle.gos_plan.specs.Joining.{Link}
 use Rattle.gos_realises.specs.realises.Regular.{count, IsRegular}
-use Rattle.gos_realises.specs.realises.Matched.{RealisesDone}
+use Rattle.gos_realises.specs.realises.Matched.{RealisesInTurn}
 use Rattle.gos_realises.specs.realises.Links.{IsJoined}
 use Rattle.gos_realises.specs.realises.Wirings.{lone, link, results_linked}
 use Rattle.gos_realises.specs.realises.Realises.{AllGround, NamesDiffer, HaveOtherNames, Suits, Means}
@@ -89,10 +89,9 @@ module _ (f : Splitting) (h : Cut) (x u p : Plan) (is : IsSplit f x u) (before :
         regular = split_is_regular f x u is (loyal suits.all_ground) suits.regular;
       }
 
-  pub done_back : (t : Type') (m : Term) → IsDone t → Suits t u m → RealisesDone u m → RealisesDone x m
+  pub done_back : (t : Type') (m : Term) → IsDone t → Suits t u m → RealisesInTurn u m → RealisesInTurn x m
   done_back t m done suits realised =
-      split_is_done f x u m is (loyal suits.all_ground) (ground_x suits.all_ground) (subst NamesDiffer is.imports suits.names)
-      (subst IsDone (sym (sym is.outcome ∙ suits.outcome)) done) suits.regular realised
+      split_is_done f x u m is (loyal suits.all_ground) suits.regular realised
 
   -- with others joined to its result
   module _ (ps : List Plan) (ls : List Link) (giver skipped : ℕ) (ty : Type') (kept : AllResults ls) (r s : Plan) (of_x : IsJoined (wiring x ps ls giver skipped ty) r)

@@ -80,6 +80,7 @@ module _ (f : Splitting) (x u : Plan) (is : IsSplit f x u) where
         mine = st.opened;
         comes = comes;
         turns = tt;
+        enters = λ ys keeps. keeps;
         shown = refl;
         goes = goes slot handed.slot_is;
         alike =

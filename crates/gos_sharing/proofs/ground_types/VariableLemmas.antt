@@ -11,14 +11,13 @@ use Rattle.gos_types.specs.Types.{Type', Com, Exp, Var}
 use Rattle.gos_types.specs.Events.{Request, Answer}
 use Rattle.gos_model.specs.Terms.{Term, Lit, Assign, Deref}
 use Rattle.gos_plan.specs.Kinds as kinds
-use Rattle.gos_plan.specs.Kinds.{Part, Contact, asks, serves, contacts_of}
+use Rattle.gos_plan.specs.Kinds.{Part, asks, serves, contacts_of}
 use Rattle.gos_plan.specs.Firing.{Rest, Value, Waiting, Writing, Req, Ans, Row, row, at, put}
 use Rattle.gos_plan.specs.Plans.{End, PartEnd, ResultEnd, Plan, contact_at, contacts_of_part, turned_if, same_end, stands_in, IsRight}
 use Rattle.gos_plan.specs.Tokens.{Tokens, Fire, places_of, with_token, fired}
 use Rattle.gos_plan.proofs.JointLemmas.{IsIn, same_is, fits, contained}
 use Rattle.gos_plan.proofs.TurnLemmas.{token_state}
-use Rattle.gos_realises.specs.realises.Regular.{way_in}
-use Rattle.gos_realises.specs.realises.Matched.{label_at, RealisesDone}
+use Rattle.gos_realises.specs.realises.Matched.{RealisesInTurn}
 use Rattle.gos_realises.specs.realises.Realises.{Suits, Realises}
 use Rattle.gos_joining.specs.webs.Webs.{joint}
 use Rattle.gos_joining.specs.webs.Cutting.{StandsIn}
@@ -74,7 +73,7 @@ module _
 -- a plan that is read, where its variable has no joint
 module _
     (w : ℕ) (p r : Plan) (m : Term) (driven : IsDriven 0 0 (kinds.Deref w ∷ []) ReadOwn p r) (suits : Suits (Exp w) r (Deref m))
-    (realises : RealisesDone r (Deref m)) (none : places_of r (PartEnd (length p.parts) 0) ≡ None) where
+    (realises : RealisesInTurn r (Deref m)) (none : places_of r (PartEnd (length p.parts) 0) ≡ None) where
   abbrev reader : ℕ
   reader = length p.parts
 
@@ -110,12 +109,12 @@ module _
       in
       never_quiet r (Exp w) (Deref m) (request ∷ Fire reader (Req 1) ∷ []) (fired r reader waits 0 asked) tt suits realises
       (asked, comes r w resting read_contact, (fired r reader waits 0 asked, fire, refl))
-      (ap (λ (o : Option Contact). label_at r (ResultEnd 0) (way_in o) 0 ∷ []) read_contact) quiet
+      refl quiet
 
 -- one that is written
 module _
     (w : ℕ) (p r : Plan) (m : Term) (driven : IsDriven 1 1 (kinds.Assign w ∷ kinds.Lit w 0 ∷ []) WriteOwn p r)
-    (suits : Suits Com r (Assign m (Lit 0 w))) (realises : RealisesDone r (Assign m (Lit 0 w)))
+    (suits : Suits Com r (Assign m (Lit 0 w))) (realises : RealisesInTurn r (Assign m (Lit 0 w)))
     (none : places_of r (PartEnd (length p.parts) 1) ≡ None) where
   abbrev writer : ℕ
   writer = length p.parts
@@ -225,7 +224,7 @@ module _
       in
       never_quiet r Com (Assign m (Lit 0 w)) (request ∷ Fire writer (Req 2) ∷ Fire (suc writer) (Req 0) ∷ Fire writer (Ans 0) ∷ []) written tt suits realises
       (run, comes r 0 resting write_contact, (begun, first, (answered, second, (written, third, refl))))
-      (ap (λ (o : Option Contact). label_at r (ResultEnd 0) (way_in o) 0 ∷ []) write_contact) quiet
+      refl quiet
 
 module _ (w : ℕ) (p : Plan) (m : Term) (real : Realises (Var w) p m) where
   read_apart : (a b : End) → ReadOwn (length p.parts) a b → (a ≡ PartEnd (length p.parts) 0) ⊎ (b ≡ PartEnd (length p.parts) 0) → ⊥

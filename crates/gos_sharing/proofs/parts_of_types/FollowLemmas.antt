@@ -1,15 +1,14 @@
 -- Lists of the plan with the wide Share are lists of the one with the narrow Share, and matched where these are.
-use Rattle.std.specs.Prelude.{◌≡◌, ℕ, List, [], ◌∷◌, ◌++◌, Some, None}
+use Rattle.std.specs.Prelude.{◌≡◌, ℕ, List, [], ◌∷◌, Some, None}
 use Rattle.std.proofs.Common.{refl, sym, ◌∙◌, ap, subst}
 use Rattle.gos_model.specs.Terms.{Term}
 use Rattle.gos_model.specs.Moves.{Program, Config, Idle}
-use Rattle.gos_model.specs.Protocol.{KeepsProtocol}
 use Rattle.gos_plan.specs.Kinds.{Part}
 use Rattle.gos_plan.specs.Plans.{PartEnd, ImportEnd, ResultEnd, Joint, Plan, contact_at}
 use Rattle.gos_plan.specs.Tokens.{Tokens, Element, Fire, Out, In, Runs, IsIdle}
 use Rattle.gos_plan.specs.Orderly.{none_open, IsOrderly}
 use Rattle.gos_realises.specs.realises.Regular.{Pass, pass, way_in, way_out, is_open, InputsKeepTurns, OutputsKeepTurns, IsRegular}
-use Rattle.gos_realises.specs.realises.Matched.{shows, all_shown, Agrees, IsMatched, program_of, RealisesDone}
+use Rattle.gos_realises.specs.realises.Matched.{shows, Agrees, IsMatched, program_of, RealisesInTurn}
 use Rattle.gos_supplies.specs.turns.Rests.{passes, Rests}
 use Rattle.gos_sharing.proofs.function_types.AlikeLemmas.{Placed, placed_on}
 use Rattle.gos_sharing.specs.parts_of_types.Narrow.{Narrowing, IsNarrow, NarrowIsRegular, NarrowIsDone, NarrowRests}
@@ -36,10 +35,6 @@ module _ (f : Narrowing) (z : Plan) (w : ℕ) (ps : List Part) (js : List Joint)
   shows_so (In (ImportEnd n h) v) = refl
   shows_so (In (ResultEnd h) v) = refl
 
-  all_shown_so : (xs : List Element) → all_shown (with_body z w ps js) (narrow_list f xs) ≡ all_shown z xs
-  all_shown_so [] = refl
-  all_shown_so (x ∷ xs) = λ l. shows_so x l ++ all_shown_so xs l
-
   agrees_back : (g : Program) (s : Tokens) (c : Config) → Placed z s → Agrees (with_body z w ps js) g (before f s) c → Agrees z g s c
   agrees_back g s c placed agrees = (
     λ quiet. agrees.0 (quiet_so f z (with_body z w ps js) is s quiet),
@@ -60,13 +55,6 @@ module _ (f : Narrowing) (z : Plan) (w : ℕ) (ps : List Part) (js : List Joint)
   ordered_back xs s t runs (p, k, order) =
       let (n, ordered) = orderly_so f z (with_body z w ps js) is xs none_open s t p k runs order in (n, t, ordered)
 
-  realises_back : (m : Term) → RealisesDone (with_body z w ps js) m → RealisesDone z m
-  realises_back m done s t xs idle runs keeps =
-      let both =
-      done (before f s) (before f t) (narrow_list f xs) (idle_so f z (with_body z w ps js) is s idle)
-      (runs_so f z (with_body z w ps js) is xs s t runs) (subst (KeepsProtocol z.imports) (sym (all_shown_so xs)) keeps) in
-      (matched_back (program_of z m) xs s Idle (idle_placed z s idle) both.0, ordered_back xs s t runs both.1)
-
   inputs_so : (xs : List Element) (past : List Pass) (s t : Tokens) → Runs z xs s t
       → InputsKeepTurns z past xs → InputsKeepTurns (with_body z w ps js) past (narrow_list f xs)
   inputs_so [] past s t runs keeps = tt
@@ -81,6 +69,13 @@ module _ (f : Narrowing) (z : Plan) (w : ℕ) (ps : List Part) (js : List Joint)
       (keeps.0, inputs_so xs (pass (ImportEnd n h) (way_in (contact_at z (ImportEnd n h))) ∷ past) y t runs keeps.1)
   inputs_so (In (ResultEnd h) v ∷ xs) past s t (y, does, runs) keeps =
       (keeps.0, inputs_so xs (pass (ResultEnd h) (way_in (contact_at z (ResultEnd h))) ∷ past) y t runs keeps.1)
+
+  realises_back : (m : Term) → RealisesInTurn (with_body z w ps js) m → RealisesInTurn z m
+  realises_back m done s t xs idle runs keeps =
+      let both =
+      done (before f s) (before f t) (narrow_list f xs) (idle_so f z (with_body z w ps js) is s idle)
+      (runs_so f z (with_body z w ps js) is xs s t runs) (inputs_so xs [] s t runs keeps) in
+      (matched_back (program_of z m) xs s Idle (idle_placed z s idle) both.0, ordered_back xs s t runs both.1)
 
   outputs_back : (xs : List Element) (past : List Pass) (s t : Tokens) → Runs z xs s t
       → OutputsKeepTurns (with_body z w ps js) past (narrow_list f xs) → OutputsKeepTurns z past xs
@@ -134,8 +129,8 @@ module _ (f : Narrowing) (z u : Plan) (is : IsNarrow f z u) where
   pub regular_so : IsRegular u → IsRegular z
   regular_so regular = regular_back f z u.weight u.parts u.joints there (subst IsRegular same regular)
 
-  pub realised_so : (m : Term) → RealisesDone u m → RealisesDone z m
-  realised_so m done = realises_back f z u.weight u.parts u.joints there m (subst (λ (p : Plan). RealisesDone p m) same done)
+  pub realised_so : (m : Term) → RealisesInTurn u m → RealisesInTurn z m
+  realised_so m done = realises_back f z u.weight u.parts u.joints there m (subst (λ (p : Plan). RealisesInTurn p m) same done)
 
   pub rests_so : Rests u → Rests z
   rests_so rests = rests_back f z u.weight u.parts u.joints there (subst Rests same rests)

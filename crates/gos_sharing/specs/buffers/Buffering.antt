@@ -8,7 +8,7 @@ use Rattle.gos_plan.specs.Kinds.{Part, Share}
 use Rattle.gos_plan.specs.Plans.{End, PartEnd, ImportEnd, ResultEnd, Joint, Plan, IsRight}
 use Rattle.gos_plan.specs.Joining.{Link, Wiring}
 use Rattle.gos_realises.specs.realises.Regular.{count, IsRegular}
-use Rattle.gos_realises.specs.realises.Matched.{RealisesDone}
+use Rattle.gos_realises.specs.realises.Matched.{RealisesInTurn}
 use Rattle.gos_realises.specs.realises.Links.{IsJoined}
 use Rattle.gos_realises.specs.realises.Wirings.{link}
 use Rattle.gos_realises.specs.realises.Realises.{Realises}
@@ -25,7 +25,7 @@ with_part k p = record p { parts = p.parts ++ (k ∷ []) }
 abbrev pub LoosePartIsFree : Type 0
 LoosePartIsFree =
     (k : Part) (p : Plan)
-    → IsRight p → (IsRegular p → IsRegular (with_part k p)) × ((m : Term) → RealisesDone p m → RealisesDone (with_part k p) m)
+    → IsRight p → (IsRegular p → IsRegular (with_part k p)) × ((m : Term) → RealisesInTurn p m → RealisesInTurn (with_part k p) m)
 
 -- where an end of a plan stands behind Share i: its result's handshakes are those of the source
 abbrev pub end_behind : ℕ → End → End

@@ -10,7 +10,7 @@ use Rattle.gos_plan.specs.Plans.{Plan}
 use Rattle.gos_plan.specs.Tokens.{Tokens, Element, Fire, shake_of, Does, Runs, IsIdle}
 use Rattle.gos_plan.specs.Orderly.{Open, none_open, OrderlyFrom}
 use Rattle.gos_realises.specs.realises.Regular.{count, InputsKeepTurns, IsRegular}
-use Rattle.gos_realises.specs.realises.Matched.{RealisesDone}
+use Rattle.gos_realises.specs.realises.Matched.{RealisesInTurn}
 use Rattle.gos_joining.specs.webs.Cutting.{StandsIn}
 use Rattle.gos_sharing.specs.sharing.Sharing.{source_end, caller_end, IsSeenThrough, WorksFor}
 
@@ -35,7 +35,7 @@ BufferedIsRegular = (i : ℕ) (t : Type') (c : ℕ) (r q : Plan) → IsBuffer i 
 -- and realises what that one realises
 abbrev pub BufferedRealises : Type 0
 BufferedRealises =
-    (i : ℕ) (t : Type') (c : ℕ) (r q : Plan) (m : Term) → IsBuffer i t c r q → RealisesDone q m → RealisesDone r m
+    (i : ℕ) (t : Type') (c : ℕ) (r q : Plan) (m : Term) → IsBuffer i t c r q → RealisesInTurn q m → RealisesInTurn r m
 
 -- Part i of p, a Share, is loyal to caller c: over each list from an idle state whose inputs keep turns, what it takes of its
 -- source finds the branch c.

@@ -2,12 +2,12 @@
 --
 -- Read first: Core.
 use Rattle.std.specs.Prelude.{All}
-use Rattle.gos_types.specs.Types.{Type', IsDone}
+use Rattle.gos_types.specs.Types.{Type'}
 use Rattle.gos_model.specs.Terms.{Term}
 use Rattle.gos_plan.specs.Plans.{Plan}
 use Rattle.gos_plan.specs.TokenBits.{LiteralFits}
 use Rattle.gos_realises.specs.realises.Regular.{IsRegular}
-use Rattle.gos_realises.specs.realises.Matched.{RealisesDone}
+use Rattle.gos_realises.specs.realises.Matched.{RealisesInTurn}
 use Rattle.gos_realises.specs.realises.Realises.{AllGround, NamesDiffer, Realises}
 use Rattle.gos_programs.specs.contexts.Widening.{Knows}
 use Rattle.gos_supplies.specs.turns.Rests.{Rests}
@@ -27,8 +27,8 @@ CoreRests = (f : Core) (r c : Plan) → IsCore f r c → IsStill f r c → Rests
 abbrev pub CoreIsDone : Type 0
 CoreIsDone =
     (f : Core) (r c : Plan) (m : Term)
-    → IsCore f r c → IsStill f r c → AllGround r.imports → NamesDiffer r.imports → IsDone r.outcome → IsRegular c → Knows c.imports m
-    → RealisesDone c m → RealisesDone r m
+    → IsCore f r c → IsStill f r c → NamesDiffer r.imports → Knows c.imports m
+    → RealisesInTurn c m → RealisesInTurn r m
 
 -- And it realises what its core realises, at each type.
 abbrev pub CoreIsRealised : Type 0

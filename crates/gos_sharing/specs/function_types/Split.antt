@@ -3,14 +3,13 @@
 -- Read first: Buffers of buffers; Matched of gos_realises. Of each of the three one caller alone is joined. What the source asks of
 -- its caller goes the other way at the argument's Share: there the source's end is the caller's.
 use Rattle.std.specs.Prelude.{◌≡◌, ◌≢◌, ℕ, ◌+◌, ◌*◌, ◌<◌, ◌⊎◌, Some, slice_get, Contains}
-use Rattle.gos_types.specs.Types.{Type', Fun, IsDone}
+use Rattle.gos_types.specs.Types.{Type', Fun}
 use Rattle.gos_model.specs.Terms.{Term}
 use Rattle.gos_plan.specs.Kinds.{Share}
 use Rattle.gos_plan.specs.Plans.{End, PartEnd, ImportEnd, ResultEnd, Plan, IsRight}
 use Rattle.gos_plan.specs.Tokens.{IsPortEnd}
 use Rattle.gos_realises.specs.realises.Regular.{count, IsRegular}
-use Rattle.gos_realises.specs.realises.Matched.{RealisesDone}
-use Rattle.gos_realises.specs.realises.Realises.{AllGround, NamesDiffer}
+use Rattle.gos_realises.specs.realises.Matched.{RealisesInTurn}
 use Rattle.gos_joining.specs.webs.Webs.{joint}
 use Rattle.gos_joining.specs.webs.Cutting.{StandsIn}
 use Rattle.gos_sharing.specs.sharing.Sharing.{source_end, caller_end}
@@ -78,5 +77,5 @@ SplitIsRegular =
 abbrev pub SplitIsDone : Type 0
 SplitIsDone =
     (f : Splitting) (x u : Plan) (m : Term)
-    → IsSplit f x u → IsLoyal f.wide f.caller (Fun f.of f.to) x → AllGround x.imports → NamesDiffer x.imports → IsDone x.outcome → IsRegular u
-    → RealisesDone u m → RealisesDone x m
+    → IsSplit f x u → IsLoyal f.wide f.caller (Fun f.of f.to) x → IsRegular u
+    → RealisesInTurn u m → RealisesInTurn x m

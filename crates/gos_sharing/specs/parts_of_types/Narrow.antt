@@ -8,7 +8,7 @@ use Rattle.gos_model.specs.Terms.{Term}
 use Rattle.gos_plan.specs.Kinds.{Contact, Share, contacts_of}
 use Rattle.gos_plan.specs.Plans.{End, PartEnd, ImportEnd, ResultEnd, Joint, Plan, IsRight}
 use Rattle.gos_realises.specs.realises.Regular.{count, IsRegular}
-use Rattle.gos_realises.specs.realises.Matched.{RealisesDone}
+use Rattle.gos_realises.specs.realises.Matched.{RealisesInTurn}
 use Rattle.gos_supplies.specs.turns.Rests.{Rests}
 use Rattle.gos_joining.specs.webs.Webs.{joint}
 
@@ -68,7 +68,7 @@ NarrowIsRegular = (f : Narrowing) (z u : Plan) → IsNarrow f z u → IsRegular 
 
 -- And it realises a command or an expression that the other realises.
 abbrev pub NarrowIsDone : Type 0
-NarrowIsDone = (f : Narrowing) (z u : Plan) (m : Term) → IsNarrow f z u → RealisesDone u m → RealisesDone z m
+NarrowIsDone = (f : Narrowing) (z u : Plan) (m : Term) → IsNarrow f z u → RealisesInTurn u m → RealisesInTurn z m
 
 -- And it rests where the other does.
 abbrev pub NarrowRests : Type 0

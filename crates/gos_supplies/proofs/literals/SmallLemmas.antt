@@ -7,7 +7,6 @@ use Rattle.gos_model.specs.Terms.{Term}
 use Rattle.gos_model.specs.Reach.{Unfolds}
 use Rattle.gos_model.specs.Labels.{Label, given}
 use Rattle.gos_model.specs.Moves.{Program, Config, Idle, Running, Act, Computing, Showing, Moves, labels, Unfoldings, ActsTo}
-use Rattle.gos_model.specs.Protocol.{KeepsProtocol}
 use Rattle.gos_plan.specs.Firing.{Rest, Req, Ans, Row, row, at, put}
 use Rattle.gos_plan.specs.Plans.{ResultEnd, Plan}
 use Rattle.gos_plan.specs.Tokens.{Tokens, Fire, Out, In, with_token, fired, Does}
@@ -93,10 +92,9 @@ five_is_not_six real =
     let one : Does five (In (ResultEnd 0) 0) at_first asked = (tt, (omega arith, refl)) in
     let two : Does five (Fire 0 (Req 0)) asked answered = (0, fires, refl, refl, refl) in
     let three : Does five (Out (ResultEnd 0) 5) answered ended = (tt, (refl, refl)) in
-    let keeps : KeepsProtocol [] (given 0 0 ∷ given 1 5 ∷ []) = (λ h. (refl, refl, refl), (λ h. absurd (cc h), tt)) in
     let (matched, orderly) =
     real.means at_first ended (In (ResultEnd 0) 0 ∷ Fire 0 (Req 0) ∷ Out (ResultEnd 0) 5 ∷ []) ((λ way e. refl), λ i. refl)
-    (asked, one, (answered, two, (ended, three, refl))) keeps in
+    (asked, one, (answered, two, (ended, three, refl))) ((refl, tt), tt) in
     let (acts, b, moves, shown, goes, first) = matched.1 asked one in
     let (more, d, then, none, on, second) = first.1 answered two in
     let (last, e, end, five_shown, go, third) = second.1 ended three in

@@ -1,6 +1,6 @@
 -- The plan of a name of a command or an expression realises it: the track of its run, of the import's run and answer, and of its
 -- own answer, which has the import's number.
-use Rattle.std.specs.Prelude.{◌≡◌, ℕ, zero, suc, ◌^◌, ◌<◌, ◌||◌, Bool, true, false, List, [], ◌∷◌, ◌++◌, ◌⊎◌, Option, Some, None}
+use Rattle.std.specs.Prelude.{◌≡◌, ℕ, zero, suc, ◌^◌, ◌<◌, ◌||◌, Bool, true, false, List, [], ◌∷◌, ◌⊎◌, Option, Some, None}
 use Rattle.std.specs.Str.{bytes_eq}
 use Rattle.std.proofs.lemmas.Slice.Eq.{bytes_eq-Decides}
 use Rattle.std.proofs.Common.{refl, sym, ◌∙◌, ap, subst, arith, inl, inr}
@@ -11,8 +11,7 @@ use Rattle.gos_types.proofs.ListLemmas.{none_in_empty}
 use Rattle.gos_model.specs.Terms as terms
 use Rattle.gos_model.specs.Terms.{Name, Term, Import, Wait}
 use Rattle.gos_model.specs.Typing.{import_type}
-use Rattle.gos_model.specs.Labels.{Label, Taken, given, taken, IsAnswer, Emits}
-use Rattle.gos_model.specs.Protocol as protocol
+use Rattle.gos_model.specs.Labels.{given, taken, IsAnswer, Emits}
 use Rattle.gos_model.specs.Moves.{Config, Idle, Running, Act, Showing, Moves, labels, Answers, Stalled}
 use Rattle.gos_plan.specs.Kinds.{Contact, asks, serves}
 use Rattle.gos_plan.specs.Firing.{Slot, Req, Ans}
@@ -21,12 +20,12 @@ use Rattle.gos_plan.specs.Tokens.{Tokens, Element, Fire, Out, In, places_of, hel
 use Rattle.gos_plan.specs.Turns.{IsEmptyAt}
 use Rattle.gos_plan.specs.Orderly.{Open, named_by, handshake_at, with_open, after_taken, after_put, ComesWell, ComesInOrder, AllWelcome}
 use Rattle.gos_realises.specs.realises.Regular.{Pass, pass, way_in, way_out, is_open, ComesInTurn, KeepsTurnsOf, KeepsTurns, whole_type, whole_end, IsRegular}
-use Rattle.gos_realises.specs.realises.Matched.{label_at, shows, GoesOn, Agrees, program_of, RealisesDone}
+use Rattle.gos_realises.specs.realises.Matched.{shows, GoesOn, Agrees, program_of, RealisesInTurn}
 use Rattle.gos_realises.specs.realises.Realises.{Suits, Means, Realises}
 use Rattle.gos_realises.proofs.realises.LiteralLemmas.{no_literals}
 use Rattle.gos_realises.proofs.realises.OneJointLemmas.{Lies, rests_alone, is_idle, with_request, with_answer, not_both}
 use Rattle.gos_realises.proofs.realises.SkipLemmas.{run_is_no_output, running_is_not_idle}
-use Rattle.gos_realises.proofs.realises.RingLemmas.{after, told_open, OutputTurns, MayCome, IsFirst}
+use Rattle.gos_realises.proofs.realises.RingLemmas.{after, OutputTurns, IsFirst}
 use Rattle.gos_supplies.specs.names.Names.{name_plan}
 use Rattle.gos_supplies.proofs.names.WaitLemmas.{wait_is_stalled}
 use Rattle.gos_supplies.proofs.names.TrackLemmas.{IsTrack, IsProgramTrack, track_is_regular, track_realises}
@@ -344,26 +343,6 @@ module _ (n : Name) where
     in_turn q e v s w past does o turn =
         comes_in q e v (is_open past) s w o does (λ is. run_shut e past is turn) (λ is. answer_due e past is turn)
 
-    run_may : (e : End) (v : ℕ) (past : List Label) → e ≡ ResultEnd 0
-        → MayCome (name_plan n t) past (label_at (name_plan n t) e (way_in (contact_at (name_plan n t) e)) v) → told_open (name_plan n t) past (ResultEnd 0) ≡ false
-    run_may e v past is may =
-        let there = subst (λ (x : End). MayCome (name_plan n t) past (label_at (name_plan n t) x (way_in (contact_at (name_plan n t) x)) v)) is may in
-        let here = subst (λ (c : Option Contact). MayCome (name_plan n t) past (label_at (name_plan n t) (ResultEnd 0) (way_in c) v)) (result_contact t done) there in
-        (here refl).2
-
-    answer_may : (e : End) (v : ℕ) (past : List Label) → e ≡ ImportEnd 0 0
-        → MayCome (name_plan n t) past (label_at (name_plan n t) e (way_in (contact_at (name_plan n t) e)) v) → told_open (name_plan n t) past (ImportEnd 0 0) ≡ true
-    answer_may e v past is may =
-        let there = subst (λ (x : End). MayCome (name_plan n t) past (label_at (name_plan n t) x (way_in (contact_at (name_plan n t) x)) v)) is may in
-        let here = subst (λ (c : Option Contact). MayCome (name_plan n t) past (label_at (name_plan n t) (ImportEnd 0 0) (way_in c) v)) (import_contact t done) there in
-        (here refl).1
-
-    allowed : (q : Stage) (e : End) (v : ℕ) (s w : Tokens) (past : List Label)
-        → Does (name_plan n t) (In e v) s w → Opened q (told_open (name_plan n t) past)
-        → MayCome (name_plan n t) past (label_at (name_plan n t) e (way_in (contact_at (name_plan n t) e)) v) → Next t q (In e v)
-    allowed q e v s w past does o may =
-        comes_in q e v (told_open (name_plan n t) past) s w o does (λ is. run_may e v past is may) (λ is. answer_may e v past is may)
-
     result_place : places_of (name_plan n t) (ResultEnd 0) ≡ Some (ResultEnd 0)
     result_place = result_stands t done
 
@@ -389,28 +368,6 @@ module _ (n : Name) where
     passed (Back v) x past (next, low) o =
         subst (λ (y : Element). Opened Resting (is_open (after (name_plan n t) y past))) (sym next)
         (subst (λ (c : Option Contact). Opened Resting (is_open (pass (ResultEnd 0) (way_out c) ∷ past))) (sym (result_contact t done)) (refl, o.1))
-
-    -- what the import's labels leave open at it
-    at_request : (past : List Label) → protocol.is_open (taken n 0 0 ∷ past) (Taken n) 0 ≡ true
-    at_request past = let same : bytes_eq n n ≡ true = (bytes_eq-Decides n n).1 refl in rw same refl
-
-    at_answer : (v : ℕ) (past : List Label) → protocol.is_open (taken n 1 v ∷ past) (Taken n) 0 ≡ false
-    at_answer v past = let same : bytes_eq n n ≡ true = (bytes_eq-Decides n n).1 refl in rw same refl
-
-    told : (q : Stage) (x : Element) (past : List Label)
-        → Next t q x → Opened q (told_open (name_plan n t) past) → Opened (succ q x) (told_open (name_plan n t) (shows (name_plan n t) x ++ past))
-    told Resting x past next o =
-        subst (λ (y : Element). Opened Asked (told_open (name_plan n t) (shows (name_plan n t) y ++ past))) (sym next)
-        (subst (λ (c : Option Contact). Opened Asked (told_open (name_plan n t) (label_at (name_plan n t) (ResultEnd 0) (way_in c) 0 ∷ past))) (sym (result_contact t done)) (refl, o.1))
-    told Asked x past next o =
-        subst (λ (y : Element). Opened Away (told_open (name_plan n t) (shows (name_plan n t) y ++ past))) (sym next)
-        (subst (λ (c : Option Contact). Opened Away (told_open (name_plan n t) (label_at (name_plan n t) (ImportEnd 0 0) (way_out c) 0 ∷ past))) (sym (import_contact t done)) (o.0, at_request past))
-    told Away x past (v, small, next) o =
-        subst (λ (y : Element). Opened (Back 0) (told_open (name_plan n t) (shows (name_plan n t) y ++ past))) (sym next)
-        (subst (λ (c : Option Contact). Opened (Back 0) (told_open (name_plan n t) (label_at (name_plan n t) (ImportEnd 0 0) (way_in c) v ∷ past))) (sym (import_contact t done)) (o.0, at_answer v past))
-    told (Back v) x past (next, low) o =
-        subst (λ (y : Element). Opened Resting (told_open (name_plan n t) (shows (name_plan n t) y ++ past))) (sym next)
-        (subst (λ (c : Option Contact). Opened Resting (told_open (name_plan n t) (label_at (name_plan n t) (ResultEnd 0) (way_out c) v ∷ past))) (sym (result_contact t done)) (refl, o.1))
 
     turns : (q : Stage) (x : Element) (past : List Pass) → Next t q x → Opened q (is_open past) → OutputTurns (name_plan n t) past x
     turns Resting x past next o = subst (OutputTurns (name_plan n t) past) (sym next) tt
@@ -514,17 +471,13 @@ module _ (n : Name) where
 
     shown : (q : Stage) (x : Element) → Next t q x → labels (acts n q x) ≡ shows (name_plan n t) x
     shown Resting x next =
-        subst (λ (y : Element). given 0 0 ∷ [] ≡ shows (name_plan n t) y) (sym next)
-        (ap (λ (c : Option Contact). label_at (name_plan n t) (ResultEnd 0) (way_in c) 0 ∷ []) (sym (result_contact t done)))
+        subst (λ (y : Element). given 0 0 ∷ [] ≡ shows (name_plan n t) y) (sym next) refl
     shown Asked x next =
-        subst (λ (y : Element). taken n 0 0 ∷ [] ≡ shows (name_plan n t) y) (sym next)
-        (ap (λ (c : Option Contact). label_at (name_plan n t) (ImportEnd 0 0) (way_out c) 0 ∷ []) (sym (import_contact t done)))
+        subst (λ (y : Element). taken n 0 0 ∷ [] ≡ shows (name_plan n t) y) (sym next) refl
     shown Away x (v, small, next) =
-        subst (λ (y : Element). taken n 1 (number_of y) ∷ [] ≡ shows (name_plan n t) y) (sym next)
-        (ap (λ (c : Option Contact). label_at (name_plan n t) (ImportEnd 0 0) (way_in c) v ∷ []) (sym (import_contact t done)))
+        subst (λ (y : Element). taken n 1 (number_of y) ∷ [] ≡ shows (name_plan n t) y) (sym next) refl
     shown (Back v) x (next, low) =
-        subst (λ (y : Element). given 1 v ∷ [] ≡ shows (name_plan n t) y) (sym next)
-        (ap (λ (c : Option Contact). label_at (name_plan n t) (ResultEnd 0) (way_out c) v ∷ []) (sym (result_contact t done)))
+        subst (λ (y : Element). given 1 v ∷ [] ≡ shows (name_plan n t) y) (sym next) refl
 
     goes_on : (q : Stage) (x : Element) (s : Tokens) → Next t q x → At t q s → GoesOn (name_plan n t) s x (acts n q x)
     goes_on Resting x s next here = subst (λ (y : Element). GoesOn (name_plan n t) s y (acts n Resting y)) (sym next) tt
@@ -549,8 +502,6 @@ module _ (n : Name) where
     whole =
         record {
           track = track;
-          allowed = allowed;
-          told = told;
           agrees = agrees;
           moves = moves;
           shown = shown;
@@ -563,13 +514,12 @@ module _ (n : Name) where
           rests = λ s idle. rests_alone (ResultEnd 0) (name_plan n t) s idle;
           none = refl;
           closed = (refl, refl);
-          silent = (refl, refl);
         }
 
     pub name_is_regular : IsRegular (name_plan n t)
     name_is_regular = track_is_regular (name_plan n t) Stage (Next t) succ (At t) OpenAt Opened track Resting first
 
-    pub name_realises : RealisesDone (name_plan n t) (Import n)
+    pub name_realises : RealisesInTurn (name_plan n t) (Import n)
     name_realises =
         track_realises (name_plan n t) (Import n) Stage (Next t) succ (acts n) (config n t) (At t) OpenAt Opened whole Resting refl first
 

@@ -10,7 +10,7 @@ use Rattle.gos_plan.specs.Plans.{Plan, IsRight}
 use Rattle.gos_plan.specs.TokenBits.{LiteralFits}
 use Rattle.gos_plan.specs.Joining.{IsSameButOrder, JoiningIsOne}
 use Rattle.gos_realises.specs.realises.Regular.{IsRegular}
-use Rattle.gos_realises.specs.realises.Matched.{RealisesDone}
+use Rattle.gos_realises.specs.realises.Matched.{RealisesInTurn}
 use Rattle.gos_realises.specs.realises.Links.{IsJoined}
 use Rattle.gos_realises.specs.realises.Wirings.{reading, writing}
 use Rattle.gos_realises.specs.realises.Realises.{AllGround, NamesDiffer, Suits}
@@ -29,7 +29,7 @@ module _ (joining_is_one : JoiningIsOne) (order_is_free : OrderIsFree) where
   -- a plan with the one import, which is another one but for the order of its joints
   ordered : (n : Name) (w : ℕ) (t : Type') (m : Term) (p r : Plan)
       → IsRight p → All LiteralFits p.parts → IsRight r → IsSameButOrder r p → p.imports ≡ imported n (Var w) ∷ [] → p.outcome ≡ t → Typed (imported n (Var w) ∷ []) [] m t
-      → IsRegular p → RealisesDone p m → Suits t r m × RealisesDone r m
+      → IsRegular p → RealisesInTurn p m → Suits t r m × RealisesInTurn r m
   ordered n w t m p r right literals also same imports outcome typed regular realises = (
     record {
       right = also;
@@ -48,14 +48,14 @@ module _ (joining_is_one : JoiningIsOne) (order_is_free : OrderIsFree) where
 
   -- read and written
   reads : (n : Name) (w : ℕ) (r : Plan) → IsJoined (reading w (name_plan n (Var w))) r
-      → Suits (Exp w) r (Deref (Import n)) × RealisesDone r (Deref (Import n))
+      → Suits (Exp w) r (Deref (Import n)) × RealisesInTurn r (Deref (Import n))
   reads n w r joined =
       ordered n w (Exp w) (Deref (Import n)) (read_plan n w) r (read_joining n w).right (reading_literals w) joined.joining.right
       (joining_is_one (reading w (name_plan n (Var w))) r (read_plan n w) joined.joining (read_joining n w)) refl refl (w, refl, known n (Var w))
       (read_is_regular n w) (read_realises n w)
 
   writes : (n : Name) (w k : ℕ) (r : Plan) → IsWidth w → k < 2 ^ w → IsJoined (writing w k (name_plan n (Var w))) r
-      → Suits Com r (Assign (Import n) (Lit k w)) × RealisesDone r (Assign (Import n) (Lit k w))
+      → Suits Com r (Assign (Import n) (Lit k w)) × RealisesInTurn r (Assign (Import n) (Lit k w))
   writes n w k r wide small joined =
       ordered n w Com (Assign (Import n) (Lit k w)) (write_plan n w k) r (write_joining n w k).right (writing_literals w k small) joined.joining.right
       (joining_is_one (writing w k (name_plan n (Var w))) r (write_plan n w k) joined.joining (write_joining n w k)) refl refl

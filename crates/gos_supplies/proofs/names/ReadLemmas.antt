@@ -1,6 +1,6 @@
 -- A Deref that reads at an import realises the reading of the name: the track of its run, the Deref's firing, the import's read and
 -- its number, the Deref's second firing, and the answer.
-use Rattle.std.specs.Prelude.{◌≡◌, ℕ, zero, suc, ◌^◌, ◌<◌, Bool, true, false, List, [], ◌∷◌, ◌++◌, ◌⊎◌, Option, Some, None, slice_get}
+use Rattle.std.specs.Prelude.{◌≡◌, ℕ, zero, suc, ◌^◌, ◌<◌, Bool, true, false, List, [], ◌∷◌, ◌⊎◌, Option, Some, None, slice_get}
 use Rattle.std.specs.Str.{bytes_eq}
 use Rattle.std.proofs.lemmas.Slice.Eq.{bytes_eq-Decides}
 use Rattle.std.proofs.Common.{refl, sym, ◌∙◌, ap, subst, arith, inl, inr}
@@ -10,8 +10,7 @@ use Rattle.gos_types.specs.Types.{Type', Var}
 use Rattle.gos_types.proofs.BoolLemmas.{true_is_not_false}
 use Rattle.gos_model.specs.Terms.{Name, Import, Deref, Wait, Lit}
 use Rattle.gos_model.specs.Typing.{import_type}
-use Rattle.gos_model.specs.Labels.{Label, Taken, given, taken, IsAnswer}
-use Rattle.gos_model.specs.Protocol as protocol
+use Rattle.gos_model.specs.Labels.{given, taken, IsAnswer}
 use Rattle.gos_model.specs.Moves.{Program, Config, Idle, Running, Act, Showing, Moves, labels, Stalled}
 use Rattle.gos_plan.specs.Kinds.{Contact, asks, serves}
 use Rattle.gos_plan.specs.Firing.{Phase, Rest, Waiting, Slot, Req, Ans, Row, row, at, put}
@@ -20,11 +19,11 @@ use Rattle.gos_plan.specs.Tokens.{Tokens, Element, Fire, Out, In, with_place, wi
 use Rattle.gos_plan.specs.Turns.{IsEmptyAt}
 use Rattle.gos_plan.specs.Orderly.{Open, with_open, after_taken, after_put, after_puts, ComesWell, AllComeWell, ComesInOrder, AllWelcome}
 use Rattle.gos_realises.specs.realises.Regular.{Pass, way_in, is_open, ComesInTurn, InputsKeepTurns, IsRegular}
-use Rattle.gos_realises.specs.realises.Matched.{label_at, shows, asks_on, GoesOn, Agrees, program_of, RealisesDone}
+use Rattle.gos_realises.specs.realises.Matched.{shows, asks_on, GoesOn, Agrees, program_of, RealisesInTurn}
 use Rattle.gos_realises.proofs.realises.InputLemmas.{passed as passed_along}
 use Rattle.gos_realises.proofs.realises.OneJointLemmas.{not_both}
 use Rattle.gos_realises.proofs.realises.SkipLemmas.{run_is_no_output, running_is_not_idle}
-use Rattle.gos_realises.proofs.realises.RingLemmas.{after, told_open, OutputTurns, MayCome, IsFirst}
+use Rattle.gos_realises.proofs.realises.RingLemmas.{after, OutputTurns, IsFirst}
 use Rattle.gos_supplies.proofs.names.TrackLemmas.{IsTrack, IsProgramTrack, track_ends, track_is_regular, track_realises}
 use Rattle.gos_supplies.proofs.names.WaitLemmas.{wait_is_stalled}
 use Rattle.gos_supplies.proofs.names.PlaceLemmas.{Places, nowhere, placed_at, Holds, put_there, turned_to, emptied, exchanged, or_false, none_open_at}
@@ -348,16 +347,6 @@ module _ (n : Name) (w : ℕ) where
       at_end : (d : End) → e ≡ d → ComesInTurn past d (way_in (contact_at (read_plan n w) d))
       at_end d is = subst (λ (x : End). ComesInTurn past x (way_in (contact_at (read_plan n w) x))) is turn
 
-  allowed : (q : Stage) (e : End) (v : ℕ) (s u : Tokens) (past : List Label)
-      → Does (read_plan n w) (In e v) s u → Opened q (told_open (read_plan n w) past)
-      → MayCome (read_plan n w) past (label_at (read_plan n w) e (way_in (contact_at (read_plan n w) e)) v) → Next w q (In e v)
-  allowed q e v s u past does o may =
-      comes_in q e v (told_open (read_plan n w) past) s u o does (λ is. (at_end (ResultEnd 0) is refl).2) (λ is. (at_end (ImportEnd 0 0) is refl).1)
-      (λ is. (at_end (ImportEnd 0 1) is refl).1)
-    where
-      at_end : (d : End) → e ≡ d → MayCome (read_plan n w) past (label_at (read_plan n w) d (way_in (contact_at (read_plan n w) d)) v)
-      at_end d is = subst (λ (x : End). MayCome (read_plan n w) past (label_at (read_plan n w) x (way_in (contact_at (read_plan n w) x)) v)) is may
-
   passed : (q : Stage) (x : Element) (past : List Pass)
       → Next w q x → Opened q (is_open past) → Opened (succ q x) (is_open (after (read_plan n w) x past))
   passed Resting x past next o = subst (λ (y : Element). Opened Run (is_open (after (read_plan n w) y past))) (sym next) (refl, o.1, o.2)
@@ -368,37 +357,6 @@ module _ (n : Name) (w : ℕ) where
   passed (Read v) x past (next, small) o = subst (λ (y : Element). Opened (Back v) (is_open (after (read_plan n w) y past))) (sym next) o
   passed (Back v) x past (next, small) o =
       subst (λ (y : Element). Opened Resting (is_open (after (read_plan n w) y past))) (sym next) (refl, o.1, o.2)
-
-  -- labels at the import: its read is open after the request, and not after the answer
-  same : bytes_eq n n ≡ true
-  same = (bytes_eq-Decides n n).1 refl
-
-  read_opens : (past : List Label) → protocol.is_open (taken n 0 0 ∷ past) (Taken n) 0 ≡ true
-  read_opens past = rw same refl
-
-  read_shuts : (v : ℕ) (past : List Label) → protocol.is_open (taken n 1 v ∷ past) (Taken n) 0 ≡ false
-  read_shuts v past = rw same refl
-
-  other_stays : (v event : ℕ) (past : List Label)
-      → protocol.shake_of event ≡ 0 → protocol.is_open past (Taken n) 1 ≡ false → protocol.is_open (taken n event v ∷ past) (Taken n) 1 ≡ false
-  other_stays v event past first shut = rw (same, first) shut
-
-  told : (q : Stage) (x : Element) (past : List Label)
-      → Next w q x → Opened q (told_open (read_plan n w) past) → Opened (succ q x) (told_open (read_plan n w) (shows (read_plan n w) x ++ past))
-  told Resting x past next o =
-      subst (λ (y : Element). Opened Run (told_open (read_plan n w) (shows (read_plan n w) y ++ past))) (sym next) (refl, o.1, o.2)
-  told Run x past next o =
-      subst (λ (y : Element). Opened Reading (told_open (read_plan n w) (shows (read_plan n w) y ++ past))) (sym next) o
-  told Reading x past next o =
-      subst (λ (y : Element). Opened Away (told_open (read_plan n w) (shows (read_plan n w) y ++ past))) (sym next)
-      (o.0, read_opens past, other_stays 0 0 past refl o.2)
-  told Away x past (v, small, next) o =
-      subst (λ (y : Element). Opened (Read 0) (told_open (read_plan n w) (shows (read_plan n w) y ++ past))) (sym next)
-      (o.0, read_shuts v past, other_stays v 1 past refl o.2)
-  told (Read v) x past (next, small) o =
-      subst (λ (y : Element). Opened (Back v) (told_open (read_plan n w) (shows (read_plan n w) y ++ past))) (sym next) o
-  told (Back v) x past (next, small) o =
-      subst (λ (y : Element). Opened Resting (told_open (read_plan n w) (shows (read_plan n w) y ++ past))) (sym next) (refl, o.1, o.2)
 
   turns : (q : Stage) (x : Element) (past : List Pass) → Next w q x → Opened q (is_open past) → OutputTurns (read_plan n w) past x
   turns Resting x past next o = subst (OutputTurns (read_plan n w) past) (sym next) tt
@@ -506,6 +464,9 @@ module _ (n : Name) (w : ℕ) where
   abbrev program : Program
   program = program_of (read_plan n w) (Deref (Import n))
 
+  same : bytes_eq n n ≡ true
+  same = (bytes_eq-Decides n n).1 refl
+
   known : import_type (read_plan n w).imports n ≡ Some (Var w)
   known = rw same refl
 
@@ -544,7 +505,7 @@ module _ (n : Name) (w : ℕ) where
   moves : (q : Stage) (x : Element) → Next w q x → Moves program (acts n q x) (config n w q) (config n w (succ q x))
   moves Resting x next = (Running (Deref (Import n)) [], (refl, refl), refl)
   moves Run x next = refl
-  moves Reading x next = (Running (Wait n 1) [], (0, Deref (Import n), refl, (inl (inl (n, w, refl, known, refl, refl)), refl)), refl)
+  moves Reading x next = (Running (Wait n 1) [], (0, Deref (Import n), refl, (inl (inl (inl (n, w, refl, known, refl, refl))), refl)), refl)
   moves Away x (v, small, next) =
       subst (λ (y : Element). Moves program (acts n Away y) (config n w Away) (config n w (succ Away y))) (sym next)
       (Running (Lit v w) [], (0, Wait n 1, refl, (inl (inr (refl, refl, answered v small)), refl)), refl)
@@ -595,8 +556,6 @@ module _ (n : Name) (w : ℕ) where
   whole =
       record {
         track = track;
-        allowed = allowed;
-        told = told;
         agrees = agrees;
         moves = moves;
         shown = shown;
@@ -609,7 +568,6 @@ module _ (n : Name) (w : ℕ) where
         rests = λ s idle. (record { lies = λ way e. idle.0 way e; first = idle.1 0; others = λ i. idle.1 (suc i) }, tt);
         none = (refl, refl);
         closed = (refl, refl, refl);
-        silent = (refl, refl, refl);
       }
 
   pub read_is_regular : IsRegular (read_plan n w)
@@ -634,6 +592,6 @@ module _ (n : Name) (w : ℕ) where
       by_stage (Read v) here opened = absurd (up opened.0)
       by_stage (Back v) here opened = absurd (up opened.0)
 
-  pub read_realises : RealisesDone (read_plan n w) (Deref (Import n))
+  pub read_realises : RealisesInTurn (read_plan n w) (Deref (Import n))
   read_realises =
       track_realises (read_plan n w) (Deref (Import n)) Stage (Next w) succ (acts n) (config n w) (At w) OpenAt Opened whole Resting refl first

@@ -1,20 +1,18 @@
 -- Plans whose lists go along a track of stages: in each stage elements of one form alone may come, and each leads on.
 --
 -- As RingLemmas of gos_realises, but an element may bring any number, by which the stages after it go on.
-use Rattle.std.specs.Prelude.{◌≡◌, ℕ, Bool, List, [], ◌∷◌, ◌++◌}
+use Rattle.std.specs.Prelude.{◌≡◌, ℕ, Bool, List, [], ◌∷◌}
 use Rattle.std.proofs.Common.{refl, sym, subst}
 use Rattle.gos_model.specs.Terms.{Term}
-use Rattle.gos_model.specs.Labels.{Label}
 use Rattle.gos_model.specs.Moves.{Program, Config, Idle, Act, Moves, labels}
-use Rattle.gos_model.specs.Protocol.{KeepsAfter}
 use Rattle.gos_plan.specs.Firing.{Slot}
 use Rattle.gos_plan.specs.Plans.{End, Plan, contact_at}
 use Rattle.gos_plan.specs.Tokens.{Tokens, Element, Fire, Out, In, Does, Runs}
 use Rattle.gos_plan.specs.Orderly.{Open, none_open, ComesInOrder, AllWelcome, OrderlyFrom}
 use Rattle.gos_realises.specs.realises.Regular.{Pass, pass, way_in, is_open, KeepsTurns, InputsKeepTurns, OutputsKeepTurns, IsRegular}
-use Rattle.gos_realises.specs.realises.Matched.{label_at, shows, all_shown, GoesOn, Agrees, IsMatched, program_of, RealisesDone}
+use Rattle.gos_realises.specs.realises.Matched.{shows, GoesOn, Agrees, IsMatched, program_of, RealisesInTurn}
 use Rattle.gos_realises.proofs.realises.InputLemmas.{passed}
-use Rattle.gos_realises.proofs.realises.RingLemmas.{after, told_open, OutputTurns, MayCome, IsFirst}
+use Rattle.gos_realises.proofs.realises.RingLemmas.{after, OutputTurns, IsFirst}
 
 -- The stages of a plan: in each the tokens, the handshakes that are open and those that are open at ports are of some form,
 -- only elements of its form come in turn, and each leads to the next stage.
@@ -35,16 +33,11 @@ pub record IsTrack
       → Next q x → At q s → OpenAt q o → Does p x s w → (u : Open) × ComesInOrder p x s o u × OpenAt (succ q x) u
   pub welcome : (q : S) (s : Tokens) → At q s → AllWelcome p s
 
--- and of a program: those elements alone are allowed by the protocol, and the program moves along
+-- and of a program, which moves along
 pub record IsProgramTrack
     (p : Plan) (g : Program) (S : Type 0) (Next : S → Element → Type 0) (succ : S → Element → S) (acts : S → Element → List Act) (config : S → Config)
     (At : S → Tokens → Type 0) (OpenAt : S → Open → Type 0) (Opened : S → (End → Bool) → Type 0) : Type 0 where
   pub track : IsTrack p S Next succ At OpenAt Opened
-  pub allowed :
-      (q : S) (e : End) (v : ℕ) (s w : Tokens) (past : List Label)
-      → Does p (In e v) s w → Opened q (told_open p past) → MayCome p past (label_at p e (way_in (contact_at p e)) v) → Next q (In e v)
-  pub told :
-      (q : S) (x : Element) (past : List Label) → Next q x → Opened q (told_open p past) → Opened (succ q x) (told_open p (shows p x ++ past))
   pub agrees : (q : S) (s : Tokens) → At q s → Agrees p g s (config q)
   pub moves : (q : S) (x : Element) → Next q x → Moves g (acts q x) (config q) (config (succ q x))
   pub shown : (q : S) (x : Element) → Next q x → labels (acts q x) ≡ shows p x
@@ -117,25 +110,6 @@ module _
     (p : Plan) (m : Term) (S : Type 0) (Next : S → Element → Type 0) (succ : S → Element → S) (acts : S → Element → List Act) (config : S → Config)
     (At : S → Tokens → Type 0) (OpenAt : S → Open → Type 0) (Opened : S → (End → Bool) → Type 0)
     (all : IsProgramTrack p (program_of p m) S Next succ acts config At OpenAt Opened) where
-  by_labels : (xs : List Element) (q : S) (s t : Tokens) (past : List Label)
-      → At q s → Runs p xs s t → Opened q (told_open p past) → KeepsAfter p.imports past (all_shown p xs) → Follows S Next succ xs q
-  by_labels [] q s t past here runs o keeps = tt
-  by_labels (Fire i k ∷ xs) q s t past here (w, does, runs) o keeps =
-      let e = all.track.fires q i k s w here does in
-      (e, by_labels xs (succ q (Fire i k)) w t past (all.track.leads q (Fire i k) s w e here does) runs (all.told q (Fire i k) past e o) keeps)
-  by_labels (Out a v ∷ xs) q s t past here (w, does, runs) o keeps =
-      let e = all.track.puts_out q a v s w here does in (
-        e,
-        by_labels xs (succ q (Out a v)) w t (shows p (Out a v) ++ past) (all.track.leads q (Out a v) s w e here does) runs
-            (all.told q (Out a v) past e o) keeps.1,
-      )
-  by_labels (In a v ∷ xs) q s t past here (w, does, runs) o keeps =
-      let e = all.allowed q a v s w past does o keeps.0 in (
-        e,
-        by_labels xs (succ q (In a v)) w t (shows p (In a v) ++ past) (all.track.leads q (In a v) s w e here does) runs
-            (all.told q (In a v) past e o) keeps.1,
-      )
-
   matched : (xs : List Element) (q : S) (s : Tokens) → At q s → Follows S Next succ xs q → IsMatched p (program_of p m) xs s (config q)
   matched [] q s here follows = all.agrees q s here
   matched (x ∷ xs) q s here (e, follows) = (
@@ -150,10 +124,10 @@ module _
     ),
   )
 
-  pub track_realises : (q : S) → config q ≡ Idle → IsFirst p S At OpenAt Opened q → RealisesDone p m
+  pub track_realises : (q : S) → config q ≡ Idle → IsFirst p S At OpenAt Opened q → RealisesInTurn p m
   track_realises q is_idle first s t xs idle runs keeps =
       let here = first.rests s idle in
-      let follows = by_labels xs q s t [] here runs first.silent keeps in (
+      let follows = by_turns p S Next succ At OpenAt Opened all.track xs q s t [] here runs first.closed keeps in (
         subst (IsMatched p (program_of p m) xs s) is_idle (matched xs q s here follows),
         ordered p S Next succ At OpenAt Opened all.track xs q s t none_open here first.none runs follows,
       )

@@ -418,7 +418,6 @@ module _ (n : Name) (w : ℕ) where
         rests = λ s idle. record { lies = λ way e. idle.0 way e; first = idle.1 0; others = λ i. idle.1 (suc i) };
         none = (refl, refl);
         closed = (refl, refl, refl, refl);
-        silent = (refl, refl, refl, refl);
       }
 
   pub variable_is_regular : IsRegular (name_plan n (Var w))

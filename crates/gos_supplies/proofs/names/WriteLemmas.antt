@@ -1,6 +1,6 @@
 -- An Assign that writes a Lit's number at an import realises the writing of the name: the ring of its run, the number's request and
 -- answer, the write and its answer, and its own answer.
-use Rattle.std.specs.Prelude.{◌≡◌, ℕ, zero, suc, ◌<◌, ◌&&◌, Bool, true, false, List, [], ◌∷◌, ◌++◌, ◌⊎◌, Option, Some, None, slice_get}
+use Rattle.std.specs.Prelude.{◌≡◌, ℕ, zero, suc, ◌<◌, ◌&&◌, Bool, true, false, List, [], ◌∷◌, ◌⊎◌, Option, Some, None, slice_get}
 use Rattle.std.specs.Str.{bytes_eq}
 use Rattle.std.proofs.lemmas.Slice.Eq.{bytes_eq-Decides}
 use Rattle.std.proofs.Common.{refl, sym, ◌∙◌, ap, subst, arith, inl, inr}
@@ -11,7 +11,7 @@ use Rattle.gos_types.proofs.BoolLemmas.{true_is_not_false}
 use Rattle.gos_model.specs.Terms as terms
 use Rattle.gos_model.specs.Terms.{Name, Import, Assign, Put, Wait, Lit}
 use Rattle.gos_model.specs.Typing.{import_type}
-use Rattle.gos_model.specs.Labels.{Label, given, taken, IsAnswer}
+use Rattle.gos_model.specs.Labels.{given, taken, IsAnswer}
 use Rattle.gos_model.specs.Moves.{Program, Config, Idle, Running, Act, Computing, Showing, Moves, labels, Stalled}
 use Rattle.gos_plan.specs.Kinds.{Contact, asks, serves}
 use Rattle.gos_plan.specs.Firing.{Phase, Rest, Value, Writing, Slot, Req, Ans, Row, row, at, put}
@@ -20,10 +20,10 @@ use Rattle.gos_plan.specs.Tokens.{Tokens, Element, Fire, Out, In, with_place, wi
 use Rattle.gos_plan.specs.Turns.{IsEmptyAt}
 use Rattle.gos_plan.specs.Orderly.{Open, with_open, after_taken, after_put, after_puts, ComesWell, AllComeWell, ComesInOrder, AllWelcome}
 use Rattle.gos_realises.specs.realises.Regular.{Pass, way_in, is_open, ComesInTurn, IsRegular}
-use Rattle.gos_realises.specs.realises.Matched.{label_at, shows, asks_on, GoesOn, Agrees, program_of, RealisesDone}
+use Rattle.gos_realises.specs.realises.Matched.{shows, asks_on, GoesOn, Agrees, program_of, RealisesInTurn}
 use Rattle.gos_realises.proofs.realises.OneJointLemmas.{not_both}
 use Rattle.gos_realises.proofs.realises.SkipLemmas.{run_is_no_output, running_is_not_idle}
-use Rattle.gos_realises.proofs.realises.RingLemmas.{after, told_open, OutputTurns, MayCome, IsCircle, IsRing, IsFirst, circle_is_regular, ring_realises}
+use Rattle.gos_realises.proofs.realises.RingLemmas.{after, OutputTurns, IsCircle, IsRing, IsFirst, circle_is_regular, ring_realises}
 use Rattle.gos_supplies.proofs.names.WaitLemmas.{wait_is_stalled}
 use Rattle.gos_supplies.proofs.names.PlaceLemmas.{Places, nowhere, placed_at, Holds, put_there, turned_to, other_turned, emptied, exchanged, or_false, none_open_at}
 use Rattle.gos_supplies.proofs.names.WritingLemmas.{write_plan}
@@ -344,16 +344,6 @@ module _ (n : Name) (w m : ℕ) where
       at_end : (d : End) → e ≡ d → ComesInTurn past d (way_in (contact_at (write_plan n w m) d))
       at_end d is = subst (λ (x : End). ComesInTurn past x (way_in (contact_at (write_plan n w m) x))) is turn
 
-  allowed : (q : Stage) (e : End) (v : ℕ) (s u : Tokens) (past : List Label)
-      → Does (write_plan n w m) (In e v) s u → Opened q (told_open (write_plan n w m) past)
-      → MayCome (write_plan n w m) past (label_at (write_plan n w m) e (way_in (contact_at (write_plan n w m) e)) v) → In e v ≡ next q
-  allowed q e v s u past does o may =
-      comes_in q e v (told_open (write_plan n w m) past) s u o does (λ is. (at_end (ResultEnd 0) is refl).2) (λ is. (at_end (ImportEnd 0 0) is refl).1)
-      (λ is. (at_end (ImportEnd 0 1) is refl).1)
-    where
-      at_end : (d : End) → e ≡ d → MayCome (write_plan n w m) past (label_at (write_plan n w m) d (way_in (contact_at (write_plan n w m) d)) v)
-      at_end d is = subst (λ (x : End). MayCome (write_plan n w m) past (label_at (write_plan n w m) x (way_in (contact_at (write_plan n w m) x)) v)) is may
-
   -- where each element leads
   fired_by : (s u : Tokens) (i : ℕ) (t : Slot) (x : Row) → firing_of (slice_get (write_plan n w m).parts i) (s.state i) t ≡ Some x
       → Does (write_plan n w m) (Fire i t) s u
@@ -417,20 +407,6 @@ module _ (n : Name) (w m : ℕ) where
   passed Away past o = (o.0, o.1, refl)
   passed Written past o = o
   passed Back past o = (refl, o.1, o.2)
-
-  same : bytes_eq n n ≡ true
-  same = (bytes_eq-Decides n n).1 refl
-
-  told : (q : Stage) (past : List Label)
-      → Opened q (told_open (write_plan n w m) past) → Opened (succ q) (told_open (write_plan n w m) (shows (write_plan n w m) (next q) ++ past))
-  told Resting past o = (refl, o.1, o.2)
-  told Run past o = o
-  told Getting past o = o
-  told Got past o = o
-  told Asking past o = (o.0, rw same o.1, rw same refl)
-  told Away past o = (o.0, rw same o.1, rw same refl)
-  told Written past o = o
-  told Back past o = (refl, o.1, o.2)
 
   turns : (q : Stage) (past : List Pass) → Opened q (is_open past) → OutputTurns (write_plan n w m) past (next q)
   turns Resting past o = tt
@@ -580,6 +556,9 @@ module _ (n : Name) (w m : ℕ) where
   abbrev program : Program
   program = program_of (write_plan n w m) (Assign (Import n) (Lit m w))
 
+  same : bytes_eq n n ≡ true
+  same = (bytes_eq-Decides n n).1 refl
+
   known : import_type (write_plan n w m).imports n ≡ Some (Var w)
   known = rw same refl
 
@@ -632,7 +611,7 @@ module _ (n : Name) (w m : ℕ) where
   moves Run = refl
   moves Getting = refl
   moves Got = (Running (Put (Import n) m) [], (0, Assign (Import n) (Lit m w), refl, inl (m, w, refl, refl, refl)), refl)
-  moves Asking = (Running (Wait n 3) [], (0, Put (Import n) m, refl, (inl (inl (n, w, refl, known, refl, refl)), refl)), refl)
+  moves Asking = (Running (Wait n 3) [], (0, Put (Import n) m, refl, (inl (inl (inl (n, w, refl, known, refl, refl))), refl)), refl)
   moves Away = (Running terms.Skip [], (0, Wait n 3, refl, (inl (inr (refl, refl, answered)), refl)), refl)
     where
       answered : IsAnswer (import_type (write_plan n w m).imports n) 3 0 terms.Skip
@@ -685,8 +664,6 @@ module _ (n : Name) (w m : ℕ) where
   ring =
       record {
         circle = circle;
-        allowed = allowed;
-        told = told;
         agrees = agrees;
         moves = moves;
         shown = shown;
@@ -699,12 +676,11 @@ module _ (n : Name) (w m : ℕ) where
         rests = λ s idle. record { lies = λ way e. idle.0 way e; first = idle.1 0; others = λ i. idle.1 (suc i) };
         none = (refl, refl, refl);
         closed = (refl, refl, refl);
-        silent = (refl, refl, refl);
       }
 
   pub write_is_regular : IsRegular (write_plan n w m)
   write_is_regular = circle_is_regular (write_plan n w m) Stage next succ At OpenAt Opened circle Resting first
 
-  pub write_realises : RealisesDone (write_plan n w m) (Assign (Import n) (Lit m w))
+  pub write_realises : RealisesInTurn (write_plan n w m) (Assign (Import n) (Lit m w))
   write_realises =
       ring_realises (write_plan n w m) (Assign (Import n) (Lit m w)) Stage next succ acts config At OpenAt Opened ring Resting refl first

@@ -12,7 +12,7 @@ use Rattle.gos_supplies.specs.names.Names.{NameIsRealised}
 use Rattle.gos_supplies.specs.ports.Ports.{OpenIsRealised, OpenIsDone}
 use Rattle.gos_supplies.proofs.ports.ShadowLemmas.{shadow_is_it}
 use Rattle.gos_supplies.proofs.ports.OwnLemmas.{own_supplies, own_are, own_term, supplied_stays, parts_stay, own_imports, own_stand, own_home, own_shadow}
-use Rattle.gos_supplies.proofs.progress.RealiserLemmas.{means_done}
+use Rattle.gos_supplies.proofs.progress.RealiserLemmas.{by_protocol}
 
 pub open_is_realised : NameIsRealised → OpenIsRealised
 open_is_realised named p m right ground wide differ any =
@@ -30,4 +30,4 @@ open_is_realised named p m right ground wide differ any =
 
 pub open_is_done : OpenIsRealised → OpenIsDone
 open_is_done law p m right ground wide differ any done =
-    let realised = law p m right ground wide differ any in (realised.suits.regular, means_done p.outcome p m done realised)
+    let realised = law p m right ground wide differ any in (realised.suits.regular, by_protocol p.outcome p m done realised)

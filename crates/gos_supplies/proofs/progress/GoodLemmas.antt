@@ -6,12 +6,13 @@ use Rattle.std.specs.Prelude.{◌≡◌, ◌⊎◌, ℕ, zero, suc, ◌-◌, ◌
 use Rattle.std.proofs.Common.{arith, refl, sym, ap, subst, inl, inr, ◌∙◌}
 use Rattle.std.proofs.lemmas.Bool.{le-ltb}
 use Rattle.std.proofs.lemmas.Option.{same_Some}
-use Rattle.gos_types.specs.Types.{Type', Com, Exp, Var, Pair, Fun, IsGround, IsDone}
+use Rattle.gos_types.specs.Types.{Type', Com, Exp, Var, Pair, Fun, IsGround, IsPort, IsDone}
 use Rattle.gos_model.specs.Terms.{Name, Term, Skip, Lit, Bound, Import, Lam, App, Both, Fst, Snd, Seq, Par, If, While, Assign, Deref, New, Not, Bin, Loc, Scope, Wait, Held, Put, result_of, complement, result_width}
 use Rattle.gos_model.specs.Substitution.{put_at, instantiate}
 use Rattle.gos_model.specs.Typing.{Imports, import_type}
 use Rattle.gos_model.specs.Stores.{Entry, Store, entry_at, store_put, without}
 use Rattle.gos_model.specs.Reach.{Rewrites, Under}
+use Rattle.gos_model.specs.Accesses.{IsArrayImport}
 use Rattle.gos_model.specs.Labels.{is_output, taken}
 use Rattle.gos_model.specs.Moves.{Act, Computing, Showing, Acts, Unfoldings}
 use Rattle.gos_programs.specs.contexts.Contexts.{Context, SeqFirst, ParLeft, ParRight, IfTest, BinLeft, HeldRight, NotOf, AssignRight, ScopeBody, plug}
@@ -52,9 +53,12 @@ abbrev pub UnfoldsHeads : ℕ → Term → Term → Type 0
 UnfoldsHeads zero m t = m ≡ t
 UnfoldsHeads (suc n) m t = (u : Term) × UnfoldsHead m u × UnfoldsHeads n u t
 
--- an import of a variable, or a location
+-- an import of a variable, a location, or an array's import with an index
 abbrev pub IsPlace : Imports → Store → ℕ → Term → Type 0
-IsPlace i s w v = ((x : Name) × (v ≡ Import x) × (import_type i x ≡ Some (Var w))) ⊎ ((e : Entry) × (v ≡ Loc e.place) × (entry_at s e.place ≡ Some e))
+IsPlace i s w v =
+    ((x : Name) × (v ≡ Import x) × (import_type i x ≡ Some (Var w)))
+    ⊎ (((e : Entry) × (v ≡ Loc e.place) × (entry_at s e.place ≡ Some e))
+    ⊎ ((x : Name) × (j : ℕ) × (n : Term) × (v ≡ App (Import x) n) × IsArrayImport i x j w))
 
 abbrev pub IsGood : Imports → Store → Type' → Term → Type 0
 IsGood i s Com m = EndsOrBegins IsSkip i s m
@@ -112,12 +116,26 @@ writes k zero m t e = λ i. Put (e i) k
 writes k (suc n) m t (u, h, hs) = (Put u k, inl (inr (u, refl, h)), writes k n u t hs)
 
 asks_place : (i : Imports) (s : Store) (w : ℕ) (v : Term) → IsPlace i s w v → CanMove i s (Deref v)
-asks_place i s w v (inl (x, is, e)) = (Showing (taken x 0 0), s, Wait x 1, refl, (inl (inl (x, w, is, e, refl, refl)), refl))
-asks_place i s w v (inr (e, is, here)) = computes i s (Deref v) s (Lit e.number e.width) (inl (e, is, here, refl, refl))
+asks_place i s w v (inl (x, is, e)) = (Showing (taken x 0 0), s, Wait x 1, refl, (inl (inl (inl (x, w, is, e, refl, refl))), refl))
+asks_place i s w v (inr (inr (x, j, n, is, array))) = (
+  Showing (taken x 2 0),
+  s,
+  Deref (App (Wait x 1) (Both n n)),
+  refl,
+  (inl (inl (inr (x, refl, (j, w, n, array, inl (is, refl, refl, refl))))), refl),
+)
+asks_place i s w v (inr (inl (e, is, here))) = computes i s (Deref v) s (Lit e.number e.width) (inl (e, is, here, refl, refl))
 
 puts_place : (i : Imports) (s : Store) (w k : ℕ) (v : Term) → IsPlace i s w v → CanMove i s (Put v k)
-puts_place i s w k v (inl (x, is, e)) = (Showing (taken x 2 k), s, Wait x 3, refl, (inl (inl (x, w, is, e, refl, refl)), refl))
-puts_place i s w k v (inr (e, is, here)) = computes i s (Put v k) (store_put s e.place k) Skip (inl (e, is, here, refl, refl))
+puts_place i s w k v (inl (x, is, e)) = (Showing (taken x 2 k), s, Wait x 3, refl, (inl (inl (inl (x, w, is, e, refl, refl))), refl))
+puts_place i s w k v (inr (inr (x, j, n, is, array))) = (
+  Showing (taken x 4 k),
+  s,
+  Put (App (Wait x 1) (Both n n)) k,
+  refl,
+  (inl (inl (inr (x, refl, (j, w, n, array, inl (is, refl, refl, refl))))), refl),
+)
+puts_place i s w k v (inr (inl (e, is, here))) = computes i s (Put v k) (store_put s e.place k) Skip (inl (e, is, here, refl, refl))
 
 asks : (i : Imports) (s : Store) (w : ℕ) (m : Term) → IsGood i s (Var w) m → CanBegin i s (Deref m)
 asks i s w m (n, v, hs, h) = (n, Deref v, derefs n m v hs, asks_place i s w v h)
@@ -125,16 +143,25 @@ asks i s w m (n, v, hs, h) = (n, Deref v, derefs n m v hs, asks_place i s w v h)
 puts : (i : Imports) (s : Store) (w k : ℕ) (m : Term) → IsGood i s (Var w) m → CanBegin i s (Put m k)
 puts i s w k m (n, v, hs, h) = (n, Put v k, writes k n m v hs, puts_place i s w k v h)
 
--- a ground import
-abbrev pub ImportsAreGround : Imports → Type 0
-ImportsAreGround i = (x : Name) (t : Type') → import_type i x ≡ Some t → IsGround t
+-- an import that is a port
+abbrev pub ImportsArePorts : Imports → Type 0
+ImportsArePorts i = (x : Name) (t : Type') → import_type i x ≡ Some t → IsPort t
 
-good_import : (i : Imports) (s : Store) (x : Name) (t : Type') → IsGround t → import_type i x ≡ Some t → IsGood i s t (Import x)
-good_import i s x Com g e = (0, Import x, refl, inr (Showing (taken x 0 0), s, Wait x 1, refl, (inl (inl (inl (e, refl, refl))), refl)))
-good_import i s x (Exp w) g e = (0, Import x, refl, inr (Showing (taken x 0 0), s, Wait x 1, refl, (inl (inl (inr (w, e, refl, refl))), refl)))
-good_import i s x (Var w) g e = (0, Import x, refl, inl (x, refl, e))
-good_import i s x (Pair a b) g e = absurd g
-good_import i s x (Fun a b) g e = absurd g
+ground_import_good : (i : Imports) (s : Store) (x : Name) (t : Type') → IsGround t → import_type i x ≡ Some t → IsGood i s t (Import x)
+ground_import_good i s x Com g e = (0, Import x, refl, inr (Showing (taken x 0 0), s, Wait x 1, refl, (inl (inl (inl (e, refl, refl))), refl)))
+ground_import_good i s x (Exp w) g e = (0, Import x, refl, inr (Showing (taken x 0 0), s, Wait x 1, refl, (inl (inl (inr (w, e, refl, refl))), refl)))
+ground_import_good i s x (Var w) g e = (0, Import x, refl, inl (x, refl, e))
+ground_import_good i s x (Pair a b) g e = absurd g
+ground_import_good i s x (Fun a b) g e = absurd g
+
+good_import : (i : Imports) (s : Store) (x : Name) (t : Type') → IsPort t → import_type i x ≡ Some t → IsGood i s t (Import x)
+good_import i s x t (inl ground) e = ground_import_good i s x t ground e
+good_import i s x (Fun (Exp j) (Var w)) (inr array) e = λ n closed index. (0, App (Import x) n, refl, inr (inr (x, j, n, refl, e)))
+good_import i s x Com (inr array) e = absurd array
+good_import i s x (Exp w) (inr array) e = absurd array
+good_import i s x (Var w) (inr array) e = absurd array
+good_import i s x (Pair a b) (inr array) e = absurd array
+good_import i s x (Fun a b) (inr array) e = absurd array
 
 -- good closed terms for these binders
 abbrev pub Suit : Imports → Store → List Type' → List Term → Type 0
@@ -188,13 +215,13 @@ block i s l (Var w) m d h = absurd d
 block i s l (Pair a b) m d h = absurd d
 block i s l (Fun a b) m d h = absurd d
 
-module _ (i : Imports) (s : Store) (ground : ImportsAreGround i) where
+module _ (i : Imports) (s : Store) (ports : ImportsArePorts i) where
   -- with good terms for its variables each term without waits is good
   pub good : (g : List Type') (m : Term) (t : Type') (qs : List Term) → Suit i s g qs → HasNoWait m → HasType (widths_of s) i g m t → IsGood i s t (close 0 qs m)
   good g Skip t qs f nw e = as_type i s Skip t Com e (0, Skip, refl, inl refl)
   good g (Lit k w) t qs f nw (e, fits) = as_type i s (Lit k w) t (Exp w) e (0, Lit k w, refl, inl (k, refl, fits))
   good g (Bound n) t qs f nw e = subst (λ (x : Term). IsGood i s t x) (sym (all_bound qs n)) (suit_good i s g qs n t f e)
-  good g (Import x) t qs f nw e = good_import i s x t (ground x t e) e
+  good g (Import x) t qs f nw e = good_import i s x t (ports x t e) e
   good g (Lam a m) t qs f nw (b, e, h) =
       as_type i s (Lam a (close 1 qs m)) t (Fun a b) e
       (λ n closed k.
@@ -259,7 +286,7 @@ module _ (i : Imports) (s : Store) (ground : ImportsAreGround i) where
   good g (Loc l) t qs f nw (w, is, (e, here, wide)) =
       let at = entry_place s l e here in
       as_type i s (Loc l) t (Var w) is
-      (0, Loc l, refl, inr (e, ap Loc (sym at), subst (λ (x : ℕ). entry_at s x ≡ Some e) (sym at) here))
+      (0, Loc l, refl, inr (inl (e, ap Loc (sym at), subst (λ (x : ℕ). entry_at s x ≡ Some e) (sym at) here)))
   good g (Scope l m) t qs f nw (d, h) = block i s l t (close 0 qs m) d (good g m t qs f nw h)
   good g (Wait x n) t qs f nw h = absurd nw
   good g (Held k op n) t qs f nw (w, e, fits, h) =

@@ -1,31 +1,18 @@
 -- A good command or expression is not stalled, and what a run leads to is good where nothing waits.
-use Rattle.std.specs.Prelude.{◌≡◌, Bool, true, false, [], ◌∷◌, Some, if◌then◌else◌}
-use Rattle.std.specs.Str.{bytes_eq}
+use Rattle.std.specs.Prelude.{[], ◌∷◌}
 use Rattle.std.proofs.Common.{refl, subst, inl, inr}
-use Rattle.gos_types.specs.Types.{Type', Com, Exp, Var, Pair, Fun, IsGround, IsDone}
-use Rattle.gos_model.specs.Terms.{Name, Term}
-use Rattle.gos_model.specs.Typing.{Imports, import_type}
+use Rattle.gos_types.specs.Types.{Type', Com, Exp, Var, Pair, Fun, IsDone}
+use Rattle.gos_model.specs.Terms.{Term}
 use Rattle.gos_model.specs.Labels.{given}
 use Rattle.gos_model.specs.Moves.{Program, Idle, Running, Computing, Showing, Stalled}
-use Rattle.gos_realises.specs.realises.Realises.{AllGround}
 use Rattle.gos_supplies.specs.progress.Progress.{ProgramsBegin, RunsGoOn, UnaskedRunsGoOn}
 use Rattle.gos_supplies.proofs.progress.ClosingLemmas.{closed_by_none}
 use Rattle.gos_supplies.proofs.progress.WaitLemmas.{source_waits, unasked}
 use Rattle.gos_programs.specs.results.HasTypes.{widths_of}
 use Rattle.gos_programs.proofs.results.ResultLemmas.{runs_keep_types}
 use Rattle.gos_model.specs.Stores.{Store}
+use Rattle.gos_realises.proofs.realises.PlaceLemmas.{port_import}
 use Rattle.gos_supplies.proofs.progress.GoodLemmas.{CanBegin, IsGood, good}
-
-pub ground_import : (is : Imports) → AllGround is → (x : Name) (t : Type') → import_type is x ≡ Some t → IsGround t
-ground_import [] all x t e = absurd (cc e)
-ground_import (i ∷ is) all x t e = tested (bytes_eq i.name x) e (ground_import is all.1 x t)
-  where
-    some_type : (a b : Type') → Some a ≡ Some b → a ≡ b
-    some_type a b e = cc
-
-    tested : (b : Bool) → (if b then Some i.ty else import_type is x) ≡ Some t → (import_type is x ≡ Some t → IsGround t) → IsGround t
-    tested true same further = subst IsGround (some_type i.ty t same) all.0
-    tested false other further = further other
 
 not_stalled : (p : Program) (m : Term) (s : Store) → CanBegin p.imports s m → Stalled p (Running m s) → ⊥
 not_stalled p m s (n, u, hs, (Computing, r, t, own, h)) stalled = stalled.0 (Running t r) (n, u, hs, h)
@@ -45,7 +32,7 @@ runs_go_on p t acts m s all typed d run none =
     let runs = runs_keep_types p t acts m s typed run in
     good_begins p t m s d
     (subst (λ (x : Term). IsGood p.imports s t x) (closed_by_none (widths_of s) p.imports [] m t runs.0)
-    (good p.imports s (ground_import p.imports all) [] m t [] tt none runs.0))
+    (good p.imports s (port_import p.imports all) [] m t [] tt none runs.0))
 
 pub programs_begin : ProgramsBegin
 programs_begin p t all typed d =

@@ -5,16 +5,16 @@ use Rattle.std.proofs.lemmas.Option.{none-some}
 use Rattle.gos_types.specs.Types.{Type', Com, Exp, Var, Pair, Fun, IsDone}
 use Rattle.gos_types.specs.Events.{Direction, Request}
 use Rattle.gos_model.specs.Terms.{Term}
-use Rattle.gos_model.specs.Labels.{given}
 use Rattle.gos_model.specs.Moves.{Config, Idle, Running, Act, Moves, labels}
 use Rattle.gos_model.specs.Protocol.{KeepsProtocol}
 use Rattle.gos_plan.specs.Kinds.{Contact, asks, contacts_of}
 use Rattle.gos_plan.specs.Firing.{Rest}
 use Rattle.gos_plan.specs.Plans.{End, ResultEnd, Joint, Plan, contact_at, turned_if, stands_in}
 use Rattle.gos_plan.specs.Tokens.{Tokens, Element, Out, In, asking_in, places_of, held_at, with_held, end_of, way_of, way_taken, Passes, Does, IsIdle, IsQuiet}
-use Rattle.gos_realises.specs.realises.Regular.{count, way_in}
-use Rattle.gos_realises.specs.realises.Matched.{label_at, shows, all_shown, GoesOn, IsMatched, program_of, RealisesDone}
+use Rattle.gos_realises.specs.realises.Regular.{count}
+use Rattle.gos_realises.specs.realises.Matched.{shows, all_shown, GoesOn, IsMatched, program_of, RealisesInTurn, RealisesDone}
 use Rattle.gos_realises.specs.realises.Realises.{Realises}
+use Rattle.gos_realises.proofs.realises.PortInputLemmas.{ground_ports, realising_is_by_turns}
 use Rattle.gos_joining.specs.webs.Cutting.{StandsIn}
 use Rattle.gos_supplies.specs.progress.Realisers.{RealisersAreJoined}
 use Rattle.gos_supplies.proofs.progress.WaitLemmas.{source_waits, unasked}
@@ -74,30 +74,32 @@ lost p b at none = (
     small : 0 < 2 ^ 0
     small = omega arith
 
-shown : (p : Plan) (b : ℕ) → contact_at p (ResultEnd 0) ≡ Some (asks 0 b) → all_shown p (request ∷ []) ≡ given 0 0 ∷ []
-shown p b at = ap (λ o. label_at p (ResultEnd 0) (way_in o) 0 ∷ []) at
-
 abbrev IsAsked : Plan → Term → Type 0
 IsAsked p m =
     (acts : List Act) × (d : Config) × Moves (program_of p m) acts Idle d × (labels acts ≡ shows p request) × GoesOn p resting request acts
     × IsMatched p (program_of p m) [] resting d
 
-never : (p : Plan) (t : Type') (m : Term) (b : ℕ) → IsDone t → Realises t p m → contact_at p (ResultEnd 0) ≡ Some (asks 0 b) → IsAsked p m → ⊥
-never p t m b done r at (acts, Idle, moves, e, goes, agrees) =
-    unasked (program_of p m) acts Idle (source_waits p.imports [] m t r.suits.typed) moves (e ∙ shown p b at)
-never p t m b done r at (acts, Running u s, moves, e, goes, agrees) =
-    unasked_runs_go_on (program_of p m) t acts u s r.suits.all_ground r.suits.typed done moves (e ∙ shown p b at) (agrees.0 (resting_quiet p))
+never : (p : Plan) (t : Type') (m : Term) → IsDone t → Realises t p m → IsAsked p m → ⊥
+never p t m done r (acts, Idle, moves, e, goes, agrees) =
+    unasked (program_of p m) acts Idle (source_waits p.imports [] m t r.suits.typed) moves e
+never p t m done r (acts, Running u s, moves, e, goes, agrees) =
+    unasked_runs_go_on (program_of p m) t acts u s (ground_ports p.imports r.suits.all_ground) r.suits.typed done moves e (agrees.0 (resting_quiet p))
 
 -- a command and an expression mean what their lists do
-pub means_done : (t : Type') (p : Plan) (m : Term) → IsDone t → Realises t p m → RealisesDone p m
+pub means_done : (t : Type') (p : Plan) (m : Term) → IsDone t → Realises t p m → RealisesInTurn p m
 means_done Com p m d r = r.means
 means_done (Exp w) p m d r = r.means
 means_done (Var w) p m d r = absurd d
 means_done (Pair a b) p m d r = absurd d
 means_done (Fun a b) p m d r = absurd d
 
-request_keeps : (p : Plan) (b : ℕ) → contact_at p (ResultEnd 0) ≡ Some (asks 0 b) → KeepsProtocol p.imports (all_shown p (request ∷ []))
-request_keeps p b at = subst (KeepsProtocol p.imports) (sym (shown p b at)) (λ h. (refl, refl, refl), tt)
+-- so they do what the protocol asks of
+pub by_protocol : (t : Type') (p : Plan) (m : Term) → IsDone t → Realises t p m → RealisesDone p m
+by_protocol t p m d r =
+    (realising_is_by_turns p m r.suits.regular r.suits.all_ground r.suits.names (subst IsDone (sym r.suits.outcome) d)).1 (means_done t p m d r)
+
+request_keeps : (p : Plan) → KeepsProtocol p.imports (all_shown p (request ∷ []))
+request_keeps p = (λ h. (refl, refl, refl), tt)
 
 pub result_joined : (t : Type') (p : Plan) (m : Term) → IsDone t → Realises t p m → Found p.joints (ResultEnd 0)
 result_joined t p m d r =
@@ -106,9 +108,8 @@ result_joined t p m d r =
       | inl found ↦ found
       | inr none ↦
           let does = lost p first.0 first.1 none in
-          let matched =
-          (means_done t p m d r resting resting (request ∷ []) (resting_idle p) (resting, does, refl) (request_keeps p first.0 first.1)).0 in
-          absurd (never p t m first.0 d r first.1 (matched.1 resting does))
+          let matched = (by_protocol t p m d r resting resting (request ∷ []) (resting_idle p) (resting, does, refl) (request_keeps p)).0 in
+          absurd (never p t m d r (matched.1 resting does))
     ]
 
 one_shake : (t : Type') (j : ℕ) → IsDone t → j < count t → 0 ≡ j

@@ -10,7 +10,7 @@ use Rattle.gos_model.specs.Reach.{Rel, Rewrites, Under, Aside}
 use Rattle.gos_model.specs.Steps.{Computes}
 use Rattle.gos_model.specs.Labels.{Label, given}
 use Rattle.gos_model.specs.Moves.{Program, Config, Idle, Running, Act, Computing, Showing, Unfoldings, Move, Moves, labels}
-use Rattle.gos_programs.specs.contexts.Contexts.{Context, SeqFirst, ParLeft, ParRight, IfTest, BinLeft, HeldRight, NotOf, AssignRight, ScopeBody, plug}
+use Rattle.gos_programs.specs.contexts.Contexts.{Context, SeqFirst, ParLeft, ParRight, IfTest, BinLeft, HeldRight, NotOf, AssignRight, ScopeBody, ReadIndex, WriteIndex, plug}
 use Rattle.gos_programs.proofs.contexts.BackwardLemmas.{OneHead}
 use Rattle.gos_programs.proofs.contexts.ReachedLemmas.{reached_lifted}
 use Rattle.gos_supplies.specs.progress.Progress.{HasNoWait}
@@ -115,6 +115,8 @@ in_place (HeldRight n op) a b q h = q h
 in_place NotOf a b q h = q h
 in_place (AssignRight n) a b q (h, k) = (h, q k)
 in_place (ScopeBody l) a b q h = q h
+in_place (ReadIndex x n) a b q h = absurd h.0
+in_place (WriteIndex x n k) a b q h = absurd h.0
 
 row : (s r : Store) (a b : Term) → Computes s r a b → BringsNoWait a b
 row s r (Seq m n) b (em, et, es) (h, k) = to_term b n et k

@@ -9,7 +9,7 @@ use Rattle.gos_model.specs.Reach.{Unfolds}
 use Rattle.gos_model.specs.Moves.{Program, Config, Idle, Running, Act, Computing, Showing, Move, ActsTo, Stalled}
 use Rattle.gos_model.proofs.HeadLemmas.{IsReady}
 use Rattle.gos_plan.specs.Plans.{Plan}
-use Rattle.gos_realises.specs.realises.Matched.{RealisesDone}
+use Rattle.gos_realises.specs.realises.Matched.{RealisesInTurn}
 use Rattle.gos_realises.proofs.realises.SimulationLemmas.{Follows, followed_is_realised}
 use Rattle.gos_realises.proofs.realises.ReadyLemmas.{more, stalls_before}
 
@@ -94,7 +94,7 @@ module _ (is : Imports) (m n : Term) (k w : ℕ) (ready : IsReady (Put m k) (Put
   follows : Follows lagging prompt Written
   follows = record { starts = same Idle; step = step; stalls = stalls; idles = idles }
 
-pub writing_is_realised : (p : Plan) (m n : Term) (k w : ℕ) → IsReady (Put m k) (Put n k) → RealisesDone p (Assign n (Lit k w))
-    → RealisesDone p (Assign m (Lit k w))
+pub writing_is_realised : (p : Plan) (m n : Term) (k w : ℕ) → IsReady (Put m k) (Put n k) → RealisesInTurn p (Assign n (Lit k w))
+    → RealisesInTurn p (Assign m (Lit k w))
 writing_is_realised p m n k w ready =
     followed_is_realised p (Assign m (Lit k w)) (Assign n (Lit k w)) (Written p.imports m n k w ready) (follows p.imports m n k w ready)

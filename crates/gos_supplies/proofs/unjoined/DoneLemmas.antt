@@ -1,55 +1,42 @@
 -- The whole realises what the plan realises, of commands and expressions.
-use Rattle.std.specs.Prelude.{◌≡◌, ℕ, List, [], ◌∷◌, ◌++◌, Option, Some, None, slice_get}
+use Rattle.std.specs.Prelude.{◌≡◌, ℕ, List, [], ◌∷◌, ◌++◌, Option, Some, None}
 use Rattle.std.proofs.Common.{refl, sym, ◌∙◌, ap, subst}
-use Rattle.gos_types.specs.Types.{Type'}
-use Rattle.gos_types.specs.Events.{Direction, Answer}
+use Rattle.gos_types.specs.Events.{Direction, Request, Answer}
 use Rattle.gos_model.specs.Terms.{Term}
-use Rattle.gos_model.specs.Typing.{Imported, import_type}
-use Rattle.gos_model.specs.Labels.{Port, Given, Taken, Label}
 use Rattle.gos_model.specs.Moves.{Program, Config, Idle, Running, Act, Move, Moves, Stalled}
-use Rattle.gos_model.specs.Protocol.{FitsAnswer, event_of, Allowed, KeepsAfter, KeepsProtocol}
 use Rattle.gos_model.proofs.MoveLemmas.{moves_then}
-use Rattle.gos_plan.specs.Kinds.{Contact}
 use Rattle.gos_plan.specs.Firing.{Rest, Req, Ans}
-use Rattle.gos_plan.specs.Plans.{End, PartEnd, ImportEnd, ResultEnd, Plan, contact_at}
+use Rattle.gos_plan.specs.Plans.{End, PartEnd, ImportEnd, ResultEnd, Plan}
 use Rattle.gos_plan.specs.Tokens.{Tokens, Element, Fire, Out, In, Runs, IsIdle}
 use Rattle.gos_plan.specs.Orderly.{IsOrderly}
-use Rattle.gos_realises.specs.realises.Regular.{way_in, way_out}
-use Rattle.gos_realises.specs.realises.Matched.{port_if, event_number, label_at, shows, all_shown, GoesOn, Agrees, IsMatched, program_of, RealisesDone}
-use Rattle.gos_realises.specs.realises.Realises.{AllGround, NamesDiffer}
+use Rattle.gos_realises.specs.realises.Matched.{port_if, event_number, shows, GoesOn, Agrees, IsMatched, program_of, RealisesInTurn}
+use Rattle.gos_realises.specs.realises.Regular.{InputsKeepTurns}
+use Rattle.gos_realises.specs.realises.Realises.{NamesDiffer}
 use Rattle.gos_programs.specs.contexts.Widening.{AreAmong, Knows}
 use Rattle.gos_programs.proofs.contexts.WideningLemmas.{runs_known, move_widens, waits_widely}
 use Rattle.gos_realises.proofs.realises.PlaceLemmas.{place_of, contains_at}
-use Rattle.gos_supplies.specs.unjoined.Beside.{Placing, placed}
-use Rattle.gos_supplies.proofs.unjoined.PlacedLemmas.{IsPlaced, end_in, placed_in, contact_placed}
+use Rattle.gos_supplies.specs.unjoined.Beside.{Placing}
+use Rattle.gos_supplies.proofs.unjoined.PlacedLemmas.{IsPlaced, end_in, placed_in}
 use Rattle.gos_supplies.proofs.unjoined.TokenLemmas.{set, set_list, own_tokens, own_idle, token_own, firing_own, does_own, runs_own, quiet_own}
 use Rattle.gos_supplies.proofs.unjoined.StillLemmas.{IsStill, idle_still, stays_still}
 use Rattle.gos_supplies.proofs.unjoined.OrderLemmas.{ordered_whole}
-use Rattle.gos_supplies.proofs.unjoined.ProtocolLemmas.{none_shut, all_kept}
-use Rattle.gos_supplies.proofs.unjoined.ImportLemmas.{AllAmong, among, named_type}
+use Rattle.gos_supplies.proofs.unjoined.TurnLemmas.{inputs_own}
+use Rattle.gos_supplies.proofs.unjoined.RegularLemmas.{all_own}
+use Rattle.gos_supplies.proofs.unjoined.ImportLemmas.{AllAmong, among}
 
 pub own_imports : (f : Placing) (r c : Plan) → IsPlaced f r c → AllAmong c.imports r.imports
 own_imports f r c is i has = let (n, at) = place_of c.imports i has in contains_at r.imports (f.import n) i (is.imports n ∙ at)
 
 module _ (f : Placing) (r c : Plan) (is : IsPlaced f r c) where
   -- what is shown
-  label_whole : (e : End) (way : Direction) (v : ℕ) → label_at r (placed f e) way v ≡ label_at c e way v
-  label_whole (PartEnd i h) way v = refl
-  label_whole (ImportEnd i h) way v = λ k. record { port = port_if (is.imports i k); event = event_number way h; value = v }
-  label_whole (ResultEnd h) way v = refl
-
   shows_whole : (x : Element) → shows r (set f x) ≡ shows c x
   shows_whole (Fire i t) = refl
-  shows_whole (Out e v) =
-      ap (λ (k : Option Contact). label_at r (placed f e) (way_out k) v ∷ []) (contact_placed f r c is e)
-      ∙ ap (λ (l : Label). l ∷ []) (label_whole e (way_out (contact_at c e)) v)
-  shows_whole (In e v) =
-      ap (λ (k : Option Contact). label_at r (placed f e) (way_in k) v ∷ []) (contact_placed f r c is e)
-      ∙ ap (λ (l : Label). l ∷ []) (label_whole e (way_in (contact_at c e)) v)
-
-  all_shown_whole : (xs : List Element) → all_shown r (set_list f xs) ≡ all_shown c xs
-  all_shown_whole [] = refl
-  all_shown_whole (x ∷ xs) = λ i. shows_whole x i ++ all_shown_whole xs i
+  shows_whole (Out (PartEnd i h) v) = refl
+  shows_whole (Out (ImportEnd i h) v) = λ k. record { port = port_if (is.imports i k); event = event_number Request h; value = v } ∷ []
+  shows_whole (Out (ResultEnd h) v) = refl
+  shows_whole (In (PartEnd i h) v) = refl
+  shows_whole (In (ImportEnd i h) v) = λ k. record { port = port_if (is.imports i k); event = event_number Answer h; value = v } ∷ []
+  shows_whole (In (ResultEnd h) v) = refl
 
   goes_whole : (x : Element) (s : Tokens) (acts : List Act) → GoesOn c (own_tokens f s) x acts → GoesOn r s (set f x) acts
   goes_whole (Fire i (Req h)) s acts goes = tt
@@ -81,35 +68,6 @@ module _ (f : Placing) (r c : Plan) (is : IsPlaced f r c) where
 
     more : AreAmong c.imports r.imports
     more = among c.imports r.imports names (own_imports f r c is)
-
-    -- the protocol of the plan's inputs
-    abbrev SameAt : Port → Type 0
-    SameAt Given = Unit {0}
-    SameAt (Taken x) = import_type r.imports x ≡ import_type c.imports x
-
-    same_if : (o : Option Imported) (i : ℕ) → slice_get c.imports i ≡ o → SameAt (port_if o)
-    same_if None i at = tt
-    same_if (Some x) i at =
-        let (t, typed) = named_type c.imports x (contains_at c.imports i x at) in more x.name t typed ∙ sym typed
-
-    same_label : (e : End) (way : Direction) (v : ℕ) → SameAt (label_at c e way v).port
-    same_label (PartEnd i h) way v = tt
-    same_label (ImportEnd i h) way v = same_if (slice_get c.imports i) i refl
-    same_label (ResultEnd h) way v = tt
-
-    allowed_own : (past : List Label) (p : Port) (n k : ℕ) → SameAt p → Allowed r.imports past p n k → Allowed c.imports past p n k
-    allowed_own past Given n k same h = h
-    allowed_own past (Taken x) n k same (fits, asked) = (subst (λ (t : Option Type'). FitsAnswer (event_of t n) k) same fits, asked)
-
-    protocol_own : (xs : List Element) (past : List Label) → KeepsAfter r.imports past (all_shown c xs) → KeepsAfter c.imports past (all_shown c xs)
-    protocol_own [] past keeps = tt
-    protocol_own (Fire i t ∷ xs) past keeps = protocol_own xs past keeps
-    protocol_own (Out e v ∷ xs) past (allowed, rest) =
-        let l = label_at c e (way_out (contact_at c e)) v in
-        (λ input. allowed_own past l.port l.event l.value (same_label e (way_out (contact_at c e)) v) (allowed input), protocol_own xs (l ∷ past) rest)
-    protocol_own (In e v ∷ xs) past (allowed, rest) =
-        let l = label_at c e (way_in (contact_at c e)) v in
-        (λ input. allowed_own past l.port l.event l.value (same_label e (way_in (contact_at c e)) v) (allowed input), protocol_own xs (l ∷ past) rest)
 
     -- moves under more imports
     move_whole : (a : Act) (x y : Config) → Move small a x y → Move large a x y
@@ -151,20 +109,16 @@ module _ (f : Placing) (r c : Plan) (is : IsPlaced f r c) where
             ),
       )
 
-      placed_done : RealisesDone c m → (xs : List Element) (s t : Tokens) → IsIdle r s → Runs r (set_list f xs) s t
-          → KeepsProtocol r.imports (all_shown r (set_list f xs)) → IsMatched r large (set_list f xs) s Idle × IsOrderly r (set_list f xs) s
-      placed_done done xs s t idle runs keeps =
-          let both =
-          done (own_tokens f s) (own_tokens f t) xs (own_idle f r c s idle) (runs_own f r c is xs s t runs)
-          (protocol_own xs [] (subst (KeepsProtocol r.imports) (all_shown_whole xs) keeps))
-          in (
+      placed_done : RealisesInTurn c m → (xs : List Element) (s t : Tokens) → IsIdle r s → Runs r (set_list f xs) s t
+          → InputsKeepTurns r [] (set_list f xs) → IsMatched r large (set_list f xs) s Idle × IsOrderly r (set_list f xs) s
+      placed_done done xs s t idle runs turns =
+          let both = done (own_tokens f s) (own_tokens f t) xs (own_idle f r c s idle) (runs_own f r c is xs s t runs) (inputs_own f r c is xs [] turns) in (
             matched_whole xs s Idle (idle_still f r s idle) ([], refl) both.0,
             ordered_whole f r c is xs s t (idle_still f r s idle) runs both.1,
           )
 
-      pub whole_done : AllGround r.imports → RealisesDone c m → RealisesDone r m
-      whole_done ground done s t xs idle runs keeps =
-          let (ys, e) = all_kept f r c is ground names xs s t [] (idle_still f r s idle) runs (none_shut f r c is ground names) keeps in
+      pub whole_done : RealisesInTurn c m → RealisesInTurn r m
+      whole_done done s t xs idle runs turns =
+          let (ys, e) = all_own f r c is xs s t [] (idle_still f r s idle) runs turns in
           subst (λ (zs : List Element). IsMatched r large zs s Idle × IsOrderly r zs s) (sym e)
-          (placed_done done ys s t idle (subst (λ (zs : List Element). Runs r zs s t) e runs)
-          (subst (λ (zs : List Element). KeepsProtocol r.imports (all_shown r zs)) e keeps))
+          (placed_done done ys s t idle (subst (λ (zs : List Element). Runs r zs s t) e runs) (subst (InputsKeepTurns r []) e turns))

@@ -9,7 +9,7 @@ use Rattle.gos_plan.specs.Plans.{PartEnd, ResultEnd, Plan}
 use Rattle.gos_plan.specs.Joining.{Link, all_parts}
 use Rattle.gos_plan.specs.TokenBits.{LiteralFits}
 use Rattle.gos_realises.specs.realises.Regular.{count}
-use Rattle.gos_realises.specs.realises.Matched.{RealisesDone}
+use Rattle.gos_realises.specs.realises.Matched.{RealisesInTurn}
 use Rattle.gos_realises.specs.realises.Links.{IsJoined}
 use Rattle.gos_realises.specs.realises.Wirings.{lone, link, results_linked}
 use Rattle.gos_realises.specs.realises.Realises.{AllGround, NamesDiffer, HaveOtherNames, Suits, Means, Realises}
@@ -63,11 +63,11 @@ module _ (f : Placing) (r c : Plan) (is : IsPlaced f r c) (literals : All Litera
         regular = whole_regular f r c is suits.regular;
       }
 
-  done_whole : (t : Type') (m : Term) → Suits t c m → RealisesDone c m → RealisesDone r m
-  done_whole t m suits done = whole_done f r c is m fine.1 (sources_known c.imports [] m t suits.typed) fine.0 done
+  done_whole : (t : Type') (m : Term) → Suits t c m → RealisesInTurn c m → RealisesInTurn r m
+  done_whole t m suits done = whole_done f r c is m fine.1 (sources_known c.imports [] m t suits.typed) done
 
 abbrev DoneToo : Type' → Plan → Term → Type 0
-DoneToo t r m = Suits t r m × RealisesDone r m
+DoneToo t r m = Suits t r m × RealisesInTurn r m
 
 done_too : (f : Placing) (r c : Plan) (t : Type') (m : Term) → IsPlaced f r c → All LiteralFits r.parts → Fine r.imports → DoneToo t c m → DoneToo t r m
 done_too f r c t m is literals fine (suits, done) = (suits_whole f r c is literals fine t m suits, done_whole f r c is literals fine t m suits done)

@@ -12,7 +12,7 @@ pub loose_rests : LooseRests
 loose_rests f r c is rests = whole_rests (settling f r c is) r c (settled_placed f r c is) rests
 
 pub loose_is_done : LooseIsDone
-loose_is_done f r c m is ground names knows done = whole_done (settling f r c is) r c (settled_placed f r c is) m names knows ground done
+loose_is_done f r c m is names knows done = whole_done (settling f r c is) r c (settled_placed f r c is) m names knows done
 
 pub loose_is_realised : LooseIsRealised
 loose_is_realised f r c t m is literals ground names realised =

@@ -11,8 +11,7 @@ use Rattle.gos_plan.specs.Plans.{End, PartEnd, ImportEnd, ResultEnd, Plan, conta
 use Rattle.gos_plan.specs.Tokens.{Tokens, Element, Fire, Out, In, IsPortEnd, way_put, Does, Runs, IsIdle}
 use Rattle.gos_plan.specs.Orderly.{IsOrderly}
 use Rattle.gos_realises.specs.realises.Regular.{Pass, pass, way_in, way_out, is_open, KeepsTurnsOf, whole_end, ComesInTurn, KeepsTurns, InputsKeepTurns, OutputsKeepTurns, IsRegular}
-use Rattle.gos_realises.specs.realises.Realises.{AllGround}
-use Rattle.gos_realises.proofs.realises.InputLemmas.{in_there, import_serves, one_ground}
+use Rattle.gos_realises.proofs.realises.InputLemmas.{in_there}
 use Rattle.gos_plan.specs.Firing.{Rest}
 use Rattle.gos_supplies.specs.turns.Rests.{passes, AllShut, Rests}
 use Rattle.gos_supplies.specs.unjoined.Beside.{Placing, placed}
@@ -53,12 +52,6 @@ module _ (f : Placing) (r c : Plan) (is : IsPlaced f r c) where
           let both : slice_get (contacts_of_import None) h ≡ Some k = sym (ap (λ (o : Option Imported). slice_get (contacts_of_import o) h) none) ∙ there in
           absurd (cc both)
       by_import (Some x) at = (x, at, sym (ap (λ (o : Option Imported). slice_get (contacts_of_import o) h) at) ∙ there)
-
-  -- what comes in at a ground import that is there is an answer
-  pub answers : AllGround r.imports → (i h : ℕ) (k : Contact) → contact_at r (ImportEnd i h) ≡ Some k → way_in (contact_at r (ImportEnd i h)) ≡ Answer
-  answers ground i h k there =
-      let (x, at, both) = import_there i h k there in
-      ap way_in there ∙ ap way_put (sym (import_serves x.ty (one_ground r.imports ground i x at) h k both))
 
   -- None comes in at a loose end: a request would open a handshake of an argument where the outcome has no open one.
   abbrev Comes : List Pass → End → Direction → Type 0

@@ -2,19 +2,19 @@
 -- open.
 use Rattle.std.specs.Prelude.{◌≡◌, ℕ, ◌+◌, Bool, true, false, IsTrue, List, [], ◌∷◌, Option, Some, None, slice_get, if◌then◌else◌}
 use Rattle.std.proofs.Common.{refl, sym, ◌∙◌, ap, subst, arith}
-use Rattle.gos_types.specs.Types.{Type', Fun}
+use Rattle.gos_types.specs.Types.{Type'}
 use Rattle.gos_types.specs.Events.{Direction, Request, Answer}
 use Rattle.gos_model.specs.Typing.{Imported}
 use Rattle.gos_plan.specs.Kinds.{Contact}
 use Rattle.gos_plan.specs.Plans.{End, ImportEnd, ResultEnd, Plan, contact_at}
 use Rattle.gos_plan.specs.Tokens.{Element, Fire, Out, In}
-use Rattle.gos_realises.specs.realises.Regular.{Pass, pass, way_in, way_out, is_request, is_open, count, some_open, beyond, KeepsTurnsOf, whole_end, ComesInTurn, KeepsTurns, InputsKeepTurns, OutputsKeepTurns}
+use Rattle.gos_realises.specs.realises.Regular.{Pass, pass, way_in, way_out, is_request, is_open, count, some_open, KeepsTurnsOf, whole_end, ComesInTurn, KeepsTurns, InputsKeepTurns, OutputsKeepTurns}
 use Rattle.gos_realises.proofs.realises.GroundTurnLemmas.{some_there}
 use Rattle.gos_joining.proofs.renumbered.TurnLemmas.{of_import, of_result, ImportKeeps, EachKeeps, keeps_each, each_keeps}
 use Rattle.gos_supplies.specs.unjoined.Beside.{Placing, placed}
 use Rattle.gos_supplies.proofs.unjoined.PlacedLemmas.{IsPlaced, end_in, import_if, same_placed, other_loose, contact_placed}
 use Rattle.gos_supplies.proofs.unjoined.TokenLemmas.{set, set_list}
-use Rattle.gos_supplies.proofs.turns.WholeLemmas.{shut_turned, none_some}
+use Rattle.gos_supplies.proofs.turns.WholeLemmas.{shut_turned}
 
 -- what passed the plan passed the whole
 abbrev pub set_pass : Placing → Pass → Pass

@@ -8,7 +8,7 @@ use Rattle.gos_model.specs.Typing.{Typed}
 use Rattle.gos_model.specs.Stores.{Store}
 use Rattle.gos_model.specs.Labels.{given}
 use Rattle.gos_model.specs.Moves.{Program, Idle, Running, Act, Moves, labels, Stalled}
-use Rattle.gos_realises.specs.realises.Realises.{AllGround}
+use Rattle.gos_realises.specs.realises.Realises.{AllPorts}
 
 -- nothing in the term waits for an answer
 abbrev pub HasNoWait : Term → Type 0
@@ -36,22 +36,22 @@ HasNoWait (Wait x n) = ⊥
 HasNoWait (Held k op n) = HasNoWait n
 HasNoWait (Put m k) = HasNoWait m
 
--- A command or an expression whose imports are ground has a computation step, an output or its answer when it begins.
+-- A command or an expression whose imports are ground, or of arrays, has a computation step, an output or its answer when it begins.
 -- That is progress (Wright and Felleisen 1994), with the fact that the unfolding of a head ends (Tait 1967).
 abbrev pub ProgramsBegin : Type 0
 ProgramsBegin =
-    (p : Program) (t : Type') → AllGround p.imports → Typed p.imports [] p.body t → IsDone t → Stalled p (Running p.body []) → ⊥
+    (p : Program) (t : Type') → AllPorts p.imports → Typed p.imports [] p.body t → IsDone t → Stalled p (Running p.body []) → ⊥
 
 -- So it has wherever a run leads it, if nothing in it waits for an answer.
 abbrev pub RunsGoOn : Type 0
 RunsGoOn =
     (p : Program) (t : Type') (acts : List Act) (m : Term) (s : Store)
-    → AllGround p.imports → Typed p.imports [] p.body t → IsDone t → Moves p acts Idle (Running m s) → HasNoWait m
+    → AllPorts p.imports → Typed p.imports [] p.body t → IsDone t → Moves p acts Idle (Running m s) → HasNoWait m
     → Stalled p (Running m s) → ⊥
 
 -- Nothing waits where the run has shown no label but the request of the program itself.
 abbrev pub UnaskedRunsGoOn : Type 0
 UnaskedRunsGoOn =
     (p : Program) (t : Type') (acts : List Act) (m : Term) (s : Store)
-    → AllGround p.imports → Typed p.imports [] p.body t → IsDone t → Moves p acts Idle (Running m s) → labels acts ≡ given 0 0 ∷ []
+    → AllPorts p.imports → Typed p.imports [] p.body t → IsDone t → Moves p acts Idle (Running m s) → labels acts ≡ given 0 0 ∷ []
     → Stalled p (Running m s) → ⊥

@@ -29,7 +29,7 @@ WaitIsStalled = Stalled one_run (Running (Wait c 1) [])
 abbrev pub applied_import : Program
 applied_import = record { imports = record { name = c; ty = Fun Com Com } ∷ []; body = App (Import c) Skip }
 
--- It is a command, and is stalled when it begins: so the imports have to be ground.
+-- It is a command, and is stalled when it begins: so not every import may be a function.
 abbrev pub FunctionImportWaits : Type 0
 FunctionImportWaits = Typed applied_import.imports [] applied_import.body Com × Stalled applied_import (Running applied_import.body [])
 

@@ -8,7 +8,7 @@ use Rattle.gos_model.specs.Terms.{Term}
 use Rattle.gos_plan.specs.Plans.{Plan}
 use Rattle.gos_plan.specs.TokenBits.{LiteralFits}
 use Rattle.gos_realises.specs.realises.Regular.{IsRegular}
-use Rattle.gos_realises.specs.realises.Matched.{RealisesDone}
+use Rattle.gos_realises.specs.realises.Matched.{RealisesInTurn}
 use Rattle.gos_realises.specs.realises.Realises.{AllGround, NamesDiffer, Realises}
 use Rattle.gos_programs.specs.contexts.Widening.{Knows}
 use Rattle.gos_supplies.specs.turns.Rests.{Rests}
@@ -27,7 +27,7 @@ LooseRests = (f : Placing) (r c : Plan) → IsBeside f r c → Rests c → Rests
 abbrev pub LooseIsDone : Type 0
 LooseIsDone =
     (f : Placing) (r c : Plan) (m : Term)
-    → IsBeside f r c → AllGround r.imports → NamesDiffer r.imports → Knows c.imports m → RealisesDone c m → RealisesDone r m
+    → IsBeside f r c → NamesDiffer r.imports → Knows c.imports m → RealisesInTurn c m → RealisesInTurn r m
 
 -- And at any type: whatever is joined to the whole is joined to the plan, with the same loose parts beside it. The literals
 -- of loose parts fit as well, since a plan that realises a term has no others.

@@ -1,6 +1,8 @@
 // What the plan of a name realises. Each theorem is the contract of a function that does nothing.
 ghost use Rattle.gos_supplies.specs.names.Names.{NameIsRealised};
 ghost use Rattle.gos_supplies.specs.names.SmallNames.{UnjoinedIsNone};
+ghost use Rattle.gos_supplies.specs.names.Arrays.{ReadIsRealised};
+ghost use Rattle.gos_supplies.specs.names.SmallArrays.{IndexIsTold};
 
 use super::progress::realisers;
 use gos_plan::one_joining;
@@ -20,3 +22,13 @@ pub fn small_names()
 {
     realisers();
 }
+
+/// The plan that reads an array's import at a number is regular, and realises the read.
+pub fn arrays()
+    ensures { ReadIsRealised }
+{}
+
+/// A plan that leaves an array's index unjoined doesn't realise an access of it.
+pub fn small_arrays()
+    ensures { IndexIsTold }
+{}
