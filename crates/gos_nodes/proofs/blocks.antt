@@ -1,5 +1,7 @@
 pub mod RegionLemmas
+pub mod ServerLemmas
 pub mod DriverLemmas
+pub mod SmallServerLemmas
 pub mod StepLemmas
 pub mod LinkedLemmas
 pub mod SharedLemmas

@@ -1,2 +1,4 @@
+pub mod Servers
+pub mod SmallServers
 pub mod Block
 pub mod SmallBlocks

@@ -82,12 +82,12 @@ from_shown p port n (Is way (Some b) ∷ es) (a ∷ x ∷ nets) v h =
     (one_shown p (at v a) (record { port = port; event = n; value = at v x }) (h.0 (at v x))) (from_shown p port (suc n) es nets v h.1)
 
 -- the result's port
-given_shown : (p : Plan) (t : Type') → p.outcome ≡ t → IsDone t → EventsShown p Given 0 (events t)
-given_shown p Com e d = ((λ k. ((λ o. absurd (cc o)), (λ o. rw e refl))), ((λ k. ((λ o. rw e refl), (λ o. absurd (cc o)))), tt))
-given_shown p (Exp w) e d = ((λ k. ((λ o. absurd (cc o)), (λ o. rw e refl))), ((λ k. ((λ o. rw e refl), (λ o. absurd (cc o)))), tt))
-given_shown p (Var w) e d = absurd d
-given_shown p (Pair a b) e d = absurd d
-given_shown p (Fun a b) e d = absurd d
+given_shown : (p : Plan) (t : Type') → IsDone t → EventsShown p Given 0 (events t)
+given_shown p Com d = ((λ k. ((λ o. absurd (cc o)), (λ o. refl))), ((λ k. ((λ o. refl), (λ o. absurd (cc o)))), tt))
+given_shown p (Exp w) d = ((λ k. ((λ o. absurd (cc o)), (λ o. refl))), ((λ k. ((λ o. refl), (λ o. absurd (cc o)))), tt))
+given_shown p (Var w) d = absurd d
+given_shown p (Pair a b) d = absurd d
+given_shown p (Fun a b) d = absurd d
 
 -- an import's port
 number_found : (is : Imports) (n k : ℕ) (i : Imported) → NamesDiffer is → slice_get is k ≡ Some i → import_number n is i.name ≡ n + k
@@ -99,27 +99,27 @@ number_found (j ∷ js) n zero i differ there = rw (same_bytes_eq j.name i.name 
 number_found (j ∷ js) n (suc k) i differ there =
     rw (test_differ j.name i.name (differ.0 i (contains_at js k i there))) (number_found js (suc n) k i differ.1 there ∙ omega arith)
 
-import_shown : (p : Plan) (k : ℕ) (i : Imported) (t : Type') → NamesDiffer p.imports → slice_get p.imports k ≡ Some i → i.ty ≡ t → IsGround t
+import_shown : (p : Plan) (k : ℕ) (i : Imported) (t : Type') → NamesDiffer p.imports → slice_get p.imports k ≡ Some i → IsGround t
     → EventsShown p (Taken i.name) 0 (events t)
-import_shown p k i t differ there is ground = by_type t is ground
+import_shown p k i t differ there ground = by_type t ground
   where
     number : import_number 0 p.imports i.name ≡ k
     number = number_found p.imports 0 k i differ there ∙ omega arith
 
-    by_type : (t : Type') → i.ty ≡ t → IsGround t → EventsShown p (Taken i.name) 0 (events t)
-    by_type Com is ground =
-        ((λ v. ((λ o. rw (number, there, is) refl), (λ o. absurd (cc o)))), ((λ v. ((λ o. absurd (cc o)), (λ o. rw (number, there, is) refl))), tt))
-    by_type (Exp w) is ground =
-        ((λ v. ((λ o. rw (number, there, is) refl), (λ o. absurd (cc o)))), ((λ v. ((λ o. absurd (cc o)), (λ o. rw (number, there, is) refl))), tt))
-    by_type (Var w) is ground = (
-      (λ v. ((λ o. rw (number, there, is) refl), (λ o. absurd (cc o)))),
+    by_type : (t : Type') → IsGround t → EventsShown p (Taken i.name) 0 (events t)
+    by_type Com ground =
+        ((λ v. ((λ o. rw (number, there) refl), (λ o. absurd (cc o)))), ((λ v. ((λ o. absurd (cc o)), (λ o. rw (number, there) refl))), tt))
+    by_type (Exp w) ground =
+        ((λ v. ((λ o. rw (number, there) refl), (λ o. absurd (cc o)))), ((λ v. ((λ o. absurd (cc o)), (λ o. rw (number, there) refl))), tt))
+    by_type (Var w) ground = (
+      (λ v. ((λ o. rw (number, there) refl), (λ o. absurd (cc o)))),
       (
-        (λ v. ((λ o. absurd (cc o)), (λ o. rw (number, there, is) refl))),
-        ((λ v. ((λ o. rw (number, there, is) refl), (λ o. absurd (cc o)))), ((λ v. ((λ o. absurd (cc o)), (λ o. rw (number, there, is) refl))), tt)),
+        (λ v. ((λ o. absurd (cc o)), (λ o. rw (number, there) refl))),
+        ((λ v. ((λ o. rw (number, there) refl), (λ o. absurd (cc o)))), ((λ v. ((λ o. absurd (cc o)), (λ o. rw (number, there) refl))), tt)),
       ),
     )
-    by_type (Pair a b) is ground = absurd ground
-    by_type (Fun a b) is ground = absurd ground
+    by_type (Pair a b) ground = absurd ground
+    by_type (Fun a b) ground = absurd ground
 
 taken_shown : (p : Plan) (is : Imports) (k : ℕ) (qs : List NetPort) (v : Numbers) → NamesDiffer p.imports
     → ((m : ℕ) → slice_get is m ≡ slice_get p.imports (k + m)) → AllGround is → AreTaken is qs → AllShown p (pulses qs v)
@@ -128,7 +128,7 @@ taken_shown p [] k (q ∷ qs) v differ there ground h = absurd h
 taken_shown p (i ∷ is) k [] v differ there ground h = absurd h
 taken_shown p (i ∷ is) k (q ∷ qs) v differ there ground h =
     shown_append p (port_pulses v q) (pulses qs v)
-    (from_shown p (port_of q.side q.name) 0 (events q.ty) q.nets v (rw (h.0, h.1, h.2) (import_shown p k i i.ty differ here refl ground.0)))
+    (from_shown p (port_of q.side q.name) 0 (events q.ty) q.nets v (rw (h.0, h.1, h.2) (import_shown p k i i.ty differ here ground.0)))
     (taken_shown p is (suc k) qs v differ (λ m. there (suc m) ∙ ap (slice_get p.imports) (later m)) ground.1 h.3)
   where
     here : slice_get p.imports k ≡ Some i
@@ -142,7 +142,7 @@ pub pulses_shown : (p : Plan) (qs : List NetPort) (v : Numbers) → IsDone p.out
 pulses_shown p [] v done ground differ h = absurd h
 pulses_shown p (q ∷ qs) v done ground differ h =
     shown_append p (port_pulses v q) (pulses qs v)
-    (from_shown p (port_of q.side q.name) 0 (events q.ty) q.nets v (rw (h.0, h.1) (given_shown p p.outcome refl done)))
+    (from_shown p (port_of q.side q.name) 0 (events q.ty) q.nets v (rw (h.0, h.1) (given_shown p p.outcome done)))
     (taken_shown p p.imports 0 qs v differ (λ m. ap (slice_get p.imports) (same m)) ground h.2)
   where
     same : (m : ℕ) → m ≡ 0 + m

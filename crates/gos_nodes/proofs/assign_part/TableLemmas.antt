@@ -1,9 +1,10 @@
 -- The table of `:=` is right: state by state, and what the term does meanwhile.
-use Rattle.std.specs.Prelude.{◌≡◌, ◌⊎◌, ℕ, zero, suc, true, false, IsTrue, [], ◌∷◌, Option, Some, slice_get}
+use Rattle.std.specs.Prelude.{◌≡◌, ◌⊎◌, ℕ, zero, suc, IsTrue, [], ◌∷◌, Option, Some}
 use Rattle.std.proofs.Common.{refl, sym, ap, subst, inl, inr, ◌∙◌}
 use Rattle.std.proofs.lemmas.Option.{none-some, same_Some}
 use Rattle.std.proofs.lemmas.Bool.{false≢true}
 use Rattle.gos_types.specs.Types.{Type'}
+use Rattle.gos_types.specs.Events.{Request, Answer}
 use Rattle.gos_model.specs.Terms as terms
 use Rattle.gos_model.specs.Terms.{Name, Term, Lit, Import, Wait, Put}
 use Rattle.gos_model.specs.Typing.{Imported, Imports, import_type}
@@ -13,9 +14,7 @@ use Rattle.gos_model.specs.Labels.{Label, is_output, is_output_at, IsAnswer}
 use Rattle.gos_model.specs.Moves.{Program, Config, Idle, Running, Act, Computing, Showing, Unfoldings, ActsTo, Stalled}
 use Rattle.gos_plan.specs.Kinds.{Assign}
 use Rattle.gos_plan.specs.Firing.{Phase, Rest, Value, Writing, Slot, Req, Ans, Row, at, row_for, rows}
-use Rattle.gos_plan.specs.Plans.{contacts_of_import}
 use Rattle.gos_plan.proofs.SlotLemmas.{one_row}
-use Rattle.gos_realises.specs.realises.Regular.{way_in, way_out}
 use Rattle.gos_realises.specs.realises.Matched.{port_if, event_number}
 use Rattle.gos_nodes.specs.assign_part.Tables.{Leads, AssignsDo, WritesMove, WritesShow}
 
@@ -86,7 +85,7 @@ pub writes_move : WritesMove
 writes_move g x w s known =
     record {
       computes = λ m v. (Running (Put m v) s, (0, terms.Assign m (Lit v w), refl, inl (v, w, refl, refl, refl)), refl);
-      writes = λ v. (Running (Wait x 3) s, (0, Put (Import x) v, refl, (inl (inl (x, w, refl, known, refl, refl)), refl)), refl);
+      writes = λ v. (Running (Wait x 3) s, (0, Put (Import x) v, refl, (inl (inl (inl (x, w, refl, known, refl, refl))), refl)), refl);
       answered = (Running terms.Skip s, (0, Wait x 3, refl, (inl (inr (refl, refl, answers)), refl)), refl);
       waits = waits g x s;
     }
@@ -97,6 +96,6 @@ writes_move g x w s known =
 -- the variable's port
 pub writes_show : WritesShow
 writes_show p k w x known = (
-  λ v. ap (λ (o : Option Imported). record { port = port_if o; event = event_number (way_out (slice_get (contacts_of_import o) 1)) 1; value = v } ∷ []) known,
-  λ v. ap (λ (o : Option Imported). record { port = port_if o; event = event_number (way_in (slice_get (contacts_of_import o) 1)) 1; value = v } ∷ []) known,
+  λ v. ap (λ (o : Option Imported). record { port = port_if o; event = event_number Request 1; value = v } ∷ []) known,
+  λ v. ap (λ (o : Option Imported). record { port = port_if o; event = event_number Answer 1; value = v } ∷ []) known,
 )

@@ -5,7 +5,7 @@ use Rattle.gos_types.specs.Types.{Type', Com, Exp, Var, IsGround}
 use Rattle.gos_model.specs.Terms.{Term, Assign, Lit}
 use Rattle.gos_model.specs.Typing.{Typed}
 use Rattle.gos_plan.specs.Plans.{Plan}
-use Rattle.gos_realises.specs.realises.Matched.{RealisesDone}
+use Rattle.gos_realises.specs.realises.Matched.{RealisesInTurn}
 use Rattle.gos_realises.specs.realises.Realises.{AllGround, Realises, NamesDiffer}
 use Rattle.gos_nodes.specs.windows.Regions.{IsLoyal}
 use Rattle.gos_nodes.specs.windows.Nodes.{Stage, IsRestful}
@@ -75,7 +75,7 @@ module _
   are_written =
       record {
         number = λ g has at.
-            subst (λ (x : Stage). Typed x.plan.imports [] n (Exp w) × RealisesDone x.plan n) (of_number g has at) (asks.suits.typed, asks.means);
+            subst (λ (x : Stage). Typed x.plan.imports [] n (Exp w) × RealisesInTurn x.plan n) (of_number g has at) (asks.suits.typed, asks.means);
         variable = λ g has at k small.
             subst (λ (x : Stage). Typed x.plan.imports [] (Assign m (Lit k w)) Com × SessionIsRealised x.plan 1 k (Assign m (Lit k w))) (of_variable g has at)
             (subst (λ (q : Plan). Typed q.imports [] (Assign m (Lit k w)) Com × SessionIsRealised q 1 k (Assign m (Lit k w))) (sym whole.plan) (written.2 k small));

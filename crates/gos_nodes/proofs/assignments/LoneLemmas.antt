@@ -15,7 +15,7 @@ use Rattle.gos_plan.specs.Plans.{ResultEnd, Plan, contact_at}
 use Rattle.gos_plan.specs.Tokens.{Tokens, Element, Fire, Out, In, Does, Runs, IsIdle}
 use Rattle.gos_plan.proofs.TokenBitsLemmas.{all_stay_fit, idle_fits}
 use Rattle.gos_realises.specs.realises.Regular.{pass, way_in, KeepsTurns, InputsKeepTurns, IsRegular}
-use Rattle.gos_realises.specs.realises.Matched.{IsMatched, program_of, RealisesDone}
+use Rattle.gos_realises.specs.realises.Matched.{IsMatched, program_of, RealisesInTurn}
 use Rattle.gos_realises.proofs.realises.InputLemmas.{passed}
 use Rattle.gos_programs.proofs.results.ResultLemmas.{moves_then}
 use Rattle.gos_joining.specs.webs.Cutting.{Cut}
@@ -24,7 +24,6 @@ use Rattle.gos_nodes.proofs.nodes.PortLemmas.{request_shown}
 use Rattle.gos_nodes.specs.windows.Regions.{whole_element}
 use Rattle.gos_nodes.specs.windows.Nodes.{Stage}
 use Rattle.gos_nodes.specs.windows.Windows.{seen}
-use Rattle.gos_nodes.proofs.windows.KeepingLemmas.{turns_keep_protocol}
 use Rattle.gos_nodes.proofs.windows.TurnLemmas.{Turned, closed_turned, result_in}
 use Rattle.gos_nodes.specs.windows.OneSession.{IsTidy, AllStay, EndsWell}
 use Rattle.gos_nodes.specs.assignments.Realised.{IsSessionMatched}
@@ -62,7 +61,7 @@ four_moves G a b c d v w x y one asks two second three third four fourth some =
 
 module _
     (q : Plan) (d l w k : ℕ) (f : Cut) (p : Plan) (m : Term) (lone : IsLoneWrite q d l w k f p) (regular : IsRegular q)
-    (realises : RealisesDone q (terms.Assign m (terms.Lit k w))) (before u : Tokens) (tidy : IsTidy p before) (idle : IsIdle p before)
+    (realises : RealisesInTurn q (terms.Assign m (terms.Lit k w))) (before u : Tokens) (tidy : IsTidy p before) (idle : IsIdle p before)
     (does : Does p (In (ResultEnd 1) k) before u) (own_turn : InputsKeepTurns p [] (In (ResultEnd 1) k ∷ [])) where
   abbrev pub g : Stage
   g = lone_stage f p
@@ -168,9 +167,7 @@ module _
 
     matched : IsMatched q G (In (ResultEnd 0) 0 ∷ Fire d (Req 2) ∷ Fire l (Req 0) ∷ Fire d (Ans 0) ∷ rest) s0 Idle
     matched =
-        (realises s0 raised.0 (In (ResultEnd 0) 0 ∷ Fire d (Req 2) ∷ Fire l (Req 0) ∷ Fire d (Ans 0) ∷ rest) idle_first whole_runs
-        (turns_keep_protocol q (In (ResultEnd 0) 0 ∷ Fire d (Req 2) ∷ Fire l (Req 0) ∷ Fire d (Ans 0) ∷ rest) s0 raised.0 lone.ground lone.base.names done whole_runs
-        (turn, raised.2))).0
+        (realises s0 raised.0 (In (ResultEnd 0) 0 ∷ Fire d (Req 2) ∷ Fire l (Req 0) ∷ Fire d (Ans 0) ∷ rest) idle_first whole_runs (turn, raised.2)).0
 
     abbrev pub Session : Program → Type 0
     Session g =

@@ -18,14 +18,13 @@ use Rattle.gos_plan.specs.TokenBits.{AllFit}
 use Rattle.gos_plan.proofs.DecidedLemmas.{one_state}
 use Rattle.gos_plan.proofs.TokenBitsLemmas.{all_stay_fit, idle_fits}
 use Rattle.gos_realises.specs.realises.Matched.{asks_on, shows, GoesOn, Agrees, IsMatched, program_of}
-use Rattle.gos_realises.proofs.realises.InputLemmas.{protocol_keeps_turns, matching_suffices}
+use Rattle.gos_realises.proofs.realises.InputLemmas.{matching_suffices}
 use Rattle.gos_nodes.specs.sessions.Sessions.{Session, value_of}
 use Rattle.gos_programs.proofs.contexts.WideningLemmas.{sources_known, runs_known}
 use Rattle.gos_programs.proofs.results.ResultLemmas.{moves_then}
 use Rattle.gos_nodes.specs.windows.Regions.{whole_element}
 use Rattle.gos_nodes.specs.windows.Nodes.{Stage}
 use Rattle.gos_nodes.specs.windows.Windows.{seen, HoldsOnly, StirsOnly, Begins, Where, Resting, Asked, Within, Answered, LeadsTo, to_session, to_answer, Staged, rests, waits, stays, holds, is_asked, begins, stirs, goes_on, replies}
-use Rattle.gos_nodes.proofs.windows.PortLemmas.{ground_within}
 use Rattle.gos_nodes.proofs.nodes.MatchedLemmas.{running_is_not_idle, one_asked, asks_or_answers, no_asking, more_some, both_silent}
 use Rattle.gos_nodes.proofs.nodes.SilentLemmas.{unfold_first, silent_inner}
 use Rattle.gos_nodes.proofs.nodes.FrameLemmas.{framed, framed_waits}
@@ -103,7 +102,7 @@ module _
       let there : IsWriteStage r d wide g = node.base.stages g has in
       let outcome = there.outcome ∙ ap (λ (h : ℕ). asked_type h wide) (sym at) in
       let realised : SessionIsRealised g.plan 0 0 n =
-      done_session g.plan n (ground_within g.plan.imports r.imports ground there.imports) there.names (subst IsDone (sym outcome) tt) realises in
+      done_session g.plan n (subst IsDone (sym outcome) tt) realises in
       enters g k ys s (number_session wide m n) has (inl refl) at typed
       (subst (λ (h : ℕ). SessionIsRealised g.plan h k n) at (subst (λ (x : ℕ). SessionIsRealised g.plan 0 x n) none realised)) start
 
@@ -273,10 +272,7 @@ module _
 
 pub write_realises : WriteRealises
 write_realises r d wide gs m n node ground restful real =
-    let is_regular = (write_is_regular r d wide gs node restful).0 in
-    let done_so = subst IsDone (sym node.outcome) tt in
-    matching_suffices r (Assign m n) is_regular ground node.base.names done_so (λ s t xs idle runs keeps.
-    let turns = protocol_keeps_turns r xs s t is_regular ground node.base.names done_so idle runs keeps in
+    matching_suffices r (Assign m n) (write_is_regular r d wide gs node restful).0 (λ s t xs idle runs turns.
     matches r d wide gs node ground m n real Resting xs s (writes_are_staged r d wide gs s t xs node restful idle runs turns) (idle_fits r s idle))
 
 pub write_realises_by_type : WriteRealisesByType

@@ -2,15 +2,15 @@
 use Rattle.std.specs.Prelude.{◌≡◌, ◌≢◌, ◌⊎◌, ℕ, zero, suc, List, [], ◌∷◌, ◌++◌}
 use Rattle.std.proofs.Common.{arith, refl, sym, subst, inl, inr, ◌∙◌}
 use Rattle.gos_types.specs.Types.{Com, Exp, IsDone}
+use Rattle.gos_types.specs.Events.{Request, Answer}
 use Rattle.gos_model.specs.Terms.{Term, Lit, Assign}
 use Rattle.gos_model.specs.Typing.{Imported, Typed}
 use Rattle.gos_model.specs.Stores.{Store}
 use Rattle.gos_model.specs.Labels.{given}
 use Rattle.gos_model.specs.Moves.{Program, Config, Idle, Running, Act, Showing, Moves, labels}
-use Rattle.gos_plan.specs.Plans.{PartEnd, ImportEnd, ResultEnd, Plan, contact_at}
+use Rattle.gos_plan.specs.Plans.{PartEnd, ImportEnd, ResultEnd, Plan}
 use Rattle.gos_plan.specs.Tokens.{Tokens, Element, Fire, Out, In, Does}
-use Rattle.gos_realises.specs.realises.Regular.{way_in, way_out}
-use Rattle.gos_realises.specs.realises.Matched.{label_at, shows, GoesOn, Agrees, IsMatched, program_of, RealisesDone}
+use Rattle.gos_realises.specs.realises.Matched.{label_at, shows, GoesOn, Agrees, IsMatched, program_of, RealisesInTurn}
 use Rattle.gos_realises.specs.realises.Realises.{AllGround, NamesDiffer}
 use Rattle.gos_realises.proofs.realises.InputLemmas.{in_there}
 use Rattle.gos_nodes.specs.sessions.Sessions.{Session, session}
@@ -21,7 +21,6 @@ use Rattle.gos_programs.proofs.results.ResultLemmas.{moves_then}
 use Rattle.gos_nodes.specs.windows.Regions.{whole_element}
 use Rattle.gos_nodes.specs.windows.Nodes.{Stage}
 use Rattle.gos_nodes.specs.windows.Windows.{seen, Begins}
-use Rattle.gos_nodes.proofs.windows.KeepingLemmas.{turns_keep_protocol}
 use Rattle.gos_nodes.proofs.nodes.SilentLemmas.{silent_inner, one_inner, inner_stays, asked_first}
 use Rattle.gos_nodes.proofs.nodes.ChildLemmas.{child, moves_at, Ended, child_ends}
 use Rattle.gos_nodes.proofs.nodes.FrameLemmas.{IsFrame, framed}
@@ -89,11 +88,10 @@ as_session p g done (x ∷ xs) s c (agrees, next) = (
       (acts, d, moves, shows_so ∙ shown p x s t done does, goes, as_session p g done xs t d rest),
 )
 
-pub done_session : (p : Plan) (n : Term) → AllGround p.imports → NamesDiffer p.imports → IsDone p.outcome → RealisesDone p n → SessionIsRealised p 0 0 n
-done_session p n ground names done realises s u t ys tidy idle well does runs turns =
+pub done_session : (p : Plan) (n : Term) → IsDone p.outcome → RealisesInTurn p n → SessionIsRealised p 0 0 n
+done_session p n done realises s u t ys tidy idle well does runs turns =
     let list : List Element = In (ResultEnd 0) 0 ∷ ys in
-    let keeps = turns_keep_protocol p list s t ground names done (u, does, runs) turns in
-    let (acts, c, moves, shows_so, goes, rest) = (realises s t list idle (u, does, runs) keeps).0.1 u does in
+    let (acts, c, moves, shows_so, goes, rest) = (realises s t list idle (u, does, runs) turns).0.1 u does in
     let after = asked_first (program_of p n) acts c (given 0 0) moves (shows_so ∙ request_shown p 0 done) in
     (after.0, c, after.2, after.1, (λ same. absurd (omega (arith, same))), as_session p (program_of p n) done ys u c rest)
 
@@ -153,9 +151,8 @@ stirred r d wide g ground is (Fire i slot) s u t acts does stands whole shown go
 stirred r d wide g ground is (Out (PartEnd i h) v) s u t acts does stands whole shown goes = absurd does.0
 stirred r d wide g ground is (Out (ImportEnd i h) v) s u t acts does stands whole shown goes =
     let (k, at, held) = out_held g.plan (ImportEnd i h) v (seen g s) u does in
-    let way = way_out (contact_at g.plan (ImportEnd i h)) in
     record {
-      inner = one_inner acts (label_at g.plan (ImportEnd i h) way v) shown (import_port g.plan i h v way k at);
+      inner = one_inner acts (label_at g.plan (ImportEnd i h) Request v) shown (import_port g.plan i h v Request k at);
       shown = shown ∙ sym (out_shown r g is.ports i h v stands);
       goes = tt;
     }
@@ -163,9 +160,8 @@ stirred r d wide g ground is (Out (ResultEnd h) v) s u t acts does stands whole 
 stirred r d wide g ground is (In (PartEnd i h) v) s u t acts does stands whole shown goes = absurd does.0
 stirred r d wide g ground is (In (ImportEnd i h) v) s u t acts does stands whole shown goes =
     let (k, at) = in_there g.plan (ImportEnd i h) v (seen g s) u does in
-    let way = way_in (contact_at g.plan (ImportEnd i h)) in
     record {
-      inner = one_inner acts (label_at g.plan (ImportEnd i h) way v) shown (import_port g.plan i h v way k at);
+      inner = one_inner acts (label_at g.plan (ImportEnd i h) Answer v) shown (import_port g.plan i h v Answer k at);
       shown = shown ∙ sym (in_shown r g is.ports i h v (in_stage_stands r d wide g ground is i h v stands));
       goes = tt;
     }

@@ -67,6 +67,6 @@ pub number_is_asked : NumberIsAsked
 number_is_asked w p n realises = (
   λ s t xs tidy idle one runs turns. realises.suits.regular s t xs idle runs turns,
   λ s t xs v tidy idle begun runs turns.
-      realisers_rest p n realises.suits.all_ground realises.suits.names (subst IsDone (sym realises.suits.outcome) tt) realises.means s t xs v idle runs turns,
+      realisers_rest p n (subst IsDone (sym realises.suits.outcome) tt) realises.means s t xs v idle runs turns,
   λ i t side loyal s v u xs slot tidy idle begun runs turns does low. loyal s v u xs slot idle runs turns does low,
 )

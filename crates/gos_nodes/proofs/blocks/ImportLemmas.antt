@@ -3,7 +3,7 @@ use Rattle.std.specs.Prelude.{◌≡◌, [], ◌∷◌, Contains, Some, None}
 use Rattle.std.specs.Str.{bytes_eq}
 use Rattle.std.proofs.Common.{refl, sym, ap, subst, inl, inr, ◌∙◌}
 use Rattle.std.proofs.lemmas.Bool.{cond-true, cond-false}
-use Rattle.gos_types.specs.Types.{Var}
+use Rattle.gos_types.specs.Types.{Type'}
 use Rattle.gos_types.proofs.ListLemmas.{first_is_in, rest_is_in}
 use Rattle.gos_types.proofs.BytesLemmas.{same_bytes_eq}
 use Rattle.gos_model.specs.Terms.{Name}
@@ -44,11 +44,11 @@ module _ (r : Plan) (b : Block) (is : IsBlock r b) (differ : NamesDiffer r.impor
       let (i, there, named, typed) = has_type b.body.imports x t h in
       type_has wide_imports wide_differ x i (body_in i there) named ∙ ap Some typed
 
-  pub variable_typed : import_type wide_imports b.variable.name ≡ Some (Var b.width)
-  variable_typed =
+  pub variable_typed : (t : Type') → b.server.supply ≡ t → import_type wide_imports b.variable.name ≡ Some t
+  variable_typed t supply =
       cond-true (bytes_eq b.variable.name b.variable.name) (Some b.variable.ty) (import_type r.imports b.variable.name)
       (same_bytes_eq b.variable.name b.variable.name refl)
-      ∙ ap (λ y. Some y) is.type
+      ∙ ap (λ y. Some y) (is.type ∙ supply)
 
   pub others_same : HasOthers b.variable.name wide_imports r.imports
   others_same x apart =

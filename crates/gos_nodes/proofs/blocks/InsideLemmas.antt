@@ -5,13 +5,14 @@
 -- a write are unfoldings alone, and these stand before the next move.
 use Rattle.std.specs.Prelude.{◌≡◌, ◌≢◌, ℕ, zero, suc, ◌+◌, ◌&&◌, not, Bool, true, false, List, [], ◌∷◌, ◌++◌, Option, Some, None, if◌then◌else◌}
 use Rattle.std.proofs.Common.{arith, refl, sym, ap, subst, inl, inr, ◌∙◌}
-use Rattle.gos_types.specs.Types.{Type', Com, Exp, Var}
+use Rattle.gos_types.specs.Types.{Type', Com, Exp, Var, Fun}
 use Rattle.gos_types.proofs.BytesLemmas.{same_bytes_eq}
 use Rattle.gos_model.specs.Terms.{Name, Term, Import, Deref, New, Loc, Scope, Wait, Put}
 use Rattle.gos_model.specs.Typing.{Imports, Typed, import_type}
 use Rattle.gos_model.specs.Substitution.{instantiate}
 use Rattle.gos_model.specs.Stores.{Store, without}
 use Rattle.gos_model.specs.Steps.{IsValue}
+use Rattle.gos_model.specs.Accesses.{IsArrayImport}
 use Rattle.gos_model.specs.Labels.{Port, Given, Taken, Label, taken, is_answer, IsAnswer}
 use Rattle.gos_model.specs.Moves.{Program, Config, Idle, Running, Act, Computing, Showing, Unfoldings, Answers, Move, Moves, labels, Stalled}
 use Rattle.gos_model.proofs.MoveLemmas.{moves_then, unfoldings_then}
@@ -74,25 +75,43 @@ no_answer_zero (Some (Var w)) (suc zero) k t e h = omega (arith, e)
 no_answer_zero (Some (Var w)) (suc (suc (suc zero))) k t e h = omega (arith, e)
 no_answer_zero o n k t e h = h
 
-label_zero : (i : Imports) (y : Name) (v : ℕ) (a b : Term) → OneLabel i (taken y 0 v) a b → v ≡ 0
-label_zero i y v (Import x) b (inl (inl (h, e, et))) = ap (λ (l : Label). l.value) e
-label_zero i y v (Import x) b (inl (inr (w, h, e, et))) = ap (λ (l : Label). l.value) e
-label_zero i y v (Deref m) b (inl (x, w, em, h, e, et)) = ap (λ (l : Label). l.value) e
-label_zero i y v (Put m n) b (inl (x, w, em, h, e, et)) =
-    let bad : 0 ≡ 2 = ap (λ (l : Label). l.event) e in absurd (omega (arith, bad))
-label_zero i y v (Wait x n) b (inr (p, e, h)) = absurd (no_answer_zero (import_type i x) n v b e h)
-label_zero i y v a b (inl h) = absurd h
-label_zero i y v a b (inr h) = absurd h
+-- no array is imported by this name
+abbrev IsNoArray : Imports → Name → Type 0
+IsNoArray i y = (j w : ℕ) → IsArrayImport i y j w → ⊥
 
-read_zero : (p : Program) (y : Name) (v : ℕ) (s u : Store) (m t : Term) → Move p (Showing (taken y 0 v)) (Running m s) (Running t u) → v ≡ 0
-read_zero p y v s u m t (n, x, hs, (h, e)) =
-    reached_lifted (OneLabel p.imports (taken y 0 v)) (λ a b. v ≡ 0) (label_zero p.imports y v) (λ c a b g. g) x t h
+here_no_array : (i : Imports) (x y : Name) (c w : ℕ) → IsNoArray i y → Taken y ≡ Taken x → IsArrayImport i x c w → ⊥
+here_no_array i x y c w none port array =
+    let same : y ≡ x = cc port in none c w (subst (λ (n : Name). IsArrayImport i n c w) (sym same) array)
+
+label_zero : (i : Imports) (y : Name) → IsNoArray i y → (v : ℕ) (a b : Term) → OneLabel i (taken y 0 v) a b → v ≡ 0
+label_zero i y none v (Import x) b (inl (inl (h, e, et))) = ap (λ (l : Label). l.value) e
+label_zero i y none v (Import x) b (inl (inr (w, h, e, et))) = ap (λ (l : Label). l.value) e
+label_zero i y none v (Deref m) b (inl (inl (x, w, em, h, e, et))) = ap (λ (l : Label). l.value) e
+label_zero i y none v (Put m n) b (inl (inl (x, w, em, h, e, et))) =
+    let bad : 0 ≡ 2 = ap (λ (l : Label). l.event) e in absurd (omega (arith, bad))
+label_zero i y none v (Wait x n) b (inr (p, e, h)) = absurd (no_answer_zero (import_type i x) n v b e h)
+label_zero i y none v (Deref m) b (inl (inr (x, p, (c, w, j, array, rest)))) = absurd (here_no_array i x y c w none p array)
+label_zero i y none v (Deref m) b (inr (x, p, (c, w, j, q, array, em, rest))) = absurd (here_no_array i x y c w none p array)
+label_zero i y none v (Put m n) b (inl (inr (x, p, (c, w, j, array, rest)))) = absurd (here_no_array i x y c w none p array)
+label_zero i y none v (Put m n) b (inr (x, p, (c, w, j, q, array, em, rest))) = absurd (here_no_array i x y c w none p array)
+label_zero i y none v a b (inl h) = absurd h
+label_zero i y none v a b (inr h) = absurd h
+
+read_zero : (p : Program) (y : Name) → IsNoArray p.imports y → (v : ℕ) (s u : Store) (m t : Term) → Move p (Showing (taken y 0 v)) (Running m s) (Running t u) → v ≡ 0
+read_zero p y none v s u m t (n, x, hs, (h, e)) =
+    reached_lifted (OneLabel p.imports (taken y 0 v)) (λ a b. v ≡ 0) (label_zero p.imports y none v) (λ c a b g. g) x t h
 
 running_term : (t u : Term) (v s : Store) → Running t v ≡ Running u s → t ≡ u
 running_term t u v s e = cc e
 
 module _ (own wide whole : Program) (y : Name) (w : ℕ) (among : AreAmong own.imports wide.imports) (typed : import_type wide.imports y ≡ Some (Var w))
     (others : HasOthers y wide.imports whole.imports) where
+  -- the variable is no array
+  not_array : IsNoArray own.imports y
+  not_array j v array =
+      let both : Some (Fun (Exp j) (Var v)) ≡ Some (Var w) = sym (among y (Fun (Exp j) (Var v)) array) ∙ typed in
+      let bad : Fun (Exp j) (Var v) ≡ Var w = cc both in cc bad
+
   -- the body, of whose requests at the variable n wait, within the block, whose variable has number k
   pub record Inside (k n : ℕ) (inner c : Config) : Type 0 where
     pub term : Term
@@ -145,7 +164,7 @@ module _ (own wide whole : Program) (y : Name) (w : ℕ) (among : AreAmong own.i
     -- how many wait after a move
     counted : (a : Act) (u : Term) (v : Store) (j : ℕ) → Move own a inner (Running u v) → n + requests_at y a ≡ j + answers_at y a → WaitsAt y j u
     counted a u v j move sum =
-        let (l, also, waits) = waits_counted own y a n i.term u i.store v (from_own a (Running u v) move) i.waits in
+        let (l, also, waits) = waits_counted own y a n i.term u i.store v not_array (from_own a (Running u v) move) i.waits in
         let total : l + answers_at y a ≡ n + requests_at y a = also in
         let same : l ≡ j = omega (arith, total, sum) in subst (λ (x : ℕ). WaitsAt y x u) same waits
 
@@ -279,7 +298,7 @@ module _ (own wide whole : Program) (y : Name) (w : ℕ) (among : AreAmong own.i
 
   ask_read : (k : ℕ) (v : ℕ) → Served (taken y 0 v) k 0 k 1
   ask_read k v inner c u s i move =
-      let none = read_zero own y v i.store s i.term u (from_own k 0 inner c i (Showing (taken y 0 v)) (Running u s) move) in
+      let none = read_zero own y not_array v i.store s i.term u (from_own k 0 inner c i (Showing (taken y 0 v)) (Running u s) move) in
       let asked = subst (λ (x : ℕ). Move own (Showing (taken y 0 x)) inner (Running u s)) none move in
       let (one, nothing) = request_one 0 0 refl in
       unfolded k 0 inner c i 1 u s (read_asked wide y suc 0 w i.store s i.term u typed (from_wide k 0 inner c i (Showing (taken y 0 0)) (Running u s) asked))

@@ -1,48 +1,41 @@
 -- What is open at the ports of a block, and at those of its body.
 --
--- Along a list whose inputs come in turn the body's result is open where the part is active (`Driven`); and, with ground imports, the
--- variable's handshakes are closed, and another import of the body is open where that of the whole is (`Linked`). So the inputs of the
--- body come in turn (`list_in_turn`).
-use Rattle.std.specs.Prelude.{◌≡◌, ◌≢◌, ℕ, Bool, true, false, List, [], ◌∷◌, ◌++◌, Option, Some, None, All, slice_get, if◌then◌else◌}
+-- Along a list whose inputs come in turn the body's result is open where the server runs its body, and of the variable what the server's
+-- state says (`Driven`); and, with ground imports, another import of the body is open where that of the whole is (`Linked`). So the
+-- inputs of the body come in turn (`list_in_turn`).
+use Rattle.std.specs.Prelude.{◌≡◌, ◌≢◌, ℕ, not, Bool, true, false, List, [], ◌∷◌, ◌++◌, Option, Some, None, All, slice_get, if◌then◌else◌}
 use Rattle.std.proofs.Common.{refl, sym, ap, subst, inl, ◌∙◌}
-use Rattle.gos_types.specs.Types.{Type', Var}
 use Rattle.gos_types.specs.Events.{Direction, Request, Answer}
 use Rattle.gos_model.specs.Typing.{Imported}
 use Rattle.gos_plan.specs.Kinds.{Contact, contacts_of}
-use Rattle.gos_plan.specs.Firing.{Phase, Rest, Active}
+use Rattle.gos_plan.specs.Firing.{Phase, Rest, State, Slot}
 use Rattle.gos_plan.specs.Plans.{End, ImportEnd, ResultEnd, Plan, contact_at, contacts_of_import, same_end}
-use Rattle.gos_plan.specs.Tokens.{Tokens, Element, Out, In, way_put, Does, Runs, IsIdle}
-use Rattle.gos_plan.specs.TokenBits.{LiteralFits, AllFit}
-use Rattle.gos_plan.proofs.JointLemmas.{same_is}
-use Rattle.gos_plan.proofs.TokenBitsLemmas.{all_stay_fit}
+use Rattle.gos_plan.specs.Tokens.{Tokens, Element, Out, In, way_taken, way_put, Runs, IsIdle}
+use Rattle.gos_plan.specs.TokenBits.{LiteralFits}
 use Rattle.gos_plan.proofs.ElementLemmas.{runs_then}
 use Rattle.gos_joining.specs.webs.Cutting.{StandsIn, cut_tokens}
-use Rattle.gos_joining.proofs.webs.CutLemmas as cuts
 use Rattle.gos_realises.specs.realises.Regular.{Pass, pass, way_in, way_out, is_request, is_open, ComesInTurn}
 use Rattle.gos_realises.specs.realises.Realises.{AllGround}
 use Rattle.gos_realises.proofs.realises.RingLemmas.{after}
 use Rattle.gos_realises.proofs.realises.ToldLemmas.{there_is}
 use Rattle.gos_realises.proofs.realises.InputLemmas.{import_serves, one_ground}
-use Rattle.gos_realises.proofs.realises.PassLemmas.{open_itself, open_otherwise, same_turn}
+use Rattle.gos_realises.proofs.realises.PassLemmas.{open_otherwise, same_turn}
 use Rattle.gos_nodes.proofs.windows.KeepingLemmas.{InTurn}
 use Rattle.gos_nodes.proofs.parallel.StepLemmas.{gate, Same, Local, fires, puts_out, takes_in}
 use Rattle.gos_nodes.proofs.parallel.LinkedLemmas.{Comes, first_comes, past_all, turn_append}
 use Rattle.gos_nodes.proofs.windows.AskedLemmas.{done_contact}
+use Rattle.gos_nodes.specs.blocks.Servers.{after_pass}
 use Rattle.gos_nodes.specs.blocks.Block.{Block, IsBlock}
 use Rattle.gos_nodes.proofs.blocks.RegionLemmas as region
-use Rattle.gos_nodes.proofs.blocks.StepLemmas.{Step, of_body, asked, told, starts, read, write, ended, lost, step}
+use Rattle.gos_nodes.proofs.blocks.ServerLemmas.{import_pass, same_after, finds_comes}
+use Rattle.gos_nodes.proofs.blocks.StepLemmas.{Supplies, Step, of_body, asked, told, starts, supplies, ended, lost, step, Sound, sound_on}
 
--- whether the part waits for the body
-abbrev pub runs_body : Phase → Bool
-runs_body Active = true
-runs_body ph = false
-
--- where the whole stands: whether its result is open, the part's phase, and what lies on the joint of the result
-pub data Stage (up : Bool) (ph : Phase) (ask ans : Option ℕ) : Type 0 where
-  idle : up ≡ false → ph ≡ Rest → ask ≡ None → ans ≡ None → Stage up ph ask ans
-  is_asked : up ≡ true → ph ≡ Rest → ask ≡ Some 0 → ans ≡ None → Stage up ph ask ans
-  works : up ≡ true → ph ≡ Active → ask ≡ None → ans ≡ None → Stage up ph ask ans
-  has_ended : (v : ℕ) → up ≡ true → ph ≡ Rest → ask ≡ None → ans ≡ Some v → Stage up ph ask ans
+-- where the whole stands: whether its result is open, the server's phase, and what lies on the joint of the result
+pub data Stage (runs : Phase → Bool) (up : Bool) (ph : Phase) (ask ans : Option ℕ) : Type 0 where
+  idle : up ≡ false → ph ≡ Rest → ask ≡ None → ans ≡ None → Stage runs up ph ask ans
+  is_asked : up ≡ true → ph ≡ Rest → ask ≡ Some 0 → ans ≡ None → Stage runs up ph ask ans
+  works : up ≡ true → runs ph ≡ true → ask ≡ None → ans ≡ None → Stage runs up ph ask ans
+  has_ended : (v : ℕ) → up ≡ true → ph ≡ Rest → ask ≡ None → ans ≡ Some v → Stage runs up ph ask ans
 
 -- an import of the body that isn't the variable is open where that of the whole is
 abbrev pub ImportsAgree : Block → List Pass → List Pass → Type 0
@@ -51,58 +44,46 @@ ImportsAgree b past own =
     → is_open past (ImportEnd j n) ≡ is_open own (ImportEnd i n)
 
 pub record Driven (b : Block) (past own : List Pass) (s : Tokens) : Type 0 where
-  pub result : is_open own (ResultEnd 0) ≡ runs_body (s.state b.own).phase
-  pub stage : Stage (is_open past (ResultEnd 0)) (s.state b.own).phase (gate s Request) (gate s Answer)
+  pub result : is_open own (ResultEnd 0) ≡ b.server.runs (s.state b.own).phase
+  pub variable : (h : ℕ) → is_open own (ImportEnd b.place h) ≡ b.server.opened (s.state b.own) h
+  pub stage : Stage b.server.runs (is_open past (ResultEnd 0)) (s.state b.own).phase (gate s Request) (gate s Answer)
 
 pub record Linked (b : Block) (past own : List Pass) (s : Tokens) : Type 0 where
   pub driven : Driven b past own s
-  pub variable : (h : ℕ) → is_open own (ImportEnd b.place h) ≡ false
   pub imports : ImportsAgree b past own
   pub others : (j n : ℕ) → b.cut.inner (ImportEnd j n) ≡ None → is_open past (ImportEnd j n) ≡ false
 
 -- what a stage tells
-module _ (up : Bool) (ph : Phase) (ask ans : Option ℕ) where
-  pub when_asking : Stage up ph ask ans → up ≡ false → (ph ≡ Rest) × (ask ≡ None) × (ans ≡ None)
+module _ (runs : Phase → Bool) (rests : runs Rest ≡ false) (up : Bool) (ph : Phase) (ask ans : Option ℕ) where
+  abbrev Here : Type 0
+  Here = Stage runs up ph ask ans
+
+  pub when_asking : Here → up ≡ false → (ph ≡ Rest) × (ask ≡ None) × (ans ≡ None)
   when_asking (idle shut rest none empty) e = (rest, none, empty)
   when_asking (is_asked opened rest none empty) e = let bad : true ≡ false = sym opened ∙ e in absurd (cc bad)
   when_asking (works opened phase none empty) e = let bad : true ≡ false = sym opened ∙ e in absurd (cc bad)
   when_asking (has_ended v opened rest none empty) e = let bad : true ≡ false = sym opened ∙ e in absurd (cc bad)
 
-  pub when_told : (v : ℕ) → Stage up ph ask ans → ans ≡ Some v → (up ≡ true) × (ph ≡ Rest) × (ask ≡ None)
+  pub when_told : (v : ℕ) → Here → ans ≡ Some v → (up ≡ true) × (ph ≡ Rest) × (ask ≡ None)
   when_told v (idle shut rest none empty) e = let bad : None ≡ Some v = sym empty ∙ e in absurd (cc bad)
   when_told v (is_asked opened rest none empty) e = let bad : None ≡ Some v = sym empty ∙ e in absurd (cc bad)
   when_told v (works opened phase none empty) e = let bad : None ≡ Some v = sym empty ∙ e in absurd (cc bad)
   when_told v (has_ended n opened rest none here) e = (opened, rest, none)
 
-  pub when_starting : (v : ℕ) → Stage up ph ask ans → ask ≡ Some v → (up ≡ true) × (ph ≡ Rest) × (ans ≡ None)
+  pub when_starting : (v : ℕ) → Here → ask ≡ Some v → (up ≡ true) × (ph ≡ Rest) × (ans ≡ None)
   when_starting v (idle shut rest none empty) e = let bad : None ≡ Some v = sym none ∙ e in absurd (cc bad)
   when_starting v (is_asked opened rest some empty) e = (opened, rest, empty)
   when_starting v (works opened phase none empty) e = let bad : None ≡ Some v = sym none ∙ e in absurd (cc bad)
   when_starting v (has_ended n opened rest none here) e = let bad : None ≡ Some v = sym none ∙ e in absurd (cc bad)
 
-  pub when_working : Stage up ph ask ans → ph ≡ Active → (up ≡ true) × (ask ≡ None) × (ans ≡ None)
-  when_working (idle shut rest none empty) e = let bad : Rest ≡ Active = sym rest ∙ e in absurd (cc bad)
-  when_working (is_asked opened rest some empty) e = let bad : Rest ≡ Active = sym rest ∙ e in absurd (cc bad)
+  not_running : ph ≡ Rest → runs ph ≡ true → ⊥
+  not_running rest e = let bad : true ≡ false = sym e ∙ (ap runs rest ∙ rests) in cc bad
+
+  pub when_working : Here → runs ph ≡ true → (up ≡ true) × (ask ≡ None) × (ans ≡ None)
+  when_working (idle shut rest none empty) e = absurd (not_running rest e)
+  when_working (is_asked opened rest some empty) e = absurd (not_running rest e)
   when_working (works opened phase none empty) e = (opened, none, empty)
-  when_working (has_ended v opened rest none here) e = let bad : Rest ≡ Active = sym rest ∙ e in absurd (cc bad)
-
--- an answer closes all
-pub closed_after : (e c : End) (past : List Pass) → is_open past c ≡ false → is_open (pass e Answer ∷ past) c ≡ false
-closed_after e c past shut = by_test (same_end e c) refl
-  where
-    by_test : (t : Bool) → same_end e c ≡ t → is_open (pass e Answer ∷ past) c ≡ false
-    by_test true t = ap (λ (x : Bool). if x then false else is_open past c) t
-    by_test false t = ap (λ (x : Bool). if x then false else is_open past c) t ∙ shut
-
--- a handshake that is asked and answered at once
-pub twice_same : (e c : End) (past : List Pass) → is_open past e ≡ false → is_open (pass e Answer ∷ pass e Request ∷ past) c ≡ is_open past c
-twice_same e c past shut = by_test (same_end e c) refl
-  where
-    by_test : (t : Bool) → same_end e c ≡ t → is_open (pass e Answer ∷ pass e Request ∷ past) c ≡ is_open past c
-    by_test true t =
-        ap (λ (x : Bool). if x then false else (if x then true else is_open past c)) t
-        ∙ (sym shut ∙ ap (is_open past) (same_is e c t))
-    by_test false t = ap (λ (x : Bool). if x then false else (if x then true else is_open past c)) t
+  when_working (has_ended v opened rest none here) e = absurd (not_running rest e)
 
 module _ (r : Plan) (b : Block) (is : IsBlock r b) (literals : All LiteralFits r.parts) where
   -- what the body makes of an element
@@ -110,10 +91,9 @@ module _ (r : Plan) (b : Block) (is : IsBlock r b) (literals : All LiteralFits r
   seen x s t (of_body x' y s' t' local sees same) = y ∷ []
   seen x s t (asked v s' t' small unseen state ask ans) = []
   seen x s t (told v s' t' unseen state ans none ask) = []
-  seen x s t (starts v s' t' sees rest ask active none ans) = In (ResultEnd 0) 0 ∷ []
-  seen x s t (read v s' t' stands served active state gates) = Out (ImportEnd b.place 0) v ∷ In (ImportEnd b.place 0) (s'.state b.own).number ∷ []
-  seen x s t (write v s' t' stands served active state gates) = Out (ImportEnd b.place 1) v ∷ In (ImportEnd b.place 1) 0 ∷ []
-  seen x s t (ended v s' t' sees active rest ask ans) = Out (ResultEnd 0) v ∷ []
+  seen x s t (starts s' t' z) = In (ResultEnd 0) 0 ∷ []
+  seen x s t (supplies slot s' t' z) = Out (ImportEnd b.place z.serves.at) z.value ∷ In (ImportEnd b.place z.serves.back) (z.serves.number z.value) ∷ []
+  seen x s t (ended s' t' z) = Out (ResultEnd 0) z.value ∷ []
   seen x s t (lost j k v s' t' c there none unseen same) = []
 
   -- the ways of the results, and of the variable
@@ -129,8 +109,11 @@ module _ (r : Plan) (b : Block) (is : IsBlock r b) (literals : All LiteralFits r
   pub body_told : way_out (contact_at b.body (ResultEnd 0)) ≡ Answer
   body_told = ap way_out (region.result_there r b is)
 
-  pub variable_contact : (h : ℕ) → contact_at b.body (ImportEnd b.place h) ≡ slice_get (contacts_of (Var b.width)) h
-  variable_contact h = ap (λ (o : Option Imported). slice_get (contacts_of_import o) h) is.there ∙ ap (λ (t : Type'). slice_get (contacts_of t) h) is.type
+  pub way_supplied : (h : ℕ) (c : Contact) → slice_get (contacts_of b.server.supply) h ≡ Some c → way_out (contact_at b.body (ImportEnd b.place h)) ≡ way_taken c.role
+  way_supplied h c there = ap way_out (region.variable_contact r b is h ∙ there)
+
+  pub way_back : (h : ℕ) (c : Contact) → slice_get (contacts_of b.server.supply) h ≡ Some c → way_in (contact_at b.body (ImportEnd b.place h)) ≡ way_put c.role
+  way_back h c there = ap way_in (region.variable_contact r b is h ∙ there)
 
   pub inner_import : (i j k : ℕ) → StandsIn b.body (ImportEnd i k) → b.cut.outer (ImportEnd i k) ≡ ImportEnd j k → b.cut.inner (ImportEnd j k) ≡ Some (ImportEnd i k)
   inner_import i j k stands leads = ap b.cut.inner (sym leads) ∙ (is.cut.ports (ImportEnd i k) tt stands).1
@@ -139,24 +122,31 @@ module _ (r : Plan) (b : Block) (is : IsBlock r b) (literals : All LiteralFits r
   pub not_variable : (i j k : ℕ) → b.cut.outer (ImportEnd i k) ≡ ImportEnd j k → i ≢ b.place
   not_variable i j k leads same = let bad = sym (region.served_at r b is i k same) ∙ leads in cc bad
 
-  stage_at : (up : Bool) (ph c : Phase) (ask a ans e : Option ℕ) → c ≡ ph → a ≡ ask → e ≡ ans → Stage up ph ask ans → Stage up c a e
-  stage_at up ph c ask a ans e o h k stage =
-      subst (λ (x : Phase). Stage up x a e) (sym o) (subst (λ (x : Option ℕ). Stage up ph x e) (sym h) (subst (λ (x : Option ℕ). Stage up ph ask x) (sym k) stage))
+  abbrev StageOf : Bool → Phase → Option ℕ → Option ℕ → Type 0
+  StageOf up ph ask ans = Stage b.server.runs up ph ask ans
+
+  stage_at : (up : Bool) (ph c : Phase) (ask a ans e : Option ℕ) → b.server.runs c ≡ b.server.runs ph → (ph ≡ Rest → c ≡ Rest) → a ≡ ask → e ≡ ans → StageOf up ph ask ans
+      → StageOf up c a e
+  stage_at up ph c ask a ans e runs rests h k (idle shut rest none empty) = idle shut (rests rest) (h ∙ none) (k ∙ empty)
+  stage_at up ph c ask a ans e runs rests h k (is_asked opened rest some empty) = is_asked opened (rests rest) (h ∙ some) (k ∙ empty)
+  stage_at up ph c ask a ans e runs rests h k (works opened phase none empty) = works opened (runs ∙ phase) (h ∙ none) (k ∙ empty)
+  stage_at up ph c ask a ans e runs rests h k (has_ended v opened rest none some) = has_ended v opened (rests rest) (h ∙ none) (k ∙ some)
 
   driven_same : (past own : List Pass) (s t : Tokens) → Same b.own s t → Driven b past own s → Driven b past own t
   driven_same past own s t same driven =
       record {
-        result = driven.result ∙ ap (λ c. runs_body c.phase) (sym same.state);
+        result = driven.result ∙ ap (λ (c : State). b.server.runs c.phase) (sym same.state);
+        variable = λ h. driven.variable h ∙ ap (λ (c : State). b.server.opened c h) (sym same.state);
         stage =
             stage_at (is_open past (ResultEnd 0)) (s.state b.own).phase (t.state b.own).phase (gate s Request) (gate t Request) (gate s Answer) (gate t Answer)
-            (ap (λ c. c.phase) same.state) (same.gates Request) (same.gates Answer) driven.stage;
+            (ap (λ (c : State). b.server.runs c.phase) same.state) (λ rest. ap (λ (c : State). c.phase) same.state ∙ rest) (same.gates Request) (same.gates Answer)
+            driven.stage;
       }
 
   linked_same : (past own : List Pass) (s t : Tokens) → Same b.own s t → Linked b past own s → Linked b past own t
   linked_same past own s t same linked =
       record {
         driven = driven_same past own s t same linked.driven;
-        variable = linked.variable;
         imports = linked.imports;
         others = linked.others;
       }
@@ -168,13 +158,21 @@ module _ (r : Plan) (b : Block) (is : IsBlock r b) (literals : All LiteralFits r
       sym (λ m. same_end (leads m) (led m)) ∙ region.same_held r b is (ImportEnd i k) (ImportEnd a n) (inl stands) (inl stood)
 
   -- an import of the body is asked or answers
+  import_driven : (i j k : ℕ) (way : Direction) (past own : List Pass) (s : Tokens) → b.cut.outer (ImportEnd i k) ≡ ImportEnd j k → Driven b past own s
+      → Driven b (pass (ImportEnd j k) way ∷ past) (pass (ImportEnd i k) way ∷ own) s
+  import_driven i j k way past own s leads driven =
+      record {
+        result = driven.result;
+        variable = λ h.
+            open_otherwise (ImportEnd i k) (ImportEnd b.place h) way own (λ e. let same : i ≡ b.place = cc e in not_variable i j k leads same) ∙ driven.variable h;
+        stage = driven.stage;
+      }
+
   import_passed : (i j k : ℕ) (way : Direction) (past own : List Pass) (s : Tokens) → StandsIn b.body (ImportEnd i k)
       → b.cut.outer (ImportEnd i k) ≡ ImportEnd j k → Linked b past own s → Linked b (pass (ImportEnd j k) way ∷ past) (pass (ImportEnd i k) way ∷ own) s
   import_passed i j k way past own s stands leads linked =
       record {
-        driven = record { result = linked.driven.result; stage = linked.driven.stage };
-        variable = λ h.
-            open_otherwise (ImportEnd i k) (ImportEnd b.place h) way own (λ e. let same : i ≡ b.place = cc e in not_variable i j k leads same) ∙ linked.variable h;
+        driven = import_driven i j k way past own s leads linked.driven;
         imports = λ a c n apart stood led.
             λ m. if same_imports i j k a c n stands leads stood led m then is_request way else linked.imports a c n apart stood led m;
         others = λ c n none.
@@ -186,27 +184,76 @@ module _ (r : Plan) (b : Block) (is : IsBlock r b) (literals : All LiteralFits r
   pub ways : (i j k : ℕ) → StandsIn b.body (ImportEnd i k) → b.cut.outer (ImportEnd i k) ≡ ImportEnd j k → contact_at r (ImportEnd j k) ≡ contact_at b.body (ImportEnd i k)
   ways i j k stands leads = ap (contact_at r) (sym leads) ∙ is.cut.contacts (ImportEnd i k) tt stands
 
-  -- the variable is asked and answers at once
-  served_driven : (h : ℕ) (past own : List Pass) (s t : Tokens) → Driven b past own s → (t.state b.own).phase ≡ (s.state b.own).phase
-      → ((way : Direction) → gate t way ≡ gate s way) → Driven b past (pass (ImportEnd b.place h) Answer ∷ pass (ImportEnd b.place h) Request ∷ own) t
-  served_driven h past own s t driven phase gates =
-      record {
-        result = driven.result ∙ ap runs_body (sym phase);
-        stage =
-            stage_at (is_open past (ResultEnd 0)) (s.state b.own).phase (t.state b.own).phase (gate s Request) (gate t Request) (gate s Answer) (gate t Answer)
-            phase (gates Request) (gates Answer) driven.stage;
-      }
+  -- the server serves the variable: both passes
+  module _ (slot : Slot) (s t : Tokens) (z : Supplies r b slot s t) (own : List Pass) where
+    abbrev one : End
+    one = ImportEnd b.place z.serves.at
 
-  served_linked : (h : ℕ) (past own : List Pass) (s t : Tokens) → Linked b past own s → (t.state b.own).phase ≡ (s.state b.own).phase
-      → ((way : Direction) → gate t way ≡ gate s way) → Linked b past (pass (ImportEnd b.place h) Answer ∷ pass (ImportEnd b.place h) Request ∷ own) t
-  served_linked h past own s t linked phase gates =
-      record {
-        driven = served_driven h past own s t linked.driven phase gates;
-        variable = λ n. twice_same (ImportEnd b.place h) (ImportEnd b.place n) own (linked.variable h) ∙ linked.variable n;
-        imports = λ a c n apart stood led.
-            linked.imports a c n apart stood led ∙ sym (twice_same (ImportEnd b.place h) (ImportEnd a n) own (linked.variable h));
-        others = linked.others;
-      }
+    abbrev other : End
+    other = ImportEnd b.place z.serves.back
+
+    abbrev pub own_after : List Pass
+    own_after = pass other (way_in (contact_at b.body other)) ∷ pass one (way_out (contact_at b.body one)) ∷ own
+
+    out_is : way_out (contact_at b.body one) ≡ way_taken z.serves.taken.role
+    out_is = way_supplied z.serves.at z.serves.taken z.serves.at_there
+
+    in_is : way_in (contact_at b.body other) ≡ way_put z.serves.given.role
+    in_is = way_back z.serves.back z.serves.given z.serves.back_there
+
+    pub runs_on : b.server.runs (t.state b.own).phase ≡ b.server.runs (s.state b.own).phase
+    runs_on = ap (λ (c : State). b.server.runs c.phase) z.state ∙ (z.serves.stays z.value ∙ sym z.serves.running)
+
+    first_open : ((h : ℕ) → is_open own (ImportEnd b.place h) ≡ b.server.opened (s.state b.own) h) → (h : ℕ)
+        → is_open (pass one (way_out (contact_at b.body one)) ∷ own) (ImportEnd b.place h)
+        ≡ after_pass z.serves.at (way_taken z.serves.taken.role) (b.server.opened (s.state b.own)) h
+    first_open opened h =
+        import_pass b.place z.serves.at h (way_out (contact_at b.body one)) own
+        ∙ (ap (λ w. after_pass z.serves.at w (λ m. is_open own (ImportEnd b.place m)) h) out_is
+        ∙ same_after z.serves.at (way_taken z.serves.taken.role) (λ m. is_open own (ImportEnd b.place m)) (b.server.opened (s.state b.own)) opened h)
+
+    pub supplied_open : ((h : ℕ) → is_open own (ImportEnd b.place h) ≡ b.server.opened (s.state b.own) h) → (h : ℕ)
+        → is_open own_after (ImportEnd b.place h) ≡ b.server.opened (t.state b.own) h
+    supplied_open opened h =
+        let before = pass one (way_out (contact_at b.body one)) ∷ own in
+        import_pass b.place z.serves.back h (way_in (contact_at b.body other)) before
+        ∙ (ap (λ w. after_pass z.serves.back w (λ m. is_open before (ImportEnd b.place m)) h) in_is
+        ∙ (same_after z.serves.back (way_put z.serves.given.role) (λ m. is_open before (ImportEnd b.place m))
+        (after_pass z.serves.at (way_taken z.serves.taken.role) (b.server.opened (s.state b.own))) (first_open opened) h
+        ∙ (sym (z.serves.opened z.value h) ∙ ap (λ (c : State). b.server.opened c h) (sym z.state))))
+
+    -- the second comes in turn
+    pub supplied_turn : ((h : ℕ) → is_open own (ImportEnd b.place h) ≡ b.server.opened (s.state b.own) h)
+        → ComesInTurn (pass one (way_out (contact_at b.body one)) ∷ own) other (way_in (contact_at b.body other))
+    supplied_turn opened =
+        finds_comes (pass one (way_out (contact_at b.body one)) ∷ own) other (way_in (contact_at b.body other))
+        (first_open opened z.serves.back ∙ (z.serves.turn ∙ ap (λ w. not (is_request w)) (sym in_is)))
+
+    pub supplied_driven : (past : List Pass) → Driven b past own s → Driven b past own_after t
+    supplied_driven past driven =
+        record {
+          result = driven.result ∙ sym runs_on;
+          variable = supplied_open driven.variable;
+          stage =
+              let (up, none, empty) =
+              when_working b.server.runs is.server.rests (is_open past (ResultEnd 0)) (s.state b.own).phase (gate s Request) (gate s Answer) driven.stage z.serves.running in
+              works up (runs_on ∙ z.serves.running) (z.gates Request ∙ none) (z.gates Answer ∙ empty);
+        }
+
+    -- other imports are as they were
+    pub supplied_others : (i n : ℕ) → i ≢ b.place → is_open own_after (ImportEnd i n) ≡ is_open own (ImportEnd i n)
+    supplied_others i n apart =
+        open_otherwise other (ImportEnd i n) (way_in (contact_at b.body other)) (pass one (way_out (contact_at b.body one)) ∷ own)
+        (λ e. let same : b.place ≡ i = cc e in apart (sym same))
+        ∙ open_otherwise one (ImportEnd i n) (way_out (contact_at b.body one)) own (λ e. let same : b.place ≡ i = cc e in apart (sym same))
+
+    supplied_linked : (past : List Pass) → Linked b past own s → Linked b past own_after t
+    supplied_linked past linked =
+        record {
+          driven = supplied_driven past linked.driven;
+          imports = λ i j n apart stood led. linked.imports i j n apart stood led ∙ sym (supplied_others i n apart);
+          others = linked.others;
+        }
 
   pub record Led (past own : List Pass) (x : Element) (s t : Tokens) (z : Step r b x s t) : Type 0 where
     pub linked : Linked b (after r x past) (past_all b.body (seen x s t z) own) t
@@ -237,103 +284,89 @@ module _ (r : Plan) (b : Block) (is : IsBlock r b) (literals : All LiteralFits r
   pub asked_turn : (past : List Pass) → ComesInTurn past (ResultEnd 0) (way_in (contact_at r (ResultEnd 0))) → is_open past (ResultEnd 0) ≡ false
   asked_turn past turn = subst (λ w. ComesInTurn past (ResultEnd 0) w) way_asked turn
 
-  -- both passes of a served handshake
-  served_step : (h v n : ℕ) (past own : List Pass) (s t : Tokens) → way_out (contact_at b.body (ImportEnd b.place h)) ≡ Request
-      → way_in (contact_at b.body (ImportEnd b.place h)) ≡ Answer → Linked b past own s → (t.state b.own).phase ≡ (s.state b.own).phase
-      → ((way : Direction) → gate t way ≡ gate s way)
-      → Linked b past (past_all b.body (Out (ImportEnd b.place h) v ∷ In (ImportEnd b.place h) n ∷ []) own) t
-      × InTurn b.body own (Out (ImportEnd b.place h) v ∷ In (ImportEnd b.place h) n ∷ [])
-  served_step h v n past own s t asks answers linked phase gates = (
-    subst (λ w. Linked b past (pass (ImportEnd b.place h) (way_in (contact_at b.body (ImportEnd b.place h))) ∷ pass (ImportEnd b.place h) w ∷ own) t) (sym asks)
-        (subst (λ w. Linked b past (pass (ImportEnd b.place h) w ∷ pass (ImportEnd b.place h) Request ∷ own) t) (sym answers)
-        (served_linked h past own s t linked phase gates)),
-    (
-      subst (λ w. ComesInTurn (pass (ImportEnd b.place h) w ∷ own) (ImportEnd b.place h) (way_in (contact_at b.body (ImportEnd b.place h)))) (sym asks)
-          (subst (λ w. ComesInTurn (pass (ImportEnd b.place h) Request ∷ own) (ImportEnd b.place h) w) (sym answers) (open_itself (ImportEnd b.place h) Request own)),
-      tt,
-    ),
-  )
-
-  -- both passes, for the result
-  served_both : (h v n : ℕ) (past own : List Pass) (s t : Tokens) → way_out (contact_at b.body (ImportEnd b.place h)) ≡ Request
-      → way_in (contact_at b.body (ImportEnd b.place h)) ≡ Answer → Driven b past own s → (t.state b.own).phase ≡ (s.state b.own).phase
-      → ((way : Direction) → gate t way ≡ gate s way)
-      → Driven b past (past_all b.body (Out (ImportEnd b.place h) v ∷ In (ImportEnd b.place h) n ∷ []) own) t
-  served_both h v n past own s t asks answers driven phase gates =
-      subst (λ w. Driven b past (pass (ImportEnd b.place h) (way_in (contact_at b.body (ImportEnd b.place h))) ∷ pass (ImportEnd b.place h) w ∷ own) t) (sym asks)
-      (subst (λ w. Driven b past (pass (ImportEnd b.place h) w ∷ pass (ImportEnd b.place h) Request ∷ own) t) (sym answers)
-      (served_driven h past own s t driven phase gates))
-
   local_driven : (x y : Element) (s : Tokens) (past own : List Pass) → Local b.cut r b.body x y → Driven b past own s → Driven b (after r x past) (after b.body y own) s
   local_driven x y s past own (fires i j slot number) driven = driven
-  local_driven x y s past own (puts_out i j k v stands leads slices) driven = record { result = driven.result; stage = driven.stage }
-  local_driven x y s past own (takes_in i j k v stands leads slices) driven = record { result = driven.result; stage = driven.stage }
+  local_driven x y s past own (puts_out i j k v stands leads slices) driven =
+      let way = way_out (contact_at b.body (ImportEnd i k)) in
+      subst (λ o. Driven b (pass (ImportEnd j k) (way_out o) ∷ past) (pass (ImportEnd i k) way ∷ own) s) (sym (ways i j k stands leads))
+      (import_driven i j k way past own s leads driven)
+  local_driven x y s past own (takes_in i j k v stands leads slices) driven =
+      let way = way_in (contact_at b.body (ImportEnd i k)) in
+      subst (λ o. Driven b (pass (ImportEnd j k) (way_in o) ∷ past) (pass (ImportEnd i k) way ∷ own) s) (sym (ways i j k stands leads))
+      (import_driven i j k way past own s leads driven)
+
+  -- nothing is open of a server at rest
+  resting_shut : (s : Tokens) → (s.state b.own).phase ≡ Rest → (h : ℕ) → b.server.opened (s.state b.own) h ≡ false
+  resting_shut s rest h = is.server.closed (s.state b.own) h (ap b.server.runs rest ∙ is.server.rests)
 
   pub driven_step : (x : Element) (s t : Tokens) (z : Step r b x s t) (past own : List Pass) → Driven b past own s → Comes r past x
       → Driven b (after r x past) (past_all b.body (seen x s t z) own) t
   driven_step x s t (of_body x' y s' t' local sees same) past own driven comes = local_driven x' y t' past own local (driven_same past own s' t' same driven)
   driven_step x s t (asked v s' t' small unseen state ask ans) past own driven comes =
-      let (rest, none, empty) = when_asking (is_open past (ResultEnd 0)) (s'.state b.own).phase (gate s' Request) (gate s' Answer) driven.stage (asked_turn past comes) in
+      let (rest, none, empty) = when_asking b.server.runs is.server.rests (is_open past (ResultEnd 0)) (s'.state b.own).phase (gate s' Request) (gate s' Answer) driven.stage (asked_turn past comes) in
       subst (λ w. Driven b (pass (ResultEnd 0) w ∷ past) own t') (sym way_asked)
       record {
-        result = driven.result ∙ ap (λ c. runs_body c.phase) (sym state);
+        result = driven.result ∙ ap (λ (c : State). b.server.runs c.phase) (sym state);
+        variable = λ h. driven.variable h ∙ ap (λ (c : State). b.server.opened c h) (sym state);
         stage = is_asked refl (ap (λ c. c.phase) state ∙ rest) (ask ∙ ap (λ n. Some n) small) (ans ∙ empty);
       }
   driven_step x s t (told v s' t' unseen state ans none ask) past own driven comes =
-      let (opened, rest, empty) = when_told (is_open past (ResultEnd 0)) (s'.state b.own).phase (gate s' Request) (gate s' Answer) v driven.stage ans in
+      let (opened, rest, empty) = when_told b.server.runs is.server.rests (is_open past (ResultEnd 0)) (s'.state b.own).phase (gate s' Request) (gate s' Answer) v driven.stage ans in
       subst (λ w. Driven b (pass (ResultEnd 0) w ∷ past) own t') (sym way_told)
       record {
-        result = driven.result ∙ ap (λ c. runs_body c.phase) (sym state);
+        result = driven.result ∙ ap (λ (c : State). b.server.runs c.phase) (sym state);
+        variable = λ h. driven.variable h ∙ ap (λ (c : State). b.server.opened c h) (sym state);
         stage = idle refl (ap (λ c. c.phase) state ∙ rest) (ask ∙ empty) none;
       }
-  driven_step x s t (starts v s' t' sees rest ask active none ans) past own driven comes =
-      let (opened, also, empty) = when_starting (is_open past (ResultEnd 0)) (s'.state b.own).phase (gate s' Request) (gate s' Answer) v driven.stage ask in
+  driven_step x s t (starts s' t' z) past own driven comes =
+      let (opened, also, empty) = when_starting b.server.runs is.server.rests (is_open past (ResultEnd 0)) (s'.state b.own).phase (gate s' Request) (gate s' Answer) z.value driven.stage z.ask in
       subst (λ w. Driven b past (pass (ResultEnd 0) w ∷ own) t') (sym body_asked)
-      record { result = sym (ap (λ c. runs_body c.phase) active); stage = works opened (ap (λ c. c.phase) active) none (ans ∙ empty) }
-  driven_step x s t (read v s' t' stands served active state gates) past own driven comes =
-      served_both 0 v (s'.state b.own).number past own s' t' (ap way_out (variable_contact 0)) (ap way_in (variable_contact 0)) driven (ap (λ c. c.phase) state) gates
-  driven_step x s t (write v s' t' stands served active state gates) past own driven comes =
-      served_both 1 v 0 past own s' t' (ap way_out (variable_contact 1)) (ap way_in (variable_contact 1)) driven (ap (λ c. c.phase) state ∙ sym active) gates
-  driven_step x s t (ended v s' t' sees active rest ask ans) past own driven comes =
-      let (opened, none, empty) = when_working (is_open past (ResultEnd 0)) (s'.state b.own).phase (gate s' Request) (gate s' Answer) driven.stage active in
+      record {
+        result = sym z.runs;
+        variable = λ h. driven.variable h ∙ (resting_shut s' z.rest h ∙ sym (z.closed h));
+        stage = works opened z.runs z.none (z.ans ∙ empty);
+      }
+  driven_step x s t (supplies slot s' t' z) past own driven comes = supplied_driven slot s' t' z own past driven
+  driven_step x s t (ended s' t' z) past own driven comes =
+      let (opened, none, empty) = when_working b.server.runs is.server.rests (is_open past (ResultEnd 0)) (s'.state b.own).phase (gate s' Request) (gate s' Answer) driven.stage z.runs in
       subst (λ w. Driven b past (pass (ResultEnd 0) w ∷ own) t') (sym body_told)
-      record { result = sym (ap runs_body rest); stage = has_ended v opened rest (ask ∙ none) ans }
+      record {
+        result = sym (ap b.server.runs z.rest ∙ is.server.rests);
+        variable = λ h. driven.variable h ∙ (z.closed h ∙ sym (resting_shut t' z.rest h));
+        stage = has_ended z.value opened z.rest (z.ask ∙ none) z.ans;
+      }
   driven_step x s t (lost j k v s' t' c there none unseen same) past own driven comes =
-      let now = driven_same past own s' t' same driven in record { result = now.result; stage = now.stage }
+      let now = driven_same past own s' t' same driven in record { result = now.result; variable = now.variable; stage = now.stage }
 
   -- the list of the body
-  pub fits_on : (x : Element) (s t : Tokens) → AllFit r s → Does r x s t → AllFit r t
-  fits_on x s t fit does = all_stay_fit r (x ∷ []) s t is.cut.whole_right literals fit (t, does, refl)
-
-  abbrev pub body_list : (xs : List Element) (s t : Tokens) → AllFit r s → Runs r xs s t → List Element
-  body_list [] s t fit runs = []
-  body_list (x ∷ xs) s t fit (w, does, runs) = seen x s w (step r b is literals x s w fit does) ++ body_list xs w t (fits_on x s w fit does) runs
+  abbrev pub body_list : (xs : List Element) (s t : Tokens) → Sound r b s → Runs r xs s t → List Element
+  body_list [] s t sound runs = []
+  body_list (x ∷ xs) s t sound (w, does, runs) = seen x s w (step r b is literals x s w sound does) ++ body_list xs w t (sound_on r b is literals x s w sound does) runs
 
   pub seen_runs : (x : Element) (s w : Tokens) (z : Step r b x s w) (ys : List Element) (u : Tokens) → Runs b.body ys (cut_tokens b.cut b.body w) u
       → Runs b.body (seen x s w z ++ ys) (cut_tokens b.cut b.body s) u
   seen_runs x s w (of_body x' y s' t' local sees same) ys u runs = (cut_tokens b.cut b.body t', sees, runs)
   seen_runs x s w (asked v s' t' small unseen state ask ans) ys u runs = subst (λ (a : Tokens). Runs b.body ys a u) unseen runs
   seen_runs x s w (told v s' t' unseen state ans none ask) ys u runs = subst (λ (a : Tokens). Runs b.body ys a u) unseen runs
-  seen_runs x s w (starts v s' t' sees rest ask active none ans) ys u runs = (cut_tokens b.cut b.body t', sees, runs)
-  seen_runs x s w (read v s' t' stands served active state gates) ys u runs =
-      runs_then b.body (Out (ImportEnd b.place 0) v ∷ In (ImportEnd b.place 0) (s'.state b.own).number ∷ []) ys (cut_tokens b.cut b.body s')
-      (cut_tokens b.cut b.body t') u served runs
-  seen_runs x s w (write v s' t' stands served active state gates) ys u runs =
-      runs_then b.body (Out (ImportEnd b.place 1) v ∷ In (ImportEnd b.place 1) 0 ∷ []) ys (cut_tokens b.cut b.body s') (cut_tokens b.cut b.body t') u served runs
-  seen_runs x s w (ended v s' t' sees active rest ask ans) ys u runs = (cut_tokens b.cut b.body t', sees, runs)
+  seen_runs x s w (starts s' t' z) ys u runs = (cut_tokens b.cut b.body t', z.sees, runs)
+  seen_runs x s w (supplies slot s' t' z) ys u runs =
+      runs_then b.body (Out (ImportEnd b.place z.serves.at) z.value ∷ In (ImportEnd b.place z.serves.back) (z.serves.number z.value) ∷ []) ys (cut_tokens b.cut b.body s')
+      (cut_tokens b.cut b.body t') u z.served runs
+  seen_runs x s w (ended s' t' z) ys u runs = (cut_tokens b.cut b.body t', z.sees, runs)
   seen_runs x s w (lost j k v s' t' c there none unseen same) ys u runs = subst (λ (a : Tokens). Runs b.body ys a u) unseen runs
 
-  pub body_runs : (xs : List Element) (s t : Tokens) (fit : AllFit r s) (runs : Runs r xs s t)
-      → Runs b.body (body_list xs s t fit runs) (cut_tokens b.cut b.body s) (cut_tokens b.cut b.body t)
-  body_runs [] s t fit runs = ap (cut_tokens b.cut b.body) runs
-  body_runs (x ∷ xs) s t fit (w, does, runs) =
-      seen_runs x s w (step r b is literals x s w fit does) (body_list xs w t (fits_on x s w fit does) runs) (cut_tokens b.cut b.body t)
-      (body_runs xs w t (fits_on x s w fit does) runs)
+  pub body_runs : (xs : List Element) (s t : Tokens) (sound : Sound r b s) (runs : Runs r xs s t)
+      → Runs b.body (body_list xs s t sound runs) (cut_tokens b.cut b.body s) (cut_tokens b.cut b.body t)
+  body_runs [] s t sound runs = ap (cut_tokens b.cut b.body) runs
+  body_runs (x ∷ xs) s t sound (w, does, runs) =
+      seen_runs x s w (step r b is literals x s w sound does) (body_list xs w t (sound_on r b is literals x s w sound does) runs) (cut_tokens b.cut b.body t)
+      (body_runs xs w t (sound_on r b is literals x s w sound does) runs)
 
   pub driven_first : (s : Tokens) → IsIdle r s → Driven b [] [] s
   driven_first s rests =
       record {
-        result = sym (ap runs_body (rests.1 b.own));
+        result = sym (ap b.server.runs (rests.1 b.own) ∙ is.server.rests);
+        variable = λ h. sym (resting_shut s (rests.1 b.own) h);
         stage = idle refl (rests.1 b.own) (rests.0 Request (ResultEnd 0)) (rests.0 Answer (ResultEnd 0));
       }
 
@@ -341,7 +374,6 @@ module _ (r : Plan) (b : Block) (is : IsBlock r b) (literals : All LiteralFits r
   linked_first s rests =
       record {
         driven = driven_first s rests;
-        variable = λ h. refl;
         imports = λ i j n apart stands leads. refl;
         others = λ j n none. refl;
       }
@@ -365,7 +397,6 @@ module _ (r : Plan) (b : Block) (is : IsBlock r b) (literals : All LiteralFits r
           linked =
               record {
                 driven = driven_step x s' t' (asked v s' t' small unseen state ask ans) past own linked.driven comes;
-                variable = linked.variable;
                 imports = linked.imports;
                 others = linked.others;
               };
@@ -376,37 +407,28 @@ module _ (r : Plan) (b : Block) (is : IsBlock r b) (literals : All LiteralFits r
           linked =
               record {
                 driven = driven_step x s' t' (told v s' t' unseen state ans none ask) past own linked.driven comes;
-                variable = linked.variable;
                 imports = linked.imports;
                 others = linked.others;
               };
           turn = tt;
         }
-    linked_step x s t (starts v s' t' sees rest ask active none ans) past own linked comes =
+    linked_step x s t (starts s' t' z) past own linked comes =
         record {
           linked =
               record {
-                driven = driven_step x s' t' (starts v s' t' sees rest ask active none ans) past own linked.driven comes;
-                variable = linked.variable;
+                driven = driven_step x s' t' (starts s' t' z) past own linked.driven comes;
                 imports = linked.imports;
                 others = linked.others;
               };
-          turn = (subst (λ w. ComesInTurn own (ResultEnd 0) w) (sym body_asked) (linked.driven.result ∙ ap runs_body rest), tt);
+          turn = (subst (λ w. ComesInTurn own (ResultEnd 0) w) (sym body_asked) (linked.driven.result ∙ (ap b.server.runs z.rest ∙ is.server.rests)), tt);
         }
-    linked_step x s t (read v s' t' stands served active state gates) past own linked comes =
-        let (led, turn) =
-        served_step 0 v (s'.state b.own).number past own s' t' (ap way_out (variable_contact 0)) (ap way_in (variable_contact 0)) linked (ap (λ c. c.phase) state) gates in
-        record { linked = led; turn = turn }
-    linked_step x s t (write v s' t' stands served active state gates) past own linked comes =
-        let (led, turn) =
-        served_step 1 v 0 past own s' t' (ap way_out (variable_contact 1)) (ap way_in (variable_contact 1)) linked (ap (λ c. c.phase) state ∙ sym active) gates in
-        record { linked = led; turn = turn }
-    linked_step x s t (ended v s' t' sees active rest ask ans) past own linked comes =
+    linked_step x s t (supplies slot s' t' z) past own linked comes =
+        record { linked = supplied_linked slot s' t' z own past linked; turn = (supplied_turn slot s' t' z own linked.driven.variable, tt) }
+    linked_step x s t (ended s' t' z) past own linked comes =
         record {
           linked =
               record {
-                driven = driven_step x s' t' (ended v s' t' sees active rest ask ans) past own linked.driven comes;
-                variable = linked.variable;
+                driven = driven_step x s' t' (ended s' t' z) past own linked.driven comes;
                 imports = linked.imports;
                 others = linked.others;
               };
@@ -414,13 +436,13 @@ module _ (r : Plan) (b : Block) (is : IsBlock r b) (literals : All LiteralFits r
         }
     linked_step x s t (lost j k v s' t' c there none unseen same) past own linked comes = absurd (not_lost j k c past own s' there none linked comes)
 
-    pub list_in_turn : (xs : List Element) (s t : Tokens) (past own : List Pass) (fit : AllFit r s) (runs : Runs r xs s t) → Linked b past own s → InTurn r past xs
-        → InTurn b.body own (body_list xs s t fit runs)
-    list_in_turn [] s t past own fit runs linked turn = tt
-    list_in_turn (x ∷ xs) s t past own fit (w, does, runs) linked turn =
-        let z = step r b is literals x s w fit does in
-        let fit_on = fits_on x s w fit does in
+    pub list_in_turn : (xs : List Element) (s t : Tokens) (past own : List Pass) (sound : Sound r b s) (runs : Runs r xs s t) → Linked b past own s → InTurn r past xs
+        → InTurn b.body own (body_list xs s t sound runs)
+    list_in_turn [] s t past own sound runs linked turn = tt
+    list_in_turn (x ∷ xs) s t past own sound (w, does, runs) linked turn =
+        let z = step r b is literals x s w sound does in
+        let sound_now = sound_on r b is literals x s w sound does in
         let (comes, later) = first_comes r past x xs turn in
         let led = linked_step x s w z past own linked comes in
-        turn_append b.body own (seen x s w z) (body_list xs w t fit_on runs) led.turn
-        (list_in_turn xs w t (after r x past) (past_all b.body (seen x s w z) own) fit_on runs led.linked later)
+        turn_append b.body own (seen x s w z) (body_list xs w t sound_now runs) led.turn
+        (list_in_turn xs w t (after r x past) (past_all b.body (seen x s w z) own) sound_now runs led.linked later)

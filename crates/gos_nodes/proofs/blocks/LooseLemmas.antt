@@ -1,6 +1,7 @@
 -- An input at an end that stands in no joint, of an import of which the body has another end: it is the body's, and nothing comes in.
 use Rattle.std.specs.Prelude.{◌≡◌, ℕ, true, All, List, Some, None}
 use Rattle.std.proofs.Common.{sym, ap, subst, inl, inr, ◌∙◌}
+use Rattle.gos_plan.specs.Firing.{State}
 use Rattle.gos_plan.specs.Plans.{End, PartEnd, ImportEnd, ResultEnd, Plan, same_end}
 use Rattle.gos_plan.specs.Tokens.{Tokens, In, places_of, Does}
 use Rattle.gos_plan.specs.Orderly.{Open, with_open, ComesInOrder}
@@ -16,7 +17,6 @@ use Rattle.gos_nodes.proofs.parallel.StepLemmas.{Same}
 use Rattle.gos_nodes.proofs.parallel.OpenLemmas.{opened_so}
 use Rattle.gos_nodes.specs.blocks.Block.{Block, IsBlock}
 use Rattle.gos_nodes.proofs.blocks.RegionLemmas.{Held}
-use Rattle.gos_nodes.proofs.blocks.LinkedLemmas.{runs_body}
 use Rattle.gos_nodes.proofs.blocks.OpenLemmas.{OpenAgree, Lies, in_part, at_import, at_driver, lies}
 use Rattle.gos_nodes.proofs.blocks.OrderLemmas.{Opened}
 
@@ -50,6 +50,6 @@ module _ (r : Plan) (b : Block) (is : IsBlock r b) (k n : ℕ) (none : b.cut.inn
       record {
         agree = loose_agrees i own_none o lo opened.agree;
         result = opened.result;
-        waits = opened.waits ∙ ap (λ c. runs_body c.phase) (sym same.state);
+        waits = opened.waits ∙ ap (λ (c : State). b.server.runs c.phase) (sym same.state);
         fit = held.step r (In (ImportEnd k n) v) o (with_open (ImportEnd k n) true o) s w does comes opened.fit;
       }

@@ -4,21 +4,23 @@ use Rattle.std.proofs.Common.{arith, refl, sym, ap, subst, inl, ◌∙◌}
 use Rattle.gos_types.specs.Events.{Direction, Request, Answer}
 use Rattle.gos_types.proofs.BytesLemmas.{same_bytes_eq}
 use Rattle.gos_model.specs.Terms.{Name, Term, Import, New, Loc, Scope}
-use Rattle.gos_model.specs.Typing.{Imported, Typed}
+use Rattle.gos_types.specs.Types.{Var}
+use Rattle.gos_model.specs.Typing.{Imported, Typed, import_type}
 use Rattle.gos_model.specs.Substitution.{instantiate}
 use Rattle.gos_model.specs.Stores.{Store}
 use Rattle.gos_model.specs.Labels.{Given, Taken, Label, given, taken}
 use Rattle.gos_model.specs.Moves.{Program, Config, Idle, Running, Act, Computing, Showing, Answers, Moves, labels, Stalled}
 use Rattle.gos_model.proofs.MoveLemmas.{idle_is_stalled, no_moves}
+use Rattle.gos_plan.specs.Kinds as kinds
 use Rattle.gos_plan.specs.Kinds.{Contact, asks}
-use Rattle.gos_plan.specs.Firing.{Phase, Rest, Active, State, Req, Ans, Row, at}
+use Rattle.gos_plan.specs.Firing.{Phase, Rest, Active, State, Slot, Req, Ans, Row, at, row_for, rows}
 use Rattle.gos_plan.specs.Plans.{PartEnd, ImportEnd, ResultEnd, Plan, contact_at}
-use Rattle.gos_plan.specs.Tokens.{Tokens, Element, Fire, Out, In, held_at, token_at, with_token, firing_of, fired, Passes, Does, Runs, IsIdle, IsQuiet}
-use Rattle.gos_plan.specs.TokenBits.{LiteralFits, AllFit}
+use Rattle.gos_plan.specs.Tokens.{Tokens, Element, Fire, Out, In, places_of, held_at, token_at, with_token, firing_of, fired, Passes, Does, Runs, IsIdle, IsQuiet}
+use Rattle.gos_plan.specs.TokenBits.{LiteralFits}
 use Rattle.gos_plan.proofs.DecidedLemmas.{one_state}
 use Rattle.gos_nodes.specs.sessions.Sessions.{bits}
 use Rattle.gos_joining.specs.webs.Cutting.{StandsIn, cut_tokens}
-use Rattle.gos_realises.specs.realises.Regular.{Pass, way_in, way_out, is_open}
+use Rattle.gos_realises.specs.realises.Regular.{Pass, is_open}
 use Rattle.gos_realises.specs.realises.Matched.{port_if, event_number, shows, asks_on, GoesOn, Agrees, IsMatched, program_of}
 use Rattle.gos_realises.specs.realises.Realises.{AllGround, NamesDiffer}
 use Rattle.gos_realises.proofs.realises.RingLemmas.{after}
@@ -34,15 +36,16 @@ use Rattle.gos_nodes.proofs.parallel.LinkedLemmas.{Comes, first_comes, past_all}
 use Rattle.gos_nodes.proofs.parallel.QuietLemmas.{Neat, neat_step}
 use Rattle.gos_nodes.proofs.parallel.MoveLemmas.{AllTaken, inner_from, request_begins, answer_ends}
 use Rattle.gos_nodes.proofs.windows.AskedLemmas.{done_contact}
+use Rattle.gos_nodes.specs.blocks.Servers.{Server, run_of, begin_row, end_row, local_server}
 use Rattle.gos_nodes.specs.blocks.Block.{Block, IsBlock}
-use Rattle.gos_nodes.proofs.blocks.DriverLemmas.{begin_row, end_row}
+use Rattle.gos_nodes.proofs.blocks.DriverLemmas as drivers
+use Rattle.gos_nodes.proofs.blocks.DriverLemmas.{LocalServes, is_read, is_write, local_begins, local_active, local_serves}
 use Rattle.gos_nodes.proofs.blocks.RegionLemmas as region
-use Rattle.gos_nodes.proofs.blocks.StepLemmas.{Step, of_body, asked, told, starts, read, write, ended, lost, Served, step, gate_at_result, gate_at_part}
-use Rattle.gos_nodes.proofs.blocks.LinkedLemmas.{Linked, when_asking, seen, way_asked, way_told, body_told, variable_contact, not_variable, ways, asked_turn, not_lost, linked_step, fits_on, body_list}
+use Rattle.gos_nodes.proofs.blocks.StepLemmas.{Supplies, Step, of_body, asked, told, starts, supplies, ended, lost, Served, step, Sound, sound_on, gate_at_result, gate_at_part, firing_own}
+use Rattle.gos_nodes.proofs.blocks.LinkedLemmas.{Linked, when_asking, seen, not_variable, asked_turn, not_lost, linked_step, body_list}
 use Rattle.gos_nodes.proofs.blocks.OutputLemmas.{import_real}
 use Rattle.gos_nodes.proofs.blocks.OpenLemmas.{firing_same}
-use Rattle.gos_nodes.proofs.blocks.OrderLemmas.{local_firing}
-use Rattle.gos_nodes.proofs.blocks.QuietLemmas.{body_quiet, whole_idle}
+use Rattle.gos_nodes.proofs.blocks.QuietLemmas.{local_firing, body_quiet, whole_idle}
 use Rattle.gos_nodes.proofs.blocks.IdleLemmas.{Came, came_on}
 use Rattle.gos_nodes.proofs.blocks.ImportLemmas.{wide_imports, body_among, variable_typed, others_same, variable_new}
 use Rattle.gos_nodes.proofs.blocks.InsideLemmas.{home_store, AllOthers, Inside, inside_moves, silent_moves, reads, writes, leaves, inside_waits, begins, first_step}
@@ -53,26 +56,30 @@ others_taken y (l ∷ ls) apart = (apart.0, others_taken y ls apart.2)
 
 module _
     (r : Plan) (b : Block) (is : IsBlock r b) (literals : All LiteralFits r.parts) (ground : AllGround r.imports) (differ : NamesDiffer r.imports)
-    (names : NamesDiffer b.body.imports) (m : Term) (typed : Typed r.imports [] (New b.width m) r.outcome)
+    (names : NamesDiffer b.body.imports) (width : ℕ) (local : b.server ≡ local_server width (bits r.outcome)) (m : Term)
+    (typed : Typed r.imports [] (New width m) r.outcome)
     (source : Typed b.body.imports [] (instantiate m (Import b.variable.name)) b.body.outcome) where
   abbrev on_body : Program
   on_body = program_of b.body (instantiate m (Import b.variable.name))
 
   abbrev on_whole : Program
-  on_whole = program_of r (New b.width m)
+  on_whole = program_of r (New width m)
 
   abbrev on_wide : Program
   on_wide = record { imports = wide_imports r b is differ; body = Import b.variable.name }
 
+  var_typed : import_type on_wide.imports b.variable.name ≡ Some (Var width)
+  var_typed = variable_typed r b is differ (Var width) (ap (λ (a : Server). a.supply) local)
+
   -- the body within the block, whose variable has number k
   abbrev Within : ℕ → Config → Config → Type 0
   Within k inner c =
-      Inside on_body on_wide on_whole b.variable.name b.width (body_among r b is differ) (variable_typed r b is differ) (others_same r b is differ) k 0 inner c
+      Inside on_body on_wide on_whole b.variable.name width (body_among r b is differ) var_typed (others_same r b is differ) k 0 inner c
 
   -- how the whole stands with its body, by the part's phase and number, and by what lies on the joint of the result
   data Stand (ph : Phase) (k : ℕ) (ask ans : Option ℕ) (inner c : Config) : Type 0 where
     rests : ph ≡ Rest → ask ≡ None → ans ≡ None → inner ≡ Idle → c ≡ Idle → Stand ph k ask ans inner c
-    waits : ph ≡ Rest → ask ≡ Some 0 → ans ≡ None → inner ≡ Idle → c ≡ Running (New b.width m) [] → Stand ph k ask ans inner c
+    waits : ph ≡ Rest → ask ≡ Some 0 → ans ≡ None → inner ≡ Idle → c ≡ Running (New width m) [] → Stand ph k ask ans inner c
     works : ph ≡ Active → ask ≡ None → ans ≡ None → Within k inner c → Stand ph k ask ans inner c
     is_done :
         (v : ℕ) (last : Term) (x : Store) → ph ≡ Rest → ask ≡ None → ans ≡ Some v → inner ≡ Idle → c ≡ Running last x → Answers (given 1 v) last
@@ -84,17 +91,25 @@ module _
   knows : (t : Term) (v : Store) → Came on_body (Running t v) → Knows b.body.imports t
   knows t v (acts, moves) = runs_known on_body acts t v (sources_known b.body.imports [] (instantiate m (Import b.variable.name)) b.body.outcome source) moves
 
+  -- it is run at its third handshake
+  gate_at_run : places_of r (PartEnd b.own 3) ≡ Some (ResultEnd 0)
+  gate_at_run = ap (λ (a : Server). places_of r (PartEnd b.own (run_of a))) (sym local) ∙ gate_at_part r b is
+
+  firing_in : (slot : Slot) (row : Row) (ph : Phase) (s : Tokens) → (s.state b.own).phase ≡ ph
+      → row_for slot (rows (kinds.Local width (bits r.outcome)) ph (s.state b.own).number) ≡ Some row → firing_of (slice_get r.parts b.own) (s.state b.own) slot ≡ Some row
+  firing_in = local_firing r b is literals width local
+
   -- where nothing is possible the whole can only wait
   whole_waits : (s : Tokens) (inner c : Config) → Stood s inner c → IsQuiet r s → Agrees b.body on_body (cut_tokens b.cut b.body s) inner → Came on_body inner
       → Stalled on_whole c
   whole_waits s inner c (rests rest none empty inner_is is_idle) quiet agrees came = subst (Stalled on_whole) (sym is_idle) (idle_is_stalled on_whole)
   whole_waits s inner c (waits rest some empty inner_is is_body) quiet agrees came =
-      absurd (quiet.0 b.own (Req 3) (fired r b.own begin_row 0 s)
-      (0, begin_row, ap (held_at s Request) (gate_at_part r b is) ∙ some, local_firing r b is literals (Req 3) begin_row Rest s rest refl, refl))
+      absurd (quiet.0 b.own (Req 3) (fired r b.own drivers.begin_row 0 s)
+      (0, drivers.begin_row, ap (held_at s Request) gate_at_run ∙ some, firing_in (Req 3) drivers.begin_row Rest s rest refl, refl))
   whole_waits s inner c (works active none empty i) quiet agrees came =
-      inside_waits on_body on_wide on_whole b.variable.name b.width (body_among r b is differ) (variable_typed r b is differ) (others_same r b is differ)
+      inside_waits on_body on_wide on_whole b.variable.name width (body_among r b is differ) var_typed (others_same r b is differ)
       (s.state b.own).number inner c i (knows i.term i.store (subst (Came on_body) i.own_is came))
-      (agrees.0 (body_quiet r b is literals s quiet active))
+      (agrees.0 (body_quiet r b is literals width local s quiet active))
   whole_waits s inner c (is_done v last x rest none some inner_is is_last answers) quiet agrees came =
       let contact : contact_at r (ResultEnd 0) ≡ Some (asks 0 (bits r.outcome)) = done_contact r.outcome is.done in
       let next = with_token r (ResultEnd 0) Answer None s in
@@ -111,7 +126,7 @@ module _
   whole_rests : (s : Tokens) (inner c : Config) → Stood s inner c → Neat r s → Agrees b.body on_body (cut_tokens b.cut b.body s) inner → c ≡ Idle → IsIdle r s
   whole_rests s inner c (rests rest none empty inner_is is_idle) neat agrees same =
       whole_idle r b is literals s neat (agrees.1 inner_is) rest none empty
-  whole_rests s inner c (waits rest some empty inner_is is_body) neat agrees same = absurd (running_not_idle (New b.width m) [] c is_body same)
+  whole_rests s inner c (waits rest some empty inner_is is_body) neat agrees same = absurd (running_not_idle (New width m) [] c is_body same)
   whole_rests s inner c (works active none empty i) neat agrees same = absurd (running_not_idle _ _ c i.whole_is same)
   whole_rests s inner c (is_done v last x rest none some inner_is is_last answers) neat agrees same = absurd (running_not_idle last x c is_last same)
 
@@ -119,9 +134,9 @@ module _
   local_shows : (x y : Element) → Local b.cut r b.body x y → shows b.body y ≡ shows r x
   local_shows x y (fires i j k number) = refl
   local_shows x y (puts_out i j k v stands leads slices) =
-      λ t. record { port = port_if (slices t); event = event_number (way_out (sym (ways r b is literals i j k stands leads) t)) k; value = v } ∷ []
+      λ t. record { port = port_if (slices t); event = event_number Request k; value = v } ∷ []
   local_shows x y (takes_in i j k v stands leads slices) =
-      λ t. record { port = port_if (slices t); event = event_number (way_in (sym (ways r b is literals i j k stands leads) t)) k; value = v } ∷ []
+      λ t. record { port = port_if (slices t); event = event_number Answer k; value = v } ∷ []
 
   -- it is not at the variable
   not_given : (o : Option Imported) (x : Imported) → o ≡ Some x → port_if o ≡ Given → ⊥
@@ -156,10 +171,14 @@ module _
   local_goes x y s acts (takes_in i j k v stands leads slices) goes = tt
 
   -- the part asks only when it begins
-  end_goes : (n : ℕ) (s : Tokens) (acts : List Act) → firing_of (slice_get r.parts b.own) (s.state b.own) (Ans 0) ≡ Some (end_row n) → GoesOn r s (Fire b.own (Ans 0)) acts
+  end_goes : (n : ℕ) (s : Tokens) (acts : List Act) → firing_of (slice_get r.parts b.own) (s.state b.own) (Ans 0) ≡ Some (drivers.end_row n) → GoesOn r s (Fire b.own (Ans 0)) acts
   end_goes n s acts by = λ v other lies firing asks.
-      let same : end_row n ≡ other = cc (by, firing) in
+      let same : drivers.end_row n ≡ other = cc (by, firing) in
       let clash : false ≡ true = ap (λ (y : Row). asks_on (y.puts v)) same ∙ asks in absurd (cc clash)
+
+  -- a request is taken
+  request_goes : (slot : Slot) (h : ℕ) → slot ≡ Req h → (s : Tokens) (acts : List Act) → GoesOn r s (Fire b.own slot) acts
+  request_goes slot h is_slot s acts = subst (λ (x : Slot). GoesOn r s (Fire b.own x) acts) (sym is_slot) tt
 
   -- the state of the part, where the joint of the result is as it was
   stand_same : (s w : Tokens) (inner c : Config) → w.state b.own ≡ s.state b.own → gate w Request ≡ gate s Request → gate w Answer ≡ gate s Answer
@@ -197,7 +216,7 @@ module _
     at_rest (works active none empty i) phase no_ask no_ans = absurd (clash_phase ph phase active)
     at_rest (is_done v last x rest none some inner_is is_last answers) phase no_ask no_ans = absurd (clash_none v ans no_ans some)
 
-    at_asked : (v : ℕ) → Here → ask ≡ Some v → (inner ≡ Idle) × (c ≡ Running (New b.width m) []) × (ans ≡ None)
+    at_asked : (v : ℕ) → Here → ask ≡ Some v → (inner ≡ Idle) × (c ≡ Running (New width m) []) × (ans ≡ None)
     at_asked v (rests rest none empty inner_is is_idle) some = absurd (clash_none v ask none some)
     at_asked v (waits rest here empty inner_is is_body) some = (inner_is, is_body, empty)
     at_asked v (works active none empty i) some = absurd (clash_none v ask none some)
@@ -229,27 +248,21 @@ module _
         (c, no_moves on_whole acts c stays, waits rest some empty idle_now is_body)
     stand_moves acts next apart own (works active none empty i) moves =
         let (e, made, also) =
-        inside_moves on_body on_wide on_whole b.variable.name b.width (body_among r b is differ) (variable_typed r b is differ) (others_same r b is differ) acts k 0
+        inside_moves on_body on_wide on_whole b.variable.name width (body_among r b is differ) var_typed (others_same r b is differ) acts k 0
         inner next c apart i moves in (e, made, works active none empty also)
     stand_moves acts next apart own (is_done v last x rest none some inner_is is_last answers) moves =
         let (stays, idle_now) = idle_inner on_body acts next own (subst (λ (x : Config). Moves on_body acts x next) inner_is moves) in
         (c, no_moves on_whole acts c stays, is_done v last x rest none some idle_now is_last answers)
 
   -- the labels at the variable, and the answer of the body
-  variable_out : (h v : ℕ) → shows b.body (Out (ImportEnd b.place h) v) ≡ taken b.variable.name (event_number (way_out (contact_at b.body (ImportEnd b.place h))) h) v ∷ []
-  variable_out h v = λ t. record { port = port_if (is.there t); event = event_number (way_out (contact_at b.body (ImportEnd b.place h))) h; value = v } ∷ []
+  request_label : (h v : ℕ) → shows b.body (Out (ImportEnd b.place h) v) ≡ taken b.variable.name (event_number Request h) v ∷ []
+  request_label h v = λ t. record { port = port_if (is.there t); event = event_number Request h; value = v } ∷ []
 
-  variable_in : (h v : ℕ) → shows b.body (In (ImportEnd b.place h) v) ≡ taken b.variable.name (event_number (way_in (contact_at b.body (ImportEnd b.place h))) h) v ∷ []
-  variable_in h v = λ t. record { port = port_if (is.there t); event = event_number (way_in (contact_at b.body (ImportEnd b.place h))) h; value = v } ∷ []
-
-  request_label : (h v : ℕ) → way_out (contact_at b.body (ImportEnd b.place h)) ≡ Request → shows b.body (Out (ImportEnd b.place h) v) ≡ taken b.variable.name (event_number Request h) v ∷ []
-  request_label h v way = variable_out h v ∙ ap (λ (d : Direction). taken b.variable.name (event_number d h) v ∷ []) way
-
-  answer_label : (h v : ℕ) → way_in (contact_at b.body (ImportEnd b.place h)) ≡ Answer → shows b.body (In (ImportEnd b.place h) v) ≡ taken b.variable.name (event_number Answer h) v ∷ []
-  answer_label h v way = variable_in h v ∙ ap (λ (d : Direction). taken b.variable.name (event_number d h) v ∷ []) way
+  answer_label : (h v : ℕ) → shows b.body (In (ImportEnd b.place h) v) ≡ taken b.variable.name (event_number Answer h) v ∷ []
+  answer_label h v = λ t. record { port = port_if (is.there t); event = event_number Answer h; value = v } ∷ []
 
   told_label : (v : ℕ) → shows b.body (Out (ResultEnd 0) v) ≡ given 1 v ∷ []
-  told_label v = λ t. record { port = Given; event = event_number (body_told r b is literals t) 0; value = v } ∷ []
+  told_label v = refl
 
   module _ (past own : List Pass) (inner c : Config) (ys : List Element) where
     abbrev Result : Element → Tokens → Tokens → Type 0
@@ -278,19 +291,19 @@ module _
 
     follow_starts : (s w : Tokens) (v : ℕ) → Does b.body (In (ResultEnd 0) 0) (cut_tokens b.cut b.body s) (cut_tokens b.cut b.body w) → gate s Request ≡ Some v
         → w.state b.own ≡ at Active 0 → gate w Request ≡ None → gate w Answer ≡ gate s Answer → Stood s inner c → Came on_body inner
-        → IsMatched b.body on_body (In (ResultEnd 0) 0 ∷ ys) (cut_tokens b.cut b.body s) inner → Result (Fire b.own (Req 3)) s w
+        → IsMatched b.body on_body (In (ResultEnd 0) 0 ∷ ys) (cut_tokens b.cut b.body s) inner → Result (Fire b.own (Req (run_of b.server))) s w
     follow_starts s w v does ask active none ans stood came (agrees, next) =
         let (inner_is, is_body, empty) = at_asked (s.state b.own).phase (s.state b.own).number (gate s Request) (gate s Answer) inner c v stood ask in
         let (acts, to, moves, shown, goes, rest) = next (cut_tokens b.cut b.body w) does in
         let one = request_begins on_body acts to _ (subst (λ (x : Config). Moves on_body acts x to) inner_is moves) shown in
         let first =
-        begins on_body on_wide on_whole b.variable.name b.width (body_among r b is differ) (variable_typed r b is differ) (others_same r b is differ) m r.outcome
+        begins on_body on_wide on_whole b.variable.name width (body_among r b is differ) var_typed (others_same r b is differ) m r.outcome
         b.body.outcome typed.2 (variable_new r b is differ) source in
-        let open_now : Config = Running (Scope 0 (instantiate m (Loc 0))) (home_store b.width 0) in
+        let open_now : Config = Running (Scope 0 (instantiate m (Loc 0))) (home_store width 0) in
         let more =
-        silent_moves on_body on_wide on_whole b.variable.name b.width (body_among r b is differ) (variable_typed r b is differ) (others_same r b is differ) one.acts 0 0
+        silent_moves on_body on_wide on_whole b.variable.name width (body_among r b is differ) var_typed (others_same r b is differ) one.acts 0 0
         (Running (instantiate m (Import b.variable.name)) []) to open_now one.silent first one.moves in
-        let made : Moves on_whole (Computing ∷ more.acts) (Running (New b.width m) []) more.to = (open_now, first_step on_whole b.width m, more.moves) in
+        let made : Moves on_whole (Computing ∷ more.acts) (Running (New width m) []) more.to = (open_now, first_step on_whole width m, more.moves) in
         record {
           acts = Computing ∷ more.acts;
           to = more.to;
@@ -305,56 +318,84 @@ module _
           matched = rest;
         }
 
-    follow_read : (s w : Tokens) (v : ℕ) → Served r b 0 v (s.state b.own).number s w → (s.state b.own).phase ≡ Active → w.state b.own ≡ s.state b.own
-        → ((way : Direction) → gate w way ≡ gate s way) → Stood s inner c → Came on_body inner
+    follow_read : (slot : Slot) (s w : Tokens) (v : ℕ) → slot ≡ Req 1 → Served r b 0 v 0 (s.state b.own).number s w → (s.state b.own).phase ≡ Active
+        → w.state b.own ≡ at Active (s.state b.own).number → ((way : Direction) → gate w way ≡ gate s way) → Stood s inner c → Came on_body inner
         → IsMatched b.body on_body (Out (ImportEnd b.place 0) v ∷ In (ImportEnd b.place 0) (s.state b.own).number ∷ ys) (cut_tokens b.cut b.body s) inner
-        → Result (Fire b.own (Req 1)) s w
-    follow_read s w v (s1, does, (s2, also, last)) active state gates stood came (agrees, next) =
+        → Result (Fire b.own slot) s w
+    follow_read slot s w v is_slot (s1, does, (s2, also, last)) active state gates stood came (agrees, next) =
         let (none, empty, i) = at_work (s.state b.own).phase (s.state b.own).number (gate s Request) (gate s Answer) inner c stood active in
         let (first, between, moves, shown, goes, (agrees', next')) = next s1 does in
         let (second, to, more, answered, goes', rest) = next' s2 also in
         let all =
-        reads on_body on_wide on_whole b.variable.name b.width (body_among r b is differ) (variable_typed r b is differ) (others_same r b is differ)
+        reads on_body on_wide on_whole b.variable.name width (body_among r b is differ) var_typed (others_same r b is differ)
         (s.state b.own).number v first second inner between to c
-        (shown ∙ request_label 0 v (ap way_out (variable_contact r b is literals 0)))
-        (answered ∙ answer_label 0 (s.state b.own).number (ap way_in (variable_contact r b is literals 0))) i moves more in
+        (shown ∙ request_label 0 v)
+        (answered ∙ answer_label 0 (s.state b.own).number) i moves more in
         record {
           acts = all.acts;
           to = all.to;
           inner_to = to;
           moves = all.moves;
           shown = all.silent;
-          goes_on = tt;
-          stood = stand_same s w to all.to state (gates Request) (gates Answer) (works active none empty all.inside);
-          came = came_on on_body second between to (came_on on_body first inner between came moves) more;
-          matched = subst (λ a. IsMatched b.body on_body ys a to) (sym last) rest;
-        }
-
-    follow_write : (s w : Tokens) (v : ℕ) → Served r b 1 v 0 s w → (s.state b.own).phase ≡ Active → w.state b.own ≡ at Active v
-        → ((way : Direction) → gate w way ≡ gate s way) → Stood s inner c → Came on_body inner
-        → IsMatched b.body on_body (Out (ImportEnd b.place 1) v ∷ In (ImportEnd b.place 1) 0 ∷ ys) (cut_tokens b.cut b.body s) inner → Result (Fire b.own (Req 2)) s w
-    follow_write s w v (s1, does, (s2, also, last)) active state gates stood came (agrees, next) =
-        let (none, empty, i) = at_work (s.state b.own).phase (s.state b.own).number (gate s Request) (gate s Answer) inner c stood active in
-        let (first, between, moves, shown, goes, (agrees', next')) = next s1 does in
-        let (second, to, more, answered, goes', rest) = next' s2 also in
-        let all =
-        writes on_body on_wide on_whole b.variable.name b.width (body_among r b is differ) (variable_typed r b is differ) (others_same r b is differ)
-        (s.state b.own).number v first second inner between to c
-        (shown ∙ request_label 1 v (ap way_out (variable_contact r b is literals 1)))
-        (answered ∙ answer_label 1 0 (ap way_in (variable_contact r b is literals 1))) i moves more in
-        record {
-          acts = all.acts;
-          to = all.to;
-          inner_to = to;
-          moves = all.moves;
-          shown = all.silent;
-          goes_on = tt;
+          goes_on = request_goes slot 1 is_slot s all.acts;
           stood =
               subst (λ (x : State). Stand x.phase x.number (gate w Request) (gate w Answer) to all.to) (sym state)
               (works refl (gates Request ∙ none) (gates Answer ∙ empty) all.inside);
           came = came_on on_body second between to (came_on on_body first inner between came moves) more;
           matched = subst (λ a. IsMatched b.body on_body ys a to) (sym last) rest;
         }
+
+    follow_write : (slot : Slot) (s w : Tokens) (v : ℕ) → slot ≡ Req 2 → Served r b 1 v 1 0 s w → (s.state b.own).phase ≡ Active → w.state b.own ≡ at Active v
+        → ((way : Direction) → gate w way ≡ gate s way) → Stood s inner c → Came on_body inner
+        → IsMatched b.body on_body (Out (ImportEnd b.place 1) v ∷ In (ImportEnd b.place 1) 0 ∷ ys) (cut_tokens b.cut b.body s) inner → Result (Fire b.own slot) s w
+    follow_write slot s w v is_slot (s1, does, (s2, also, last)) active state gates stood came (agrees, next) =
+        let (none, empty, i) = at_work (s.state b.own).phase (s.state b.own).number (gate s Request) (gate s Answer) inner c stood active in
+        let (first, between, moves, shown, goes, (agrees', next')) = next s1 does in
+        let (second, to, more, answered, goes', rest) = next' s2 also in
+        let all =
+        writes on_body on_wide on_whole b.variable.name width (body_among r b is differ) var_typed (others_same r b is differ)
+        (s.state b.own).number v first second inner between to c
+        (shown ∙ request_label 1 v)
+        (answered ∙ answer_label 1 0) i moves more in
+        record {
+          acts = all.acts;
+          to = all.to;
+          inner_to = to;
+          moves = all.moves;
+          shown = all.silent;
+          goes_on = request_goes slot 2 is_slot s all.acts;
+          stood =
+              subst (λ (x : State). Stand x.phase x.number (gate w Request) (gate w Answer) to all.to) (sym state)
+              (works refl (gates Request ∙ none) (gates Answer ∙ empty) all.inside);
+          came = came_on on_body second between to (came_on on_body first inner between came moves) more;
+          matched = subst (λ a. IsMatched b.body on_body ys a to) (sym last) rest;
+        }
+
+    -- what the server serves is a read or a write
+    module _ (slot : Slot) (s w : Tokens) (z : Supplies r b slot s w) (stood : Stood s inner c) (came : Came on_body inner) where
+      abbrev Fits : ℕ → ℕ → ℕ → Type 0
+      Fits h j n =
+          Served r b h z.value j n s w
+          × IsMatched b.body on_body (Out (ImportEnd b.place h) z.value ∷ In (ImportEnd b.place j) n ∷ ys) (cut_tokens b.cut b.body s) inner
+
+      at_those : (h j n : ℕ) → z.serves.at ≡ h → z.serves.back ≡ j → z.serves.number z.value ≡ n → Fits z.serves.at z.serves.back (z.serves.number z.value) → Fits h j n
+      at_those h j n first last number fits =
+          subst (λ (x : ℕ). Fits x j n) first (subst (λ (x : ℕ). Fits z.serves.at x n) last (subst (λ (x : ℕ). Fits z.serves.at z.serves.back x) number fits))
+
+      follow_supply : IsMatched b.body on_body (Out (ImportEnd b.place z.serves.at) z.value ∷ In (ImportEnd b.place z.serves.back) (z.serves.number z.value) ∷ ys) (cut_tokens b.cut b.body s) inner
+          → Result (Fire b.own slot) s w
+      follow_supply matched =
+          by_case
+          (local_serves b.server width (bits r.outcome) local (s.state b.own) slot z.row (firing_own r b is slot z.row s z.took) z.serves)
+        where
+          by_case : LocalServes b.server (s.state b.own) slot z.row z.serves → Result (Fire b.own slot) s w
+          by_case (is_read active is_slot first last number next) =
+              let n = (s.state b.own).number in
+              let fits = at_those 0 0 n first last (number z.value) (z.served, matched) in
+              follow_read slot s w z.value is_slot fits.0 active (z.state ∙ next z.value) z.gates stood came fits.1
+          by_case (is_write active is_slot first last number next) =
+              let fits = at_those 1 1 0 first last (number z.value) (z.served, matched) in
+              follow_write slot s w z.value is_slot fits.0 active (z.state ∙ next z.value) z.gates stood came fits.1
 
     follow_ended : (s w : Tokens) (v : ℕ) → Does b.body (Out (ResultEnd 0) v) (cut_tokens b.cut b.body s) (cut_tokens b.cut b.body w) → (s.state b.own).phase ≡ Active
         → (w.state b.own).phase ≡ Rest → gate w Request ≡ gate s Request → gate w Answer ≡ Some v → Stood s inner c → Came on_body inner
@@ -366,7 +407,7 @@ module _
         let e =
         answer_ends on_body acts i.term i.store to (given 1 v) refl (subst (λ (x : Config). Moves on_body acts x to) i.own_is moves) (shown ∙ told_label v) in
         let left =
-        leaves on_body on_wide on_whole b.variable.name b.width (body_among r b is differ) (variable_typed r b is differ) (others_same r b is differ) n i.term i.store
+        leaves on_body on_wide on_whole b.variable.name width (body_among r b is differ) var_typed (others_same r b is differ) n i.term i.store
         (given 1 v) to c (subst (λ (x : Config). Within n x c) i.own_is i) e in
         record {
           acts = left.acts;
@@ -374,7 +415,7 @@ module _
           inner_to = to;
           moves = left.moves;
           shown = left.silent;
-          goes_on = end_goes n s left.acts (local_firing r b is literals (Ans 0) (end_row n) Active s active refl);
+          goes_on = end_goes n s left.acts (firing_in (Ans 0) (drivers.end_row n) Active s active refl);
           stood = is_done v left.last left.store rest' (ask ∙ none) ans e.idle (refl {a = Running left.last left.store}) left.answers;
           came = came_on on_body acts inner to came moves;
           matched = rest;
@@ -385,17 +426,16 @@ module _
     follow x s w (of_body x' y s' w' local sees same) linked comes stood came matched = follow_body x' y s' w' local sees same stood came matched
     follow x s w (asked v s' w' small unseen state ask ans) linked comes stood came matched =
         let (rest, none, empty) =
-        when_asking (is_open past (ResultEnd 0)) (s'.state b.own).phase (gate s' Request) (gate s' Answer) linked.driven.stage (asked_turn r b is literals past comes) in
+        when_asking b.server.runs is.server.rests (is_open past (ResultEnd 0)) (s'.state b.own).phase (gate s' Request) (gate s' Answer) linked.driven.stage (asked_turn r b is literals past comes) in
         let (inner_is, is_idle) = at_rest (s'.state b.own).phase (s'.state b.own).number (gate s' Request) (gate s' Answer) inner c stood rest none empty in
-        let way = sym (way_asked r b is literals) in
         record {
           acts = Showing (given 0 0) ∷ [];
-          to = Running (New b.width m) [];
+          to = Running (New width m) [];
           inner_to = inner;
           moves =
-              subst (λ (x : Config). Moves on_whole (Showing (given 0 0) ∷ []) x (Running (New b.width m) [])) (sym is_idle)
-              (Running (New b.width m) [], (refl, refl), refl);
-          shown = λ t. record { port = Given; event = event_number (way t) 0; value = sym small t } ∷ [];
+              subst (λ (x : Config). Moves on_whole (Showing (given 0 0) ∷ []) x (Running (New width m) [])) (sym is_idle)
+              (Running (New width m) [], (refl, refl), refl);
+          shown = λ t. given 0 (sym small t) ∷ [];
           goes_on = tt;
           stood = waits (ap (λ q. q.phase) state ∙ rest) (ask ∙ ap (λ k. Some k) small) (ans ∙ empty) inner_is refl;
           came = came;
@@ -404,46 +444,51 @@ module _
     follow x s w (told v s' w' unseen state ans none ask) linked comes stood came matched =
         let (last, store, rest, empty, inner_is, is_last, answers) =
         at_done (s'.state b.own).phase (s'.state b.own).number (gate s' Request) (gate s' Answer) inner c v stood ans in
-        let way = sym (way_told r b is literals) in
         record {
           acts = Showing (given 1 v) ∷ [];
           to = Idle;
           inner_to = inner;
           moves =
               subst (λ (x : Config). Moves on_whole (Showing (given 1 v) ∷ []) x Idle) (sym is_last) (Idle, (0, last, refl, answers), refl);
-          shown = λ t. record { port = Given; event = event_number (way t) 0; value = v } ∷ [];
+          shown = refl;
           goes_on = tt;
           stood = rests (ap (λ q. q.phase) state ∙ rest) (ask ∙ empty) none inner_is refl;
           came = came;
           matched = subst (λ a. IsMatched b.body on_body ys a inner) (sym unseen) matched;
         }
-    follow x s w (starts v s' w' does rest ask active none ans) linked comes stood came matched =
-        follow_starts s' w' v does ask active none ans stood came matched
-    follow x s w (read v s' w' stands served active state gates) linked comes stood came matched =
-        follow_read s' w' v served active state gates stood came matched
-    follow x s w (write v s' w' stands served active state gates) linked comes stood came matched =
-        follow_write s' w' v served active state gates stood came matched
-    follow x s w (ended v s' w' does active rest ask ans) linked comes stood came matched = follow_ended s' w' v does active rest ask ans stood came matched
+    follow x s w (starts s' w' z) linked comes stood came matched =
+        let slot = Req (run_of b.server) in
+        let row = begin_row b.server z.next in
+        let begins_so =
+        local_begins b.server width (bits r.outcome) local (s'.state b.own) slot row (firing_own r b is slot row s' z.took) z.rest in
+        let active : w'.state b.own ≡ at Active 0 = z.state ∙ ap (λ (y : Row). y.next z.value) begins_so in
+        follow_starts s' w' z.value z.sees z.ask active z.none z.ans stood came matched
+    follow x s w (supplies slot s' w' z) linked comes stood came matched = follow_supply slot s' w' z stood came matched
+    follow x s w (ended s' w' z) linked comes stood came matched =
+        let row = end_row b.server z.next in
+        let active =
+        local_active b.server width (bits r.outcome) local (s'.state b.own) (Ans 0) row (firing_own r b is (Ans 0) row s' z.took) z.runs in
+        follow_ended s' w' z.value z.sees active z.rest z.ask z.ans stood came matched
     follow x s w (lost j k v s' w' t there none unseen same) linked comes stood came matched =
         absurd (not_lost r b is literals ground j k t past own s' there none linked comes)
 
-  matches : (xs : List Element) (s t : Tokens) (past own : List Pass) (fit : AllFit r s) (runs : Runs r xs s t) → Linked b past own s → InTurn r past xs → Neat r s
+  matches : (xs : List Element) (s t : Tokens) (past own : List Pass) (sound : Sound r b s) (runs : Runs r xs s t) → Linked b past own s → InTurn r past xs → Neat r s
       → (inner c : Config) → Stood s inner c → Came on_body inner
-      → IsMatched b.body on_body (body_list r b is literals xs s t fit runs) (cut_tokens b.cut b.body s) inner → IsMatched r on_whole xs s c
-  matches [] s t past own fit runs linked turn neat inner c stood came matched = (
+      → IsMatched b.body on_body (body_list r b is literals xs s t sound runs) (cut_tokens b.cut b.body s) inner → IsMatched r on_whole xs s c
+  matches [] s t past own sound runs linked turn neat inner c stood came matched = (
     λ quiet. whole_waits s inner c stood quiet matched came,
     λ same. whole_rests s inner c stood neat matched same,
   )
-  matches (x ∷ xs) s t past own fit (w, does, runs) linked turn neat inner c stood came matched =
-      let z = step r b is literals x s w fit does in
-      let fit_on = fits_on r b is literals x s w fit does in
+  matches (x ∷ xs) s t past own sound (w, does, runs) linked turn neat inner c stood came matched =
+      let z = step r b is literals x s w sound does in
+      let sound_now = sound_on r b is literals x s w sound does in
       let (comes, later) = first_comes r past x xs turn in
       let led = linked_step r b is literals ground x s w z past own linked comes in
-      let ys = body_list r b is literals xs w t fit_on runs in
+      let ys = body_list r b is literals xs w t sound_now runs in
       let agrees = matched_agrees b.body on_body (seen r b is literals x s w z ++ ys) (cut_tokens b.cut b.body s) inner matched in
       let one = follow past own inner c ys x s w z linked comes stood came matched in
       let more =
-      matches xs w t (after r x past) (past_all b.body (seen r b is literals x s w z) own) fit_on runs led.linked later (neat_step r x s w does neat) one.inner_to
+      matches xs w t (after r x past) (past_all b.body (seen r b is literals x s w z) own) sound_now runs led.linked later (neat_step r x s w does neat) one.inner_to
       one.to one.stood one.came one.matched in (
         (λ quiet. whole_waits s inner c stood quiet agrees came, λ same. whole_rests s inner c stood neat agrees same),
         λ u also. (
@@ -456,7 +501,7 @@ module _
         ),
       )
 
-  pub matches_first : (xs : List Element) (s t : Tokens) (fit : AllFit r s) (runs : Runs r xs s t) → IsIdle r s → Linked b [] [] s → InTurn r [] xs → Neat r s
-      → IsMatched b.body on_body (body_list r b is literals xs s t fit runs) (cut_tokens b.cut b.body s) Idle → IsMatched r on_whole xs s Idle
-  matches_first xs s t fit runs idle linked turn neat matched =
-      matches xs s t [] [] fit runs linked turn neat Idle Idle (rests (idle.1 b.own) (idle.0 _ _) (idle.0 _ _) refl refl) ([], refl) matched
+  pub matches_first : (xs : List Element) (s t : Tokens) (sound : Sound r b s) (runs : Runs r xs s t) → IsIdle r s → Linked b [] [] s → InTurn r [] xs → Neat r s
+      → IsMatched b.body on_body (body_list r b is literals xs s t sound runs) (cut_tokens b.cut b.body s) Idle → IsMatched r on_whole xs s Idle
+  matches_first xs s t sound runs idle linked turn neat matched =
+      matches xs s t [] [] sound runs linked turn neat Idle Idle (rests (idle.1 b.own) (idle.0 _ _) (idle.0 _ _) refl refl) ([], refl) matched

@@ -1,10 +1,9 @@
 -- The outputs of a block keep turns where those of its body do.
-use Rattle.std.specs.Prelude.{◌≡◌, ◌<◌, ℕ, true, List, ◌∷◌, ◌++◌, Option, Some, All, slice_get}
-use Rattle.std.proofs.Common.{refl, sym, ap, subst, ◌∙◌}
+use Rattle.std.specs.Prelude.{◌≡◌, ◌<◌, ℕ, List, ◌∷◌, ◌++◌, Option, Some, All, slice_get}
+use Rattle.std.proofs.Common.{sym, ap, subst, ◌∙◌}
 use Rattle.std.proofs.lemmas.Option.{slice_get_within}
 use Rattle.gos_types.specs.Events.{Direction, Request, Answer}
 use Rattle.gos_model.specs.Typing.{Imported}
-use Rattle.gos_plan.specs.Firing.{Phase, Active}
 use Rattle.gos_plan.specs.Plans.{End, ImportEnd, ResultEnd, Plan, contact_at, contacts_of_import}
 use Rattle.gos_plan.specs.Tokens.{Tokens, Element}
 use Rattle.gos_plan.specs.TokenBits.{LiteralFits}
@@ -17,13 +16,9 @@ use Rattle.gos_nodes.proofs.parallel.StepLemmas.{gate, Local, fires, puts_out, t
 use Rattle.gos_nodes.proofs.windows.MeetLemmas.{HasPorts, met_joined}
 use Rattle.gos_nodes.proofs.windows.TurnLemmas.{Turned}
 use Rattle.gos_nodes.specs.blocks.Block.{Block, IsBlock}
-use Rattle.gos_nodes.proofs.blocks.StepLemmas.{Step, of_body, asked, told, starts, read, write, ended, lost}
-use Rattle.gos_nodes.proofs.blocks.SharedLemmas.{Shared}
-use Rattle.gos_nodes.proofs.blocks.LinkedLemmas.{runs_body, Driven, when_told, seen, way_told, ways}
-
-pub is_active : (ph : Phase) → runs_body ph ≡ true → ph ≡ Active
-is_active Active e = refl
-is_active ph e = absurd (cc e)
+use Rattle.gos_nodes.proofs.blocks.StepLemmas.{Step, of_body, asked, told, starts, supplies, ended, lost}
+use Rattle.gos_nodes.proofs.blocks.SharedLemmas.{Shared, import_same}
+use Rattle.gos_nodes.proofs.blocks.LinkedLemmas.{Driven, when_told, seen, way_told, ways}
 
 back_turn : (past own : List Pass) (a c : End) (way : Direction) → is_open past a ≡ is_open own c → ComesInTurn own c way → ComesInTurn past a way
 back_turn past own a c Request same turn = same ∙ turn
@@ -46,7 +41,7 @@ module _ (r : Plan) (b : Block) (is : IsBlock r b) (literals : All LiteralFits r
   local_turn x y past own s zs (puts_out i j k v stands leads slices) shared keeps turned = (
     subst (λ o. ComesInTurn past (ImportEnd j k) (way_out o)) (sym (ways r b is literals i j k stands leads))
         (back_turn past own (ImportEnd j k) (ImportEnd i k) (way_out (contact_at b.body (ImportEnd i k)))
-        (sym (shared.imports.same i k j (met_joined r b.cut b.body i k j stands leads) leads)) keeps.0.0),
+        (sym (import_same r b is ports past own shared i k j (met_joined r b.cut b.body i k j stands leads) leads)) keeps.0.0),
     turned,
   )
   local_turn x y past own s zs (takes_in i j k v stands leads slices) shared keeps turned = tt
@@ -56,10 +51,9 @@ module _ (r : Plan) (b : Block) (is : IsBlock r b) (literals : All LiteralFits r
   output_turn x s t (of_body x' y s' t' local sees same) past own ys driven shared keeps turned = local_turn x' y past own s' ys local shared keeps turned
   output_turn x s t (asked v s' t' small unseen state ask ans) past own ys driven shared keeps turned = tt
   output_turn x s t (told v s' t' unseen state ans none ask) past own ys driven shared keeps turned =
-      let (up, rest, empty) = when_told (is_open past (ResultEnd 0)) (s'.state b.own).phase (gate s' Request) (gate s' Answer) v driven.stage ans in
+      let (up, rest, empty) = when_told b.server.runs is.server.rests (is_open past (ResultEnd 0)) (s'.state b.own).phase (gate s' Request) (gate s' Answer) v driven.stage ans in
       (subst (λ w. ComesInTurn past (ResultEnd 0) w) (sym (way_told r b is literals)) up, turned)
-  output_turn x s t (starts v s' t' sees rest ask active none ans) past own ys driven shared keeps turned = tt
-  output_turn x s t (read v s' t' stands served active state gates) past own ys driven shared keeps turned = tt
-  output_turn x s t (write v s' t' stands served active state gates) past own ys driven shared keeps turned = tt
-  output_turn x s t (ended v s' t' sees active rest ask ans) past own ys driven shared keeps turned = tt
+  output_turn x s t (starts s' t' z) past own ys driven shared keeps turned = tt
+  output_turn x s t (supplies slot s' t' z) past own ys driven shared keeps turned = tt
+  output_turn x s t (ended s' t' z) past own ys driven shared keeps turned = tt
   output_turn x s t (lost j k v s' t' c there none unseen same) past own ys driven shared keeps turned = tt

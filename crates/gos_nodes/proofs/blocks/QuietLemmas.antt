@@ -1,10 +1,11 @@
--- Where the whole is quiet the body is, and where the body and the part that serves its variable are idle the whole is.
+-- Where the whole is quiet the body of a local variable is, and where the body and its server are idle the whole is.
 use Rattle.std.specs.Prelude.{◌≡◌, ◌⊎◌, ◌≢◌, ℕ, zero, suc, Bool, true, false, Option, Some, None, All, nat_lt, length, slice_get, if◌then◌else◌}
 use Rattle.std.proofs.Common.{arith, refl, sym, ap, subst, inl, inr, ◌∙◌}
 use Rattle.std.proofs.lemmas.Option.{slice_get_within}
+use Rattle.gos_types.specs.Types.{Var}
 use Rattle.gos_types.specs.Events.{Direction, Request, Answer}
-use Rattle.gos_plan.specs.Kinds.{Part, Contact}
-use Rattle.gos_plan.specs.Firing.{Rest, Active, Slot, Req, Ans, Row, at}
+use Rattle.gos_plan.specs.Kinds.{Part, Contact, Local, contacts_of}
+use Rattle.gos_plan.specs.Firing.{Phase, Rest, Active, Slot, Req, Ans, Row, at, row_for, rows, firing}
 use Rattle.gos_plan.specs.Plans.{End, PartEnd, ImportEnd, ResultEnd, Plan, contact_at}
 use Rattle.gos_plan.specs.Tokens.{Tokens, Element, Fire, Out, places_of, token_at, with_token, end_of, way_of, way_taken, firing_of, fired, Passes, Does, IsIdle, IsQuiet}
 use Rattle.gos_plan.specs.TokenBits.{LiteralFits}
@@ -16,16 +17,18 @@ use Rattle.gos_joining.specs.webs.Cutting.{lies_at, StandsIn, asks_in, cut_token
 use Rattle.gos_joining.proofs.webs.MovedLemmas.{listed}
 use Rattle.gos_joining.proofs.webs.CutLemmas.{asks_one, asks_there}
 use Rattle.gos_realises.proofs.realises.InputLemmas.{result_asks}
+use Rattle.gos_nodes.specs.sessions.Sessions.{bits}
 use Rattle.gos_nodes.specs.parallel.Parallel.{IsJointOf, IsPartOf}
 use Rattle.gos_nodes.proofs.parallel.StepLemmas.{gate}
 use Rattle.gos_nodes.proofs.parallel.QuietLemmas.{Neat}
+use Rattle.gos_nodes.specs.blocks.Servers.{Server, run_of, local_server}
 use Rattle.gos_nodes.specs.blocks.Block.{Block, IsBlock}
+use Rattle.gos_nodes.proofs.blocks.DriverLemmas as drivers
 use Rattle.gos_nodes.proofs.blocks.DriverLemmas.{read_row, write_row, end_row}
 use Rattle.gos_nodes.proofs.blocks.RegionLemmas as region
 use Rattle.gos_nodes.proofs.blocks.RegionLemmas.{Which, variable, other, which, result_held}
-use Rattle.gos_nodes.proofs.blocks.LinkedLemmas.{variable_contact}
+use Rattle.gos_nodes.proofs.blocks.StepLemmas.{own_firing}
 use Rattle.gos_nodes.proofs.blocks.OpenLemmas.{firing_same}
-use Rattle.gos_nodes.proofs.blocks.OrderLemmas.{local_firing}
 
 module _ (r : Plan) (b : Block) (is : IsBlock r b) (literals : All LiteralFits r.parts) where
   some_contact : (x : Element) (o : Option Contact) (s t : Tokens) → Passes b.body x o s t → (y : Contact) × (o ≡ Some y)
@@ -65,63 +68,74 @@ module _ (r : Plan) (b : Block) (is : IsBlock r b) (literals : All LiteralFits r
       ap (λ (e : End). token_at r s e Request) (sym (is.served k)) ∙ lies_there b.place k Request v s lies in
       quiet.0 b.own (Req (suc k)) (fired r b.own row v s) (v, row, here, by, refl)
 
-  at_variable : (k v : ℕ) (s u : Tokens) → IsQuiet r s → (s.state b.own).phase ≡ Active
-      → Passes b.body (Out (ImportEnd b.place k) v) (contact_at b.body (ImportEnd b.place k)) (cut_tokens b.cut b.body s) u → ⊥
-  at_variable zero v s u quiet active passes =
-      let here =
-      subst (λ (o : Option Contact). Passes b.body (Out (ImportEnd b.place 0) v) o (cut_tokens b.cut b.body s) u)
-      (variable_contact r b is literals 0) passes in
-      let row = read_row (s.state b.own).number in
-      served_fires 0 v row s quiet (local_firing r b is literals (Req 1) row Active s active refl) here.0
-  at_variable (suc zero) v s u quiet active passes =
-      let here =
-      subst (λ (o : Option Contact). Passes b.body (Out (ImportEnd b.place 1) v) o (cut_tokens b.cut b.body s) u)
-      (variable_contact r b is literals 1) passes in
-      served_fires 1 v write_row s quiet (local_firing r b is literals (Req 2) write_row Active s active refl) here.0
-  at_variable (suc (suc k)) v s u quiet active passes =
-      subst (λ (o : Option Contact). Passes b.body (Out (ImportEnd b.place (suc (suc k))) v) o (cut_tokens b.cut b.body s) u)
-      (variable_contact r b is literals (suc (suc k))) passes
+  module _ (w : ℕ) (local : b.server ≡ local_server w (bits r.outcome)) where
+    -- the rows of a local variable
+    pub local_firing : (slot : Slot) (row : Row) (ph : Phase) (s : Tokens) → (s.state b.own).phase ≡ ph
+        → row_for slot (rows (Local w (bits r.outcome)) ph (s.state b.own).number) ≡ Some row → firing_of (slice_get r.parts b.own) (s.state b.own) slot ≡ Some row
+    local_firing slot row ph s phase known =
+        own_firing r b is slot row s
+        (ap (λ (a : Server). firing a.part (s.state b.own) slot) local ∙ drivers.local_firing w (bits r.outcome) (s.state b.own) slot row ph phase known)
 
-  pub body_quiet : (s : Tokens) → IsQuiet r s → (s.state b.own).phase ≡ Active → IsQuiet b.body (cut_tokens b.cut b.body s)
-  body_quiet s quiet active = (no_fire, no_out)
-    where
-      no_fire : (j : ℕ) (t : Slot) (u : Tokens) → Does b.body (Fire j t) (cut_tokens b.cut b.body s) u → ⊥
-      no_fire j t u (v, row, lies, by, leads) =
-          let (k, there) = firing_part (slice_get b.body.parts j) ((cut_tokens b.cut b.body s).state j) t row by in
-          quiet.0 (b.cut.part j) t (fired r (b.cut.part j) row v s) (
-            v,
-            row,
-            sym (region.held_token r b is (end_of j t) (inl (k, there)) s (way_of t)) ∙ lies,
-            sym (firing_same r b is j k there t s) ∙ by,
-            refl,
-          )
+    local_contact : (h : ℕ) → contact_at b.body (ImportEnd b.place h) ≡ slice_get (contacts_of (Var w)) h
+    local_contact h = region.variable_contact r b is h ∙ ap (λ (a : Server). slice_get (contacts_of a.supply) h) local
 
-      at_result : (v : ℕ) (u : Tokens) → Passes b.body (Out (ResultEnd 0) v) (contact_at b.body (ResultEnd 0)) (cut_tokens b.cut b.body s) u → ⊥
-      at_result v u passes =
-          let here =
-          subst (λ (o : Option Contact). Passes b.body (Out (ResultEnd 0) v) o (cut_tokens b.cut b.body s) u) (region.result_there r b is) passes in
-          let lies : token_at r s (PartEnd b.own 0) Answer ≡ Some v =
-          ap (λ (e : End). token_at r s e Answer) (sym is.result) ∙ (sym (region.held_token r b is (ResultEnd 0) (result_held b.body) s Answer) ∙ here.0) in
-          let row = end_row (s.state b.own).number in
-          quiet.0 b.own (Ans 0) (fired r b.own row v s) (v, row, lies, local_firing r b is literals (Ans 0) row Active s active refl, refl)
+    at_variable : (k v : ℕ) (s u : Tokens) → IsQuiet r s → (s.state b.own).phase ≡ Active
+        → Passes b.body (Out (ImportEnd b.place k) v) (contact_at b.body (ImportEnd b.place k)) (cut_tokens b.cut b.body s) u → ⊥
+    at_variable zero v s u quiet active passes =
+        let here =
+        subst (λ (o : Option Contact). Passes b.body (Out (ImportEnd b.place 0) v) o (cut_tokens b.cut b.body s) u)
+        (local_contact 0) passes in
+        let row = read_row (s.state b.own).number in
+        served_fires 0 v row s quiet (local_firing (Req 1) row Active s active refl) here.0
+    at_variable (suc zero) v s u quiet active passes =
+        let here =
+        subst (λ (o : Option Contact). Passes b.body (Out (ImportEnd b.place 1) v) o (cut_tokens b.cut b.body s) u)
+        (local_contact 1) passes in
+        served_fires 1 v write_row s quiet (local_firing (Req 2) write_row Active s active refl) here.0
+    at_variable (suc (suc k)) v s u quiet active passes =
+        subst (λ (o : Option Contact). Passes b.body (Out (ImportEnd b.place (suc (suc k))) v) o (cut_tokens b.cut b.body s) u)
+        (local_contact (suc (suc k))) passes
 
-      at_import : (i k v : ℕ) (u : Tokens) → Which b i
-          → Passes b.body (Out (ImportEnd i k) v) (contact_at b.body (ImportEnd i k)) (cut_tokens b.cut b.body s) u → ⊥
-      at_import i k v u (variable same) passes =
-          at_variable k v s u quiet active
-          (subst (λ n. Passes b.body (Out (ImportEnd n k) v) (contact_at b.body (ImportEnd n k)) (cut_tokens b.cut b.body s) u) same passes)
-      at_import i k v u (other apart) passes =
-          let (t, there) = some_contact (Out (ImportEnd i k) v) (contact_at b.body (ImportEnd i k)) (cut_tokens b.cut b.body s) u passes in
-          let here = subst (λ (o : Option Contact). Passes b.body (Out (ImportEnd i k) v) o (cut_tokens b.cut b.body s) u) there passes in
-          let (j, w, does) = import_out i k v s t apart there here.0 in quiet.1 (ImportEnd j k) v w does
+    pub body_quiet : (s : Tokens) → IsQuiet r s → (s.state b.own).phase ≡ Active → IsQuiet b.body (cut_tokens b.cut b.body s)
+    body_quiet s quiet active = (no_fire, no_out)
+      where
+        no_fire : (j : ℕ) (t : Slot) (u : Tokens) → Does b.body (Fire j t) (cut_tokens b.cut b.body s) u → ⊥
+        no_fire j t u (v, row, lies, by, leads) =
+            let (k, there) = firing_part (slice_get b.body.parts j) ((cut_tokens b.cut b.body s).state j) t row by in
+            quiet.0 (b.cut.part j) t (fired r (b.cut.part j) row v s) (
+              v,
+              row,
+              sym (region.held_token r b is (end_of j t) (inl (k, there)) s (way_of t)) ∙ lies,
+              sym (firing_same r b is j k there t s) ∙ by,
+              refl,
+            )
 
-      no_out : (e : End) (v : ℕ) (u : Tokens) → Does b.body (Out e v) (cut_tokens b.cut b.body s) u → ⊥
-      no_out (PartEnd i k) v u (port, passes) = port
-      no_out (ImportEnd i k) v u (port, passes) = at_import i k v u (which b i) passes
-      no_out (ResultEnd k) v u (port, passes) =
-          let (t, there) = some_contact (Out (ResultEnd k) v) (contact_at b.body (ResultEnd k)) (cut_tokens b.cut b.body s) u passes in
-          let (none, role) = result_asks b.body.outcome (region.body_done r b is) k t there in
-          at_result v u (subst (λ n. Passes b.body (Out (ResultEnd n) v) (contact_at b.body (ResultEnd n)) (cut_tokens b.cut b.body s) u) none passes)
+        at_result : (v : ℕ) (u : Tokens) → Passes b.body (Out (ResultEnd 0) v) (contact_at b.body (ResultEnd 0)) (cut_tokens b.cut b.body s) u → ⊥
+        at_result v u passes =
+            let here =
+            subst (λ (o : Option Contact). Passes b.body (Out (ResultEnd 0) v) o (cut_tokens b.cut b.body s) u) (region.result_there r b is) passes in
+            let lies : token_at r s (PartEnd b.own 0) Answer ≡ Some v =
+            ap (λ (e : End). token_at r s e Answer) (sym is.result) ∙ (sym (region.held_token r b is (ResultEnd 0) (result_held b.body) s Answer) ∙ here.0) in
+            let row = end_row (s.state b.own).number in
+            quiet.0 b.own (Ans 0) (fired r b.own row v s) (v, row, lies, local_firing (Ans 0) row Active s active refl, refl)
+
+        at_import : (i k v : ℕ) (u : Tokens) → Which b i
+            → Passes b.body (Out (ImportEnd i k) v) (contact_at b.body (ImportEnd i k)) (cut_tokens b.cut b.body s) u → ⊥
+        at_import i k v u (variable same) passes =
+            at_variable k v s u quiet active
+            (subst (λ n. Passes b.body (Out (ImportEnd n k) v) (contact_at b.body (ImportEnd n k)) (cut_tokens b.cut b.body s) u) same passes)
+        at_import i k v u (other apart) passes =
+            let (t, there) = some_contact (Out (ImportEnd i k) v) (contact_at b.body (ImportEnd i k)) (cut_tokens b.cut b.body s) u passes in
+            let here = subst (λ (o : Option Contact). Passes b.body (Out (ImportEnd i k) v) o (cut_tokens b.cut b.body s) u) there passes in
+            let (j, w, does) = import_out i k v s t apart there here.0 in quiet.1 (ImportEnd j k) v w does
+
+        no_out : (e : End) (v : ℕ) (u : Tokens) → Does b.body (Out e v) (cut_tokens b.cut b.body s) u → ⊥
+        no_out (PartEnd i k) v u (port, passes) = port
+        no_out (ImportEnd i k) v u (port, passes) = at_import i k v u (which b i) passes
+        no_out (ResultEnd k) v u (port, passes) =
+            let (t, there) = some_contact (Out (ResultEnd k) v) (contact_at b.body (ResultEnd k)) (cut_tokens b.cut b.body s) u passes in
+            let (none, role) = result_asks b.body.outcome (region.body_done r b is) k t there in
+            at_result v u (subst (λ n. Passes b.body (Out (ResultEnd n) v) (contact_at b.body (ResultEnd n)) (cut_tokens b.cut b.body s) u) none passes)
 
   -- a body that is idle leaves its places empty and its parts at rest
   joint_empty : (s : Tokens) → IsIdle b.body (cut_tokens b.cut b.body s) → (x y : End) → IsJointOf b.cut b.body x y → (way : Direction) → s.in_place way x ≡ None
@@ -146,7 +160,7 @@ module _ (r : Plan) (b : Block) (is : IsBlock r b) (literals : All LiteralFits r
       nothing Request = none
       nothing Answer = empty
 
-      by_joint : (way : Direction) (x y : End) → IsJointOf b.cut b.body x y ⊎ ((x ≡ ResultEnd 0) × (y ≡ PartEnd b.own 3)) → s.in_place way x ≡ None
+      by_joint : (way : Direction) (x y : End) → IsJointOf b.cut b.body x y ⊎ ((x ≡ ResultEnd 0) × (y ≡ PartEnd b.own (run_of b.server))) → s.in_place way x ≡ None
       by_joint way x y (inl one) = joint_empty s body x y one way
       by_joint way x y (inr (at, beyond)) = ap (s.in_place way) at ∙ nothing way
 

@@ -4,7 +4,7 @@
 -- sees a request that is lost.
 use Rattle.std.specs.Prelude.{◌≡◌, ◌≢◌, ◌⊎◌, ℕ, zero, suc, Bool, true, false, Option, Some, None, nat_eq, slice_get}
 use Rattle.std.proofs.Common.{arith, refl, sym, ap, subst, inl, inr, ◌∙◌}
-use Rattle.std.proofs.lemmas.Option.{none-some}
+use Rattle.std.proofs.lemmas.Option.{slice_get_within}
 use Rattle.gos_types.specs.Types.{Type', IsDone}
 use Rattle.gos_types.specs.Events.{Direction, Request, Answer}
 use Rattle.gos_types.proofs.BoolLemmas.{same_tests}
@@ -20,10 +20,12 @@ use Rattle.gos_nodes.specs.sessions.Sessions.{bits}
 use Rattle.gos_joining.specs.webs.Cutting.{lies_at, StandsIn, cut_tokens}
 use Rattle.gos_joining.proofs.webs.MovedLemmas.{listed}
 use Rattle.gos_joining.proofs.webs.CutLemmas.{name_by, Owns, port_own, port_lies, one_end, asker_asks, asker_own, place_there, no_place, token_cut, token_put, token_lost, state_lost, stands_own}
+use Rattle.gos_realises.specs.realises.Regular.{count}
 use Rattle.gos_realises.proofs.realises.InputLemmas.{result_asks}
 use Rattle.gos_joining.specs.webs.Webs.{joint}
 use Rattle.gos_nodes.specs.parallel.Parallel.{IsJointOf}
 use Rattle.gos_nodes.proofs.windows.AskedLemmas.{done_contact}
+use Rattle.gos_nodes.specs.blocks.Servers.{run_of}
 use Rattle.gos_nodes.specs.blocks.Block.{Block, IsBlock}
 
 -- the end of the body at which the part asks, and those at which it serves
@@ -145,26 +147,32 @@ module _ (r : Plan) (b : Block) (is : IsBlock r b) where
   pub result_alone : (e : End) → Owns b.body e → lies_at b.cut e ≡ PartEnd b.own 0 → e ≡ ResultEnd 0
   result_alone e own at = port_alone e own 0 at
 
-  -- a variable has no third handshake
-  no_third : StandsIn b.body (ImportEnd b.place 2) → ⊥
-  no_third (j, listing, stands) =
-      let place = stands_there b.body j (ImportEnd b.place 2) is.cut.right (contained b.body.joints j listing) stands in
-      let one = joined b.body (ImportEnd b.place 2) j.asking is.cut.right place in
-      let here : slice_get (contacts_of b.variable.ty) 2 ≡ Some one.here =
-      sym (ap (λ (o : Option Imported). slice_get (contacts_of_import o) 2) is.there) ∙ one.is_here in
-      none-some one.here (sym (ap (λ (t : Type'). slice_get (contacts_of t) 2) is.type) ∙ here)
+  -- the handshakes of the variable are those of the supply
+  pub variable_contact : (h : ℕ) → contact_at b.body (ImportEnd b.place h) ≡ slice_get (contacts_of b.server.supply) h
+  variable_contact h =
+      ap (λ (o : Option Imported). slice_get (contacts_of_import o) h) is.there
+      ∙ ap (λ (t : Type'). slice_get (contacts_of t) h) is.type
+
+  -- it has no more
+  no_more : StandsIn b.body (ImportEnd b.place (count b.server.supply)) → ⊥
+  no_more (j, listing, stands) =
+      let last = count b.server.supply in
+      let place = stands_there b.body j (ImportEnd b.place last) is.cut.right (contained b.body.joints j listing) stands in
+      let one = joined b.body (ImportEnd b.place last) j.asking is.cut.right place in
+      let low = slice_get_within (contacts_of b.server.supply) last one.here (sym (variable_contact last) ∙ one.is_here) in
+      omega (arith, low)
 
   -- no end of the body stands at the end by which the part is run
-  pub run_unseen : b.cut.inner (PartEnd b.own 3) ≡ None
-  run_unseen = by_inner (b.cut.inner (PartEnd b.own 3)) refl
+  pub run_unseen : b.cut.inner (PartEnd b.own (run_of b.server)) ≡ None
+  run_unseen = by_inner (b.cut.inner (PartEnd b.own (run_of b.server))) refl
     where
-      never : (e : End) → b.cut.inner (PartEnd b.own 3) ≡ Some e → ⊥
+      never : (e : End) → b.cut.inner (PartEnd b.own (run_of b.server)) ≡ Some e → ⊥
       never e at =
-          let (port', stands, leads) = is.cut.inners (PartEnd b.own 3) e at in
-          let third = port_alone e (port_own b.body e port' stands) 3 (port_lies b.cut e port' ∙ leads) in
-          no_third (subst (λ (x : End). StandsIn b.body x) third stands)
+          let (port', stands, leads) = is.cut.inners (PartEnd b.own (run_of b.server)) e at in
+          let last = port_alone e (port_own b.body e port' stands) (run_of b.server) (port_lies b.cut e port' ∙ leads) in
+          no_more (subst (λ (x : End). StandsIn b.body x) last stands)
 
-      by_inner : (o : Option End) → b.cut.inner (PartEnd b.own 3) ≡ o → o ≡ None
+      by_inner : (o : Option End) → b.cut.inner (PartEnd b.own (run_of b.server)) ≡ o → o ≡ None
       by_inner None at = refl
       by_inner (Some e) at = absurd (never e at)
 
@@ -191,14 +199,14 @@ module _ (r : Plan) (b : Block) (is : IsBlock r b) where
       (tt, subst (λ (o : Option Contact). Passes b.body (In (ResultEnd 0) 0) o (cut_tokens b.cut b.body s) (cut_tokens b.cut b.body t)) (sym result_there) (omega arith, at))
 
   -- an end of the part that stands in a joint is joined to the body's
-  pub joined_port : (h : ℕ) → (h ≡ 3 → ⊥) → (a : End) → places_of r (PartEnd b.own h) ≡ Some a → Owns b.body (port b h)
+  pub joined_port : (h : ℕ) → (h ≡ run_of b.server → ⊥) → (a : End) → places_of r (PartEnd b.own h) ≡ Some a → Owns b.body (port b h)
   joined_port h apart a named =
       elim (is.joints there.joint.asking there.joint.serving (listed r.joints there.joint there.is_in)) [
         | inl own ↦ of_joint own which
         | inr run ↦
             elim which [
               | inl one ↦ let bad : PartEnd b.own h ≡ ResultEnd 0 = one ∙ run.0 in absurd (cc bad)
-              | inr one ↦ let ends : PartEnd b.own h ≡ PartEnd b.own 3 = one ∙ run.1 in let shake : h ≡ 3 = cc ends in absurd (apart shake)
+              | inr one ↦ let ends : PartEnd b.own h ≡ PartEnd b.own (run_of b.server) = one ∙ run.1 in let shake : h ≡ run_of b.server = cc ends in absurd (apart shake)
             ]
       ]
     where

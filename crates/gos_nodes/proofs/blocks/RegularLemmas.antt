@@ -11,14 +11,14 @@ use Rattle.gos_types.specs.Events.{Request, Answer}
 use Rattle.gos_plan.specs.Kinds.{Contact}
 use Rattle.gos_plan.specs.Plans.{End, ImportEnd, ResultEnd, Plan, contact_at}
 use Rattle.gos_plan.specs.Tokens.{Tokens, Element, Out, In, places_of, way_put, Does, Runs, IsIdle}
-use Rattle.gos_plan.specs.TokenBits.{LiteralFits, AllFit}
+use Rattle.gos_plan.specs.TokenBits.{LiteralFits}
 use Rattle.gos_plan.specs.Orderly.{Open, none_open, with_open, ComesInOrder, AllWelcome, OrderlyFrom}
-use Rattle.gos_plan.proofs.TokenBitsLemmas.{idle_fits}
 use Rattle.gos_joining.specs.webs.Cutting.{cut_tokens}
 use Rattle.gos_joining.proofs.webs.IdleLemmas.{idle_is_cut}
 use Rattle.gos_realises.specs.realises.Regular.{Pass, pass, way_in, is_open, ComesInTurn, KeepsTurns, InputsKeepTurns, OutputsKeepTurns, IsRegular}
 use Rattle.gos_realises.proofs.realises.InputLemmas.{passed, InputTurns, first_turn, later_turns}
 use Rattle.gos_realises.proofs.realises.IdleLemmas.{idle_welcome}
+use Rattle.gos_realises.proofs.realises.PassLemmas.{open_otherwise}
 use Rattle.gos_realises.proofs.realises.RingLemmas.{after, OutputTurns}
 use Rattle.gos_sharing.proofs.behind.StepLemmas.{out_joined}
 use Rattle.gos_nodes.specs.windows.Nodes.{IsRestful}
@@ -35,9 +35,9 @@ use Rattle.gos_nodes.proofs.parallel.RegularLemmas.{comes_of_turn}
 use Rattle.gos_nodes.proofs.parallel.QuietLemmas.{Neat, neat_step, neat_first}
 use Rattle.gos_nodes.specs.blocks.Block.{Block, IsBlock, OpenBlockIsRegular, OpenBlockIsRestful, BlockIsRegular}
 use Rattle.gos_nodes.proofs.blocks.RegionLemmas.{body_done}
-use Rattle.gos_nodes.proofs.blocks.StepLemmas.{Step, of_body, asked, told, starts, read, write, ended, lost, IsSeen, step}
-use Rattle.gos_nodes.proofs.blocks.LinkedLemmas.{runs_body, Stage, when_told, Driven, seen, seen_runs, fits_on, driven_step, driven_first}
-use Rattle.gos_nodes.proofs.blocks.SharedLemmas.{body_ports, Shared, shared_first, shared_pass, whole_turned, shared_step, body_input, seen_inputs}
+use Rattle.gos_nodes.proofs.blocks.StepLemmas.{Step, of_body, asked, told, starts, supplies, ended, lost, IsSeen, step, Sound, sound_on, sound_first}
+use Rattle.gos_nodes.proofs.blocks.LinkedLemmas.{Stage, when_told, Driven, seen, seen_runs, driven_step, driven_first}
+use Rattle.gos_nodes.proofs.blocks.SharedLemmas.{body_ports, not_place, Shared, shared_first, shared_pass, whole_turned, shared_step, body_input, seen_inputs}
 use Rattle.gos_nodes.proofs.blocks.OutputLemmas.{output_turn}
 use Rattle.gos_nodes.proofs.blocks.OrderLemmas.{Opened, welcome_all, peel, Next, order_step, opened_first}
 use Rattle.gos_nodes.proofs.blocks.QuietLemmas.{whole_idle}
@@ -61,7 +61,7 @@ module _
     shared : SharedHere past (passed b.body [] hs)
     body : History b.body (Inside first) (Inside s) hs lo
     opened : Opened r b is literals past o lo s
-    fit : AllFit r s
+    sound : Sound r b s
     open_ports : Ports r is.cut.whole_right o past
 
   record After (x : Element) (s w : Tokens) (past : List Pass) (o : Open) : Type 0 where
@@ -87,14 +87,14 @@ module _
           now = now;
           lo = own_now;
           comes = comes;
-          welcome = welcome_all r b is literals w (after r x past) (passed b.body [] (hs ++ ys)) now own_now driven_on ready opened welcome;
+          welcome = welcome_all r b is literals w (after r x past) (passed b.body [] (hs ++ ys)) now own_now driven_on next.turned ready opened welcome;
           holds =
               record {
                 driven = driven_on;
                 shared = shared_on;
                 body = history;
                 opened = opened;
-                fit = fits_on r b is literals x s w holds.fit does;
+                sound = sound_on r b is literals x s w holds.sound does;
                 open_ports = ports_after r is.cut.whole_right x o now s w past does comes holds.open_ports;
               };
           output = output (whole_turned r b is ports (after r x past) (passed b.body [] (hs ++ ys)) w driven_on shared_on next.turned);
@@ -189,13 +189,21 @@ module _
         next : Grown b.body (Inside first) (Inside s) (Inside w) hs ys lo
         next =
             grow b.body regular (Inside first) (Inside s) (Inside w) hs ys lo body_idle holds.body (Inside w, own_does, refl)
-            (body_input r b is ports past (passed b.body [] hs) holds.shared holds.body.turned i n k (inr none) leads turn, tt)
+            (body_input r b is ports past (passed b.body [] hs) s holds.driven holds.shared holds.body.turned i n k (inr none) leads turn, tt)
 
         driven : Driven b whole_passed (past_all b.body ys (passed b.body [] hs)) w
         driven =
             let now =
             driven_step r b is literals (In (ImportEnd k n) v) s w (lost k n v s w c there not_inside unseen same) past (passed b.body [] hs) holds.driven turn.0 in
-            record { result = now.result; stage = now.stage }
+            let way = way_in (contact_at b.body (ImportEnd i n)) in
+            record {
+              result = now.result;
+              variable = λ h.
+                  open_otherwise (ImportEnd i n) (ImportEnd b.place h) way (passed b.body [] hs)
+                  (λ e. let place : i ≡ b.place = cc e in not_place r b is ports i n k leads place)
+                  ∙ now.variable h;
+              stage = now.stage;
+            }
 
         comes : ComesInOrder r (In (ImportEnd k n) v) s o opened_now
         comes = loose_comes r k n c there asks nowhere v s o (shut asks)
@@ -237,20 +245,15 @@ module _
       seen_step x s' w' past hs o lo holds does (asked v s' w' small unseen state ask ans) tt turn
   next_of x s w past hs o lo holds does turn (told v s' w' unseen state ans none ask) =
       seen_step x s' w' past hs o lo holds does (told v s' w' unseen state ans none ask) tt turn
-  next_of x s w past hs o lo holds does turn (starts v s' w' sees rest ask active none ans) =
-      seen_step x s' w' past hs o lo holds does (starts v s' w' sees rest ask active none ans) tt turn
-  next_of x s w past hs o lo holds does turn (read v s' w' stands served active state gates) =
-      seen_step x s' w' past hs o lo holds does (read v s' w' stands served active state gates) tt turn
-  next_of x s w past hs o lo holds does turn (write v s' w' stands served active state gates) =
-      seen_step x s' w' past hs o lo holds does (write v s' w' stands served active state gates) tt turn
-  next_of x s w past hs o lo holds does turn (ended v s' w' sees active rest ask ans) =
-      seen_step x s' w' past hs o lo holds does (ended v s' w' sees active rest ask ans) tt turn
+  next_of x s w past hs o lo holds does turn (starts s' w' z) = seen_step x s' w' past hs o lo holds does (starts s' w' z) tt turn
+  next_of x s w past hs o lo holds does turn (supplies slot s' w' z) = seen_step x s' w' past hs o lo holds does (supplies slot s' w' z) tt turn
+  next_of x s w past hs o lo holds does turn (ended s' w' z) = seen_step x s' w' past hs o lo holds does (ended s' w' z) tt turn
 
   along : (xs : List Element) (s t : Tokens) (past : List Pass) (hs : List Element) (o lo : Open) → Holds s past hs o lo → Runs r xs s t → InputsKeepTurns r past xs
       → ((u : Open) × (w : Tokens) × OrderlyFrom r xs o s u w) × OutputsKeepTurns r past xs
   along [] s t past hs o lo holds runs turns = ((o, s, (refl, refl)), tt)
   along (x ∷ xs) s t past hs o lo holds (w, does, runs) turns =
-      let one = next_of x s w past hs o lo holds does (first_turn r past x xs turns) (step r b is literals x s w holds.fit does) in
+      let one = next_of x s w past hs o lo holds does (first_turn r past x xs turns) (step r b is literals x s w holds.sound does) in
       let ((u, z, rest), outputs) = along xs w t (after r x past) one.hs one.now one.lo one.holds runs (later_turns r past x xs turns) in
       ((u, z, (one.now, w, does, one.comes, one.welcome, rest)), out_joined r past x xs one.output outputs)
 
@@ -262,7 +265,7 @@ module _
         body =
             at_first b.body (Inside first) (closed_turned b.body (body_done r b is) [] (λ k h. refl)) (idle_welcome b.body (Inside first) body_idle);
         opened = opened_first r b is literals first rests;
-        fit = idle_fits r first rests;
+        sound = sound_first r b is first rests;
         open_ports = λ e port up. absurd (cc up);
       }
 
@@ -291,7 +294,7 @@ module _
         does = subst (λ (y : Tokens). Does r x s y) (sym is_t) does;
       }
   reach (y ∷ ys) x s t past hs o lo holds neat (w, does, runs) turns =
-      let one = next_of y s w past hs o lo holds does (first_turn r past y (ys ++ x ∷ []) turns) (step r b is literals y s w holds.fit does) in
+      let one = next_of y s w past hs o lo holds does (first_turn r past y (ys ++ x ∷ []) turns) (step r b is literals y s w holds.sound does) in
       reach ys x w t (after r y past) one.hs one.now one.lo one.holds (neat_step r y s w does neat) runs (later_turns r past y (ys ++ x ∷ []) turns)
 
   -- the answer leads to rest
@@ -301,22 +304,21 @@ module _
   local_apart x y v (takes_in i j k n stands leads slices) is_out = cc is_out
 
   last_of : (x : Element) (s w : Tokens) → Step r b x s w → (v : ℕ) (past : List Pass) → x ≡ Out (ResultEnd 0) v
-      → Stage (is_open past (ResultEnd 0)) (s.state b.own).phase (gate s Request) (gate s Answer) → (runs_body (s.state b.own).phase ≡ false → IsIdle b.body (Inside s))
+      → Stage b.server.runs (is_open past (ResultEnd 0)) (s.state b.own).phase (gate s Request) (gate s Answer) → (b.server.runs (s.state b.own).phase ≡ false → IsIdle b.body (Inside s))
       → Neat r w → IsIdle r w
   last_of x s w (told n s' w' unseen state ans none ask) v past is_out stage idle neat =
-      let (opened, rest, empty) = when_told (is_open past (ResultEnd 0)) (s'.state b.own).phase (gate s' Request) (gate s' Answer) n stage ans in
-      whole_idle r b is literals w' neat (subst (IsIdle b.body) (sym unseen) (idle (ap runs_body rest))) (ap (λ c. c.phase) state ∙ rest) (ask ∙ empty) none
+      let (opened, rest, empty) = when_told b.server.runs is.server.rests (is_open past (ResultEnd 0)) (s'.state b.own).phase (gate s' Request) (gate s' Answer) n stage ans in
+      whole_idle r b is literals w' neat (subst (IsIdle b.body) (sym unseen) (idle (ap b.server.runs rest ∙ is.server.rests))) (ap (λ c. c.phase) state ∙ rest) (ask ∙ empty) none
   last_of x s w (of_body x' y s' w' local sees same) v past is_out stage idle neat = absurd (local_apart x' y v local is_out)
   last_of x s w (asked n s' w' small unseen state ask ans) v past is_out stage idle neat = absurd (cc is_out)
-  last_of x s w (starts n s' w' sees rest ask active none ans) v past is_out stage idle neat = absurd (cc is_out)
-  last_of x s w (read n s' w' stands served active state gates) v past is_out stage idle neat = absurd (cc is_out)
-  last_of x s w (write n s' w' stands served active state gates) v past is_out stage idle neat = absurd (cc is_out)
-  last_of x s w (ended n s' w' sees active rest ask ans) v past is_out stage idle neat = absurd (cc is_out)
+  last_of x s w (starts s' w' z) v past is_out stage idle neat = absurd (cc is_out)
+  last_of x s w (supplies slot s' w' z) v past is_out stage idle neat = absurd (cc is_out)
+  last_of x s w (ended s' w' z) v past is_out stage idle neat = absurd (cc is_out)
   last_of x s w (lost j k n s' w' c there none unseen same) v past is_out stage idle neat = absurd (cc is_out)
 
   last_rests : IsRestful b.body → (v : ℕ) (t : Tokens) → Reached (Out (ResultEnd 0) v) t → IsIdle r t
   last_rests restful v t there =
-      last_of (Out (ResultEnd 0) v) there.s t (step r b is literals (Out (ResultEnd 0) v) there.s t there.holds.fit there.does) v there.past refl there.holds.driven.stage
+      last_of (Out (ResultEnd 0) v) there.s t (step r b is literals (Out (ResultEnd 0) v) there.s t there.holds.sound there.does) v there.past refl there.holds.driven.stage
       (λ shut.
       closed_rests b.body there.hs (Inside first) (Inside there.s) (body_done r b is) regular restful body_idle there.holds.body.runs there.holds.body.inputs
       (there.holds.driven.result ∙ shut))

@@ -1,12 +1,14 @@
 -- The plan of `new x : 1 in skip`.
 use Rattle.std.specs.Prelude.{◌≡◌, ◌⊎◌, ℕ, zero, suc, [], ◌∷◌, Some, All, Contains, slice_get}
-use Rattle.std.proofs.Common.{arith, refl, sym, ap, subst, inl, inr}
+use Rattle.std.proofs.Common.{arith, refl, sym, ap, subst, inl, inr, ◌∙◌}
+use Rattle.gos_types.specs.declared.shakes.Role.TheVariants.{Serve, Ask}
+use Rattle.gos_types.specs.Types.{Var}
 use Rattle.std.proofs.lemmas.List.Elements.{All-nil, All-cons}
 use Rattle.std.proofs.lemmas.Option.{none-some, same_Some}
 use Rattle.gos_types.proofs.ListLemmas.{none_in_empty}
 use Rattle.gos_model.specs.Terms as terms
 use Rattle.gos_model.specs.Typing.{Imported}
-use Rattle.gos_plan.specs.Kinds.{Part, Skip, Local}
+use Rattle.gos_plan.specs.Kinds.{Part, Contact, Skip, Local, serves, contacts_of}
 use Rattle.gos_plan.specs.Plans.{End, PartEnd, ImportEnd, ResultEnd, Joint, contact_at, IsRight}
 use Rattle.gos_plan.specs.Tokens.{IsPortEnd}
 use Rattle.gos_plan.specs.TokenBits.{LiteralFits}
@@ -16,6 +18,7 @@ use Rattle.gos_joining.specs.webs.Cutting.{lies_at, IsInside, IsOutside, StandsI
 use Rattle.gos_joining.proofs.webs.SmallWebLemmas.{one_port}
 use Rattle.gos_nodes.specs.parallel.Parallel.{IsJointOf, IsPartOf}
 use Rattle.gos_nodes.specs.parallel.SmallParallel.{skip_number}
+use Rattle.gos_nodes.proofs.blocks.DriverLemmas.{local_is_server}
 use Rattle.gos_nodes.proofs.blocks.RealisesLemmas.{block_realises}
 use Rattle.gos_nodes.specs.blocks.SmallBlocks.{skip_block, one_bit, unused, new_skip, body_outer, body_inner, body_out, NewSkipIsBlock, NewSkipIsRealised, VariableIsNeeded, WidthIsNeeded, OtherPartIsNot}
 
@@ -88,18 +91,29 @@ whole_parts zero k is = inr refl
 whole_parts (suc zero) k is = inl (0, refl)
 whole_parts (suc (suc i)) k is = absurd (none-some k is)
 
+serves_not_asks : Serve ≡ Ask → ⊥
+serves_not_asks e = cc e
+
+-- a variable asks nothing
+none_asks : (n : ℕ) (c : Contact) → slice_get (contacts_of (Var 1)) n ≡ Some c → c.role ≡ Ask → ⊥
+none_asks zero c at asks = serves_not_asks (ap (λ (x : Contact). x.role) (same_Some (serves 0 1) c at) ∙ asks)
+none_asks (suc zero) c at asks = serves_not_asks (ap (λ (x : Contact). x.role) (same_Some (serves 1 0) c at) ∙ asks)
+none_asks (suc (suc n)) c at asks = none-some c at
+
 pub new_skip_is_block : NewSkipIsBlock
 new_skip_is_block =
     record {
       cut = body_is_cut;
       done = tt;
       outcome = refl;
+      server = local_is_server 1 0;
       own = refl;
       outside = refl;
       result = refl;
       there = refl;
       type = refl;
       served = λ h. refl;
+      heard = λ h n c stands at asks. absurd (none_asks n c at asks);
       imports = λ i h apart stands. absurd (result_is_no_import i h (one_port (ImportEnd i h) tt stands));
       others = one_import;
       fresh = λ i has. absurd (none_in_empty i has);
@@ -123,4 +137,4 @@ literals : All LiteralFits new_skip.parts
 literals = All-cons LiteralFits (Local 1 0) (Skip ∷ []) tt (All-cons LiteralFits Skip [] tt (All-nil LiteralFits))
 
 pub new_skip_is_realised : NewSkipIsRealised
-new_skip_is_realised body = block_realises new_skip skip_block terms.Skip new_skip_is_block literals tt tt (tt, (omega arith, omega arith), refl) body
+new_skip_is_realised body = block_realises new_skip skip_block 1 terms.Skip new_skip_is_block refl literals tt tt (tt, (omega arith, omega arith), refl) body

@@ -1,18 +1,22 @@
--- What an element of a block is: one of the body, or one of the part that serves its variable.
+-- What an element of a block is: one of the body, or one of the server.
 --
--- The last result is `step`: each element that is possible is of one of eight sorts (`Step`), and of each it is said what the body
--- and the part make of it.
-use Rattle.std.specs.Prelude.{◌≡◌, ◌⊎◌, ◌<◌, ℕ, suc, Bool, true, false, List, [], ◌∷◌, ◌++◌, Option, Some, None, All, nat_eq, slice_get, if◌then◌else◌}
+-- The last result is `step`: each element that is possible is of one of seven sorts (`Step`), and of each it is said what the body
+-- and the server make of it. What of the variable is open stands in a joint (`Kept`), so what the server puts reaches the body.
+use Rattle.std.specs.Prelude.{◌≡◌, ◌⊎◌, ◌<◌, ℕ, suc, Bool, true, false, List, [], ◌∷◌, ◌++◌, Option, Some, None, All, nat_eq, not, slice_get, if◌then◌else◌}
 use Rattle.std.proofs.Common.{arith, refl, sym, ap, subst, inl, inr, ◌∙◌}
+use Rattle.std.proofs.lemmas.Bool.{eqb-true}
+use Rattle.gos_types.specs.declared.shakes.Role.{Role}
+use Rattle.gos_types.specs.declared.shakes.Role.TheVariants.{Serve, Ask}
 use Rattle.gos_types.specs.Events.{Direction, Request, Answer}
 use Rattle.gos_model.proofs.NumberLemmas.{nat_eq_itself}
 use Rattle.gos_plan.specs.Kinds.{Part, Contact, asks}
-use Rattle.gos_plan.specs.Firing.{Phase, Rest, Active, State, Slot, Req, Ans, Token, Row, at}
+use Rattle.gos_plan.specs.Firing.{Rest, State, Slot, Req, Ans, Token, Row, firing}
 use Rattle.gos_plan.specs.Plans.{End, PartEnd, ImportEnd, ResultEnd, Plan, contact_at}
-use Rattle.gos_plan.specs.Tokens.{Tokens, Element, Fire, Out, In, places_of, held_at, with_held, token_at, with_token, with_state, with_puts, end_of, way_of, firing_of, fired, way_taken, Passes, Does, Runs}
+use Rattle.gos_plan.specs.Tokens.{Tokens, Element, Fire, Out, In, places_of, held_at, with_held, token_at, with_token, with_state, with_puts, end_of, shake_of, way_of, firing_of, fired, way_taken, way_put, Passes, Does, Runs, IsIdle}
 use Rattle.gos_plan.specs.TokenBits.{LiteralFits, AllFit}
 use Rattle.gos_plan.proofs.JointLemmas.{contained, found, asking_stands, serving_stands, which_end}
 use Rattle.gos_plan.proofs.HeldLemmas.{nothing_there}
+use Rattle.gos_plan.proofs.TokenBitsLemmas.{all_stay_fit, idle_fits}
 use Rattle.gos_plan.proofs.TurnLemmas.{token_state, fired_state}
 use Rattle.gos_plan.proofs.ElementLemmas.{firing_part}
 use Rattle.gos_nodes.specs.sessions.Sessions.{bits}
@@ -20,19 +24,64 @@ use Rattle.gos_joining.specs.webs.Webs.{joint}
 use Rattle.gos_joining.specs.webs.Cutting.{Cut, lies_at, StandsIn, cut_tokens, out_if, in_if, ins_of, firing_in, outside_firing}
 use Rattle.gos_joining.proofs.webs.MovedLemmas.{listed}
 use Rattle.gos_joining.proofs.webs.CutLemmas.{Owns, token_lost, fire_cut, stands_own, element_is_cut}
+use Rattle.gos_realises.specs.realises.Regular.{is_request}
 use Rattle.gos_realises.proofs.realises.InputLemmas.{result_asks}
 use Rattle.gos_nodes.specs.parallel.Parallel.{IsJointOf, IsPartOf}
 use Rattle.gos_nodes.proofs.parallel.StepLemmas.{gate, result_gate, part_gate, gate_elsewhere, Local, fires, puts_out, takes_in, passes_out, passes_in, Unseen, Sees, Same}
 use Rattle.gos_nodes.proofs.windows.AskedLemmas.{done_contact}
+use Rattle.gos_nodes.specs.blocks.Servers.{run_of, after_pass, begin_row, serve_row, end_row, Serves, ServerRow, begins, serves_one, ends}
 use Rattle.gos_nodes.specs.blocks.Block.{Block, IsBlock}
-use Rattle.gos_nodes.proofs.blocks.DriverLemmas.{begin_row, read_row, write_row, end_row, LocalRow, begins, reads, writes, ends, local_row}
+use Rattle.gos_nodes.proofs.blocks.ServerLemmas.{not_run}
 use Rattle.gos_nodes.proofs.blocks.RegionLemmas as region
 use Rattle.gos_nodes.proofs.blocks.RegionLemmas.{port}
 
--- the body asks at a handshake of the variable, and is answered at once
-abbrev pub Served : Plan → Block → ℕ → ℕ → ℕ → Tokens → Tokens → Type 0
-Served r b h a n s t =
-    Runs b.body (Out (ImportEnd b.place h) a ∷ In (ImportEnd b.place h) n ∷ []) (cut_tokens b.cut b.body s) (cut_tokens b.cut b.body t)
+-- the body puts a token at a handshake of its variable, and at once one comes in, there or at another
+abbrev pub Served : Plan → Block → ℕ → ℕ → ℕ → ℕ → Tokens → Tokens → Type 0
+Served r b h a j n s t =
+    Runs b.body (Out (ImportEnd b.place h) a ∷ In (ImportEnd b.place j) n ∷ []) (cut_tokens b.cut b.body s) (cut_tokens b.cut b.body t)
+
+-- the server takes a token by this row
+abbrev pub Took : Plan → Block → Slot → Row → Tokens → Type 0
+Took r b slot row s = firing_of (slice_get r.parts b.own) (s.state b.own) slot ≡ Some row
+
+-- the server is run, and asks the body
+pub record Starts (r : Plan) (b : Block) (s t : Tokens) : Type 0 where
+  pub value : ℕ
+  pub next : ℕ → State
+  pub took : Took r b (Req (run_of b.server)) (begin_row b.server next) s
+  pub sees : Sees b.cut b.body (In (ResultEnd 0) 0) s t
+  pub rest : (s.state b.own).phase ≡ Rest
+  pub ask : gate s Request ≡ Some value
+  pub state : t.state b.own ≡ next value
+  pub runs : b.server.runs (t.state b.own).phase ≡ true
+  pub closed : (h : ℕ) → b.server.opened (t.state b.own) h ≡ false
+  pub none : gate t Request ≡ None
+  pub ans : gate t Answer ≡ gate s Answer
+
+-- it serves the variable
+pub record Supplies (r : Plan) (b : Block) (slot : Slot) (s t : Tokens) : Type 0 where
+  pub value : ℕ
+  pub row : Row
+  pub serves : Serves b.server (s.state b.own) slot row
+  pub took : Took r b slot row s
+  pub stands : StandsIn b.body (ImportEnd b.place serves.at)
+  pub stands_back : StandsIn b.body (ImportEnd b.place serves.back)
+  pub served : Served r b serves.at value serves.back (serves.number value) s t
+  pub state : t.state b.own ≡ serves.next value
+  pub gates : (way : Direction) → gate t way ≡ gate s way
+
+-- the body ends, and with it the server
+pub record Ends (r : Plan) (b : Block) (s t : Tokens) : Type 0 where
+  pub value : ℕ
+  pub next : ℕ → State
+  pub took : Took r b (Ans 0) (end_row b.server next) s
+  pub sees : Sees b.cut b.body (Out (ResultEnd 0) value) s t
+  pub runs : b.server.runs (s.state b.own).phase ≡ true
+  pub closed : (h : ℕ) → b.server.opened (s.state b.own) h ≡ false
+  pub state : t.state b.own ≡ next value
+  pub rest : (t.state b.own).phase ≡ Rest
+  pub ask : gate t Request ≡ gate s Request
+  pub ans : gate t Answer ≡ Some value
 
 pub data Step (r : Plan) (b : Block) : Element → Tokens → Tokens → Type 0 where
   of_body : (x y : Element) (s t : Tokens) → Local b.cut r b.body x y → Sees b.cut b.body y s t → Same b.own s t → Step r b x s t
@@ -42,18 +91,9 @@ pub data Step (r : Plan) (b : Block) : Element → Tokens → Tokens → Type 0 
   told :
       (v : ℕ) (s t : Tokens) → Unseen b.cut b.body s t → t.state b.own ≡ s.state b.own → gate s Answer ≡ Some v → gate t Answer ≡ None
       → gate t Request ≡ gate s Request → Step r b (Out (ResultEnd 0) v) s t
-  starts :
-      (v : ℕ) (s t : Tokens) → Sees b.cut b.body (In (ResultEnd 0) 0) s t → (s.state b.own).phase ≡ Rest → gate s Request ≡ Some v
-      → t.state b.own ≡ at Active 0 → gate t Request ≡ None → gate t Answer ≡ gate s Answer → Step r b (Fire b.own (Req 3)) s t
-  read :
-      (v : ℕ) (s t : Tokens) → StandsIn b.body (ImportEnd b.place 0) → Served r b 0 v (s.state b.own).number s t → (s.state b.own).phase ≡ Active
-      → t.state b.own ≡ s.state b.own → ((way : Direction) → gate t way ≡ gate s way) → Step r b (Fire b.own (Req 1)) s t
-  write :
-      (v : ℕ) (s t : Tokens) → StandsIn b.body (ImportEnd b.place 1) → Served r b 1 v 0 s t → (s.state b.own).phase ≡ Active
-      → t.state b.own ≡ at Active v → ((way : Direction) → gate t way ≡ gate s way) → Step r b (Fire b.own (Req 2)) s t
-  ended :
-      (v : ℕ) (s t : Tokens) → Sees b.cut b.body (Out (ResultEnd 0) v) s t → (s.state b.own).phase ≡ Active → (t.state b.own).phase ≡ Rest
-      → gate t Request ≡ gate s Request → gate t Answer ≡ Some v → Step r b (Fire b.own (Ans 0)) s t
+  starts : (s t : Tokens) → Starts r b s t → Step r b (Fire b.own (Req (run_of b.server))) s t
+  supplies : (slot : Slot) (s t : Tokens) → Supplies r b slot s t → Step r b (Fire b.own slot) s t
+  ended : (s t : Tokens) → Ends r b s t → Step r b (Fire b.own (Ans 0)) s t
   lost :
       (j k v : ℕ) (s t : Tokens) (c : Contact) → contact_at r (ImportEnd j k) ≡ Some c → b.cut.inner (ImportEnd j k) ≡ None
       → Unseen b.cut b.body s t → Same b.own s t → Step r b (In (ImportEnd j k) v) s t
@@ -67,35 +107,41 @@ IsSeen r b x s t z = Unit {0}
 one_sees : (f : Cut) (p : Plan) (y : Element) (s t : Tokens) → Runs p (y ∷ []) (cut_tokens f p s) (cut_tokens f p t) → Sees f p y s t
 one_sees f p y s t (w, does, is) = subst (λ (u : Tokens). Does p y (cut_tokens f p s) u) (sym is) does
 
-abbrev pub Differ : ℕ → ℕ → Type 0
-Differ k n = k ≡ n → ⊥
+-- the handshakes of the variable that are open to the body stand in joints of it
+abbrev pub Kept : Block → Tokens → Type 0
+Kept b s = (h : ℕ) → b.server.opened (s.state b.own) h ≡ true → StandsIn b.body (ImportEnd b.place h)
+
+-- what holds all along a list
+pub record Sound (r : Plan) (b : Block) (s : Tokens) : Type 0 where
+  pub fit : AllFit r s
+  pub kept : Kept b s
 
 module _ (r : Plan) (b : Block) (is : IsBlock r b) where
   -- what lies at the result's gate
   pub gate_at_result : places_of r (ResultEnd 0) ≡ Some (ResultEnd 0)
-  gate_at_result = result_gate r b.own 3 is.cut.whole_right is.run
+  gate_at_result = result_gate r b.own (run_of b.server) is.cut.whole_right is.run
 
-  pub gate_at_part : places_of r (PartEnd b.own 3) ≡ Some (ResultEnd 0)
-  gate_at_part = part_gate r b.own 3 is.cut.whole_right is.run
+  pub gate_at_part : places_of r (PartEnd b.own (run_of b.server)) ≡ Some (ResultEnd 0)
+  gate_at_part = part_gate r b.own (run_of b.server) is.cut.whole_right is.run
 
-  pub gate_kept : (e : End) → (e ≡ ResultEnd 0 → ⊥) → (e ≡ PartEnd b.own 3 → ⊥) → (w : Direction) (held : Option ℕ) (s : Tokens) (way : Direction)
+  pub gate_kept : (e : End) → (e ≡ ResultEnd 0 → ⊥) → (e ≡ PartEnd b.own (run_of b.server) → ⊥) → (w : Direction) (held : Option ℕ) (s : Tokens) (way : Direction)
       → gate (with_token r e w held s) way ≡ gate s way
-  gate_kept = gate_elsewhere r b.own 3 is.cut.whole_right is.run
+  gate_kept = gate_elsewhere r b.own (run_of b.server) is.cut.whole_right is.run
 
-  pub gate_apart : (k : ℕ) → (k ≡ 3 → ⊥) → (w : Direction) (held : Option ℕ) (s : Tokens) (way : Direction)
+  pub gate_apart : (k : ℕ) → (k ≡ run_of b.server → ⊥) → (w : Direction) (held : Option ℕ) (s : Tokens) (way : Direction)
       → gate (with_token r (PartEnd b.own k) w held s) way ≡ gate s way
-  gate_apart k other = gate_kept (PartEnd b.own k) (λ e. cc e) (λ e. let same : k ≡ 3 = cc e in other same)
+  gate_apart k other = gate_kept (PartEnd b.own k) (λ e. cc e) (λ e. let same : k ≡ run_of b.server = cc e in other same)
 
-  gate_taken : (s : Tokens) → gate (with_token r (PartEnd b.own 3) Request None s) Request ≡ None
+  gate_taken : (s : Tokens) → gate (with_token r (PartEnd b.own (run_of b.server)) Request None s) Request ≡ None
   gate_taken s = ap (λ o. gate (with_held Request o None s) Request) gate_at_part
 
-  gate_left : (s : Tokens) → gate (with_token r (PartEnd b.own 3) Request None s) Answer ≡ gate s Answer
+  gate_left : (s : Tokens) → gate (with_token r (PartEnd b.own (run_of b.server)) Request None s) Answer ≡ gate s Answer
   gate_left s = ap (λ o. gate (with_held Request o None s) Answer) gate_at_part
 
-  gate_filled : (v : ℕ) (s : Tokens) → gate (with_token r (PartEnd b.own 3) Answer (Some v) s) Answer ≡ Some v
+  gate_filled : (v : ℕ) (s : Tokens) → gate (with_token r (PartEnd b.own (run_of b.server)) Answer (Some v) s) Answer ≡ Some v
   gate_filled v s = ap (λ o. gate (with_held Answer o (Some v) s) Answer) gate_at_part
 
-  gate_beside : (v : ℕ) (s : Tokens) → gate (with_token r (PartEnd b.own 3) Answer (Some v) s) Request ≡ gate s Request
+  gate_beside : (v : ℕ) (s : Tokens) → gate (with_token r (PartEnd b.own (run_of b.server)) Answer (Some v) s) Request ≡ gate s Request
   gate_beside v s = ap (λ o. gate (with_held Answer o (Some v) s) Request) gate_at_part
 
   new_state : (c : State) (s : Tokens) → (with_state b.own c s).state b.own ≡ c
@@ -107,73 +153,99 @@ module _ (r : Plan) (b : Block) (is : IsBlock r b) where
   pub own_state : (c : State) (s : Tokens) → cut_tokens b.cut b.body (with_state b.own c s) ≡ cut_tokens b.cut b.body s
   own_state = region.state_unseen r b is b.own is.outside
 
-  run_lost : (way : Direction) (held : Option ℕ) (s : Tokens) → cut_tokens b.cut b.body (with_token r (PartEnd b.own 3) way held s) ≡ cut_tokens b.cut b.body s
-  run_lost = region.part_unseen r b is b.own 3 is.outside (region.run_unseen r b is)
+  run_lost : (way : Direction) (held : Option ℕ) (s : Tokens) → cut_tokens b.cut b.body (with_token r (PartEnd b.own (run_of b.server)) way held s) ≡ cut_tokens b.cut b.body s
+  run_lost = region.part_unseen r b is b.own (run_of b.server) is.outside (region.run_unseen r b is)
 
-  zero_not_three : Differ 0 3
-  zero_not_three e = omega (arith, e)
+  zero_not_run : 0 ≡ run_of b.server → ⊥
+  zero_not_run e = omega (arith, e)
 
-  one_not_three : Differ 1 3
-  one_not_three e = omega (arith, e)
+  -- the rows of the server
+  pub own_firing : (slot : Slot) (row : Row) (s : Tokens) → firing b.server.part (s.state b.own) slot ≡ Some row → Took r b slot row s
+  own_firing slot row s by = ap (λ (o : Option Part). firing_of o (s.state b.own) slot) is.own ∙ by
 
-  two_not_three : Differ 2 3
-  two_not_three e = omega (arith, e)
+  pub firing_own : (slot : Slot) (row : Row) (s : Tokens) → Took r b slot row s → firing b.server.part (s.state b.own) slot ≡ Some row
+  firing_own slot row s took = sym (ap (λ (o : Option Part). firing_of o (s.state b.own) slot) is.own) ∙ took
 
   -- it begins
-  begun : (v : ℕ) (s : Tokens) → (s.state b.own).phase ≡ Rest → token_at r s (PartEnd b.own 3) Request ≡ Some v
-      → Step r b (Fire b.own (Req 3)) s (fired r b.own begin_row v s)
-  begun v s rest lies =
-      starts v s u2 sees rest (sym (ap (held_at s Request) gate_at_part) ∙ lies) (kept_state 0 Request (Some 0) u1 ∙ new_state (at Active 0) u0)
-      (gate_apart 0 zero_not_three Request (Some 0) u1 Request ∙ gate_taken s) (gate_apart 0 zero_not_three Request (Some 0) u1 Answer ∙ gate_left s)
+  begun : (v : ℕ) (next : ℕ → State) (s : Tokens) → (s.state b.own).phase ≡ Rest → token_at r s (PartEnd b.own (run_of b.server)) Request ≡ Some v
+      → Took r b (Req (run_of b.server)) (begin_row b.server next) s → b.server.runs (next v).phase ≡ true → ((h : ℕ) → b.server.opened (next v) h ≡ false)
+      → Step r b (Fire b.own (Req (run_of b.server))) s (fired r b.own (begin_row b.server next) v s)
+  begun v next s rest lies took runs closed =
+      starts s u2
+      (record {
+        value = v;
+        next = next;
+        took = took;
+        sees = sees;
+        rest = rest;
+        ask = sym (ap (held_at s Request) gate_at_part) ∙ lies;
+        state = state;
+        runs = ap (λ (c : State). b.server.runs c.phase) state ∙ runs;
+        closed = λ h. ap (λ (c : State). b.server.opened c h) state ∙ closed h;
+        none = gate_apart 0 zero_not_run Request (Some 0) u1 Request ∙ gate_taken s;
+        ans = gate_apart 0 zero_not_run Request (Some 0) u1 Answer ∙ gate_left s;
+      })
     where
       u0 : Tokens
-      u0 = with_token r (PartEnd b.own 3) Request None s
+      u0 = with_token r (PartEnd b.own (run_of b.server)) Request None s
 
       u1 : Tokens
-      u1 = with_state b.own (at Active 0) u0
+      u1 = with_state b.own (next v) u0
 
       u2 : Tokens
       u2 = with_token r (PartEnd b.own 0) Request (Some 0) u1
+
+      state : u2.state b.own ≡ next v
+      state = kept_state 0 Request (Some 0) u1 ∙ new_state (next v) u0
 
       sees : Sees b.cut b.body (In (ResultEnd 0) 0) s u2
       sees =
           region.is_asked r b is s u2
           (region.result_put r b is Request (Some 0) u1
-          ∙ ap (with_token b.body (ResultEnd 0) Request (Some 0)) (own_state (at Active 0) u0 ∙ run_lost Request None s))
+          ∙ ap (with_token b.body (ResultEnd 0) Request (Some 0)) (own_state (next v) u0 ∙ run_lost Request None s))
 
   -- the body ends
-  finished : (v n : ℕ) (s : Tokens) → (s.state b.own).phase ≡ Active → token_at r s (PartEnd b.own 0) Answer ≡ Some v
-      → Step r b (Fire b.own (Ans 0)) s (fired r b.own (end_row n) v s)
-  finished v n s active lies =
-      ended v s u2 sees active (ap (λ (c : State). c.phase) (kept_state 3 Answer (Some v) u1 ∙ new_state (at Rest n) u0))
-      (gate_beside v u1 ∙ gate_apart 0 zero_not_three Answer None s Request) (gate_filled v u1)
+  finished : (v : ℕ) (next : ℕ → State) (s : Tokens) → b.server.runs (s.state b.own).phase ≡ true → token_at r s (PartEnd b.own 0) Answer ≡ Some v
+      → Took r b (Ans 0) (end_row b.server next) s → (next v).phase ≡ Rest → ((h : ℕ) → b.server.opened (s.state b.own) h ≡ false)
+      → Step r b (Fire b.own (Ans 0)) s (fired r b.own (end_row b.server next) v s)
+  finished v next s runs lies took rest closed =
+      ended s u2
+      (record {
+        value = v;
+        next = next;
+        took = took;
+        sees = sees;
+        runs = runs;
+        closed = closed;
+        state = state;
+        rest = ap (λ (c : State). c.phase) state ∙ rest;
+        ask = gate_beside v u1 ∙ gate_apart 0 zero_not_run Answer None s Request;
+        ans = gate_filled v u1;
+      })
     where
       u0 : Tokens
       u0 = with_token r (PartEnd b.own 0) Answer None s
 
       u1 : Tokens
-      u1 = with_state b.own (at Rest n) u0
+      u1 = with_state b.own (next v) u0
 
       u2 : Tokens
-      u2 = with_token r (PartEnd b.own 3) Answer (Some v) u1
+      u2 = with_token r (PartEnd b.own (run_of b.server)) Answer (Some v) u1
+
+      state : u2.state b.own ≡ next v
+      state = kept_state (run_of b.server) Answer (Some v) u1 ∙ new_state (next v) u0
 
       sees : Sees b.cut b.body (Out (ResultEnd 0) v) s u2
       sees =
           region.is_answered r b is v s u2 lies
-          (run_lost Answer (Some v) u1 ∙ (own_state (at Rest n) u0 ∙ region.result_put r b is Answer None s))
+          (run_lost Answer (Some v) u1 ∙ (own_state (next v) u0 ∙ region.result_put r b is Answer None s))
 
-  driver_row : (slot : Slot) (row : Row) (s : Tokens) → firing_of (slice_get r.parts b.own) (s.state b.own) slot ≡ Some row
-      → LocalRow (s.state b.own).phase (s.state b.own).number slot row
-  driver_row slot row s by =
-      local_row b.width (bits r.outcome) (s.state b.own).phase (s.state b.own).number slot row
-      (subst (λ (o : Option Part). firing_of o (s.state b.own) slot ≡ Some row) is.own by)
-
-  -- the body stands at the end at which the part is asked
-  pub asked_there : (h v : ℕ) (s : Tokens) → (h ≡ 3 → ⊥) → token_at r s (PartEnd b.own h) Request ≡ Some v → Owns b.body (port b h)
-  asked_there h v s apart lies = by_place (places_of r (PartEnd b.own h)) refl
+  -- the body stands at the end at which the server takes a token
+  pub stands_at : (h v : ℕ) (way : Direction) (s : Tokens) → (h ≡ run_of b.server → ⊥) → token_at r s (PartEnd b.own h) way ≡ Some v → Owns b.body (port b h)
+  stands_at h v way s apart lies = by_place (places_of r (PartEnd b.own h)) refl
     where
       by_place : (o : Option End) → places_of r (PartEnd b.own h) ≡ o → Owns b.body (port b h)
-      by_place None none = absurd (nothing_there r (PartEnd b.own h) Request v s lies none)
+      by_place None none = absurd (nothing_there r (PartEnd b.own h) way v s lies none)
       by_place (Some a) named = region.joined_port r b is h apart a named
 
   inner_port : (h : ℕ) → StandsIn b.body (ImportEnd b.place h) → b.cut.inner (PartEnd b.own (suc h)) ≡ Some (ImportEnd b.place h)
@@ -208,7 +280,7 @@ module _ (r : Plan) (b : Block) (is : IsBlock r b) where
   not_driver : (i : ℕ) → IsPartOf b.cut i → i ≡ b.own → ⊥
   not_driver i (j, number) same = let clash : None ≡ Some j = sym is.outside ∙ (ap b.cut.number (sym same) ∙ number) in cc clash
 
-  port_same : (e : End) (w : Direction) (held : Option ℕ) (s t : Tokens) → (e ≡ ResultEnd 0 → ⊥) → (e ≡ PartEnd b.own 3 → ⊥) → t ≡ with_token r e w held s
+  port_same : (e : End) (w : Direction) (held : Option ℕ) (s t : Tokens) → (e ≡ ResultEnd 0 → ⊥) → (e ≡ PartEnd b.own (run_of b.server) → ⊥) → t ≡ with_token r e w held s
       → Same b.own s t
   port_same e w held s t not_result not_part leads =
       record {
@@ -243,7 +315,7 @@ module _ (r : Plan) (b : Block) (is : IsBlock r b) where
             | inr run ↦
                 elim which [
                   | inl one ↦ let bad : ImportEnd j k ≡ ResultEnd 0 = one ∙ run.0 in cc bad
-                  | inr one ↦ let bad : ImportEnd j k ≡ PartEnd b.own 3 = one ∙ run.1 in cc bad
+                  | inr one ↦ let bad : ImportEnd j k ≡ PartEnd b.own (run_of b.server) = one ∙ run.1 in cc bad
                 ]
           ])
 
@@ -298,56 +370,96 @@ module _ (r : Plan) (b : Block) (is : IsBlock r b) where
         (cut_tokens b.cut b.body s) (cut_tokens b.cut b.body (fired r b.own row v s))) is.outside
         (element_is_cut b.cut r b.body (Fire b.own slot) s (fired r b.own row v s) is.cut literals fit (v, row, lies, by, refl))))
 
-    was_read : (v : ℕ) (s : Tokens) → AllFit r s → (s.state b.own).phase ≡ Active → token_at r s (PartEnd b.own 1) Request ≡ Some v
-        → firing_of (slice_get r.parts b.own) (s.state b.own) (Req 1) ≡ Some (read_row (s.state b.own).number)
-        → Step r b (Fire b.own (Req 1)) s (fired r b.own (read_row (s.state b.own).number) v s)
-    was_read v s fit active lies by =
-        let n = (s.state b.own).number in
-        let stands : StandsIn b.body (ImportEnd b.place 0) = asked_there 1 v s one_not_three lies in
-        let u0 = with_token r (PartEnd b.own 1) Request None s in
-        let u1 = with_state b.own (at Active n) u0 in
-        read v s (fired r b.own (read_row n) v s) stands
-        (subst (λ (o : Option End). Runs b.body (out_if o v ++ (in_if o n ++ [])) (cut_tokens b.cut b.body s) (cut_tokens b.cut b.body (fired r b.own (read_row n) v s)))
-        (inner_port 0 stands) (body_sees (Req 1) (read_row n) v s fit lies by)) active
-        (kept_state 1 Answer (Some n) u1 ∙ (new_state (at Active n) u0 ∙ ap (λ (ph : Phase). at ph n) (sym active)))
-        (λ way. gate_apart 1 one_not_three Answer (Some n) u1 way ∙ gate_apart 1 one_not_three Request None s way)
-
-    was_written : (v : ℕ) (s : Tokens) → AllFit r s → (s.state b.own).phase ≡ Active → token_at r s (PartEnd b.own 2) Request ≡ Some v
-        → firing_of (slice_get r.parts b.own) (s.state b.own) (Req 2) ≡ Some write_row
-        → Step r b (Fire b.own (Req 2)) s (fired r b.own write_row v s)
-    was_written v s fit active lies by =
-        let stands : StandsIn b.body (ImportEnd b.place 1) = asked_there 2 v s two_not_three lies in
-        let u0 = with_token r (PartEnd b.own 2) Request None s in
-        let u1 = with_state b.own (at Active v) u0 in
-        write v s (fired r b.own write_row v s) stands
-        (subst (λ (o : Option End). Runs b.body (out_if o v ++ (in_if o 0 ++ [])) (cut_tokens b.cut b.body s) (cut_tokens b.cut b.body (fired r b.own write_row v s)))
-        (inner_port 1 stands) (body_sees (Req 2) write_row v s fit lies by)) active
-        (kept_state 2 Answer (Some 0) u1 ∙ new_state (at Active v) u0)
-        (λ way. gate_apart 2 two_not_three Answer (Some 0) u1 way ∙ gate_apart 2 two_not_three Request None s way)
-
-    driver_step : (slot : Slot) (s t : Tokens) → AllFit r s → Does r (Fire b.own slot) s t → Step r b (Fire b.own slot) s t
-    driver_step slot s t fit (v, row, held, by, leads) = by_row (driver_row slot row s by)
+    supplied : (slot : Slot) (v : ℕ) (row : Row) (s : Tokens) → Sound r b s → Serves b.server (s.state b.own) slot row
+        → token_at r s (end_of b.own slot) (way_of slot) ≡ Some v → Took r b slot row s → Step r b (Fire b.own slot) s (fired r b.own row v s)
+    supplied slot v row s sound e lies took =
+        supplies slot s (fired r b.own row v s)
+        (record {
+          value = v;
+          row = row;
+          serves = e;
+          took = took;
+          stands = stands;
+          stands_back = stands_back;
+          served = subst (λ (x : Row). Served r b e.at v e.back (e.number v) s (fired r b.own x v s)) (sym e.is_row) served;
+          state = subst (λ (x : Row). (fired r b.own x v s).state b.own ≡ e.next v) (sym e.is_row) state;
+          gates = λ way. subst (λ (x : Row). gate (fired r b.own x v s) way ≡ gate s way) (sym e.is_row) (gates way);
+        })
       where
-        n : ℕ
-        n = (s.state b.own).number
+        row_is : Row
+        row_is = serve_row slot e.reply e.number e.next
 
-        done : (c : Slot) (w : Row) → slot ≡ c → row ≡ w
-            → (token_at r s (end_of b.own c) (way_of c) ≡ Some v → firing_of (slice_get r.parts b.own) (s.state b.own) c ≡ Some w
-            → Step r b (Fire b.own c) s (fired r b.own w v s)) → Step r b (Fire b.own slot) s t
+        u0 : Tokens
+        u0 = with_token r (end_of b.own slot) (way_of slot) None s
+
+        u1 : Tokens
+        u1 = with_state b.own (e.next v) u0
+
+        slot_apart : shake_of slot ≡ run_of b.server → ⊥
+        slot_apart = not_run b.server (bits r.outcome) is.server (shake_of slot) e.at e.taken e.at_there e.takes_at
+
+        reply_apart : shake_of e.reply ≡ run_of b.server → ⊥
+        reply_apart = not_run b.server (bits r.outcome) is.server (shake_of e.reply) e.back e.given e.back_there e.puts_at
+
+        stands : StandsIn b.body (ImportEnd b.place e.at)
+        stands =
+            subst (λ (h : ℕ). Owns b.body (port b h)) e.takes_at (stands_at (shake_of slot) v (way_of slot) s slot_apart lies)
+
+        stands_back : StandsIn b.body (ImportEnd b.place e.back)
+        stands_back = by_role e.given.role refl
+          where
+            by_test : (t : Bool) → nat_eq e.at e.back ≡ t
+                → (if t then is_request (way_taken e.taken.role) else b.server.opened (s.state b.own) e.back) ≡ true → StandsIn b.body (ImportEnd b.place e.back)
+            by_test true same up =
+                let one : e.at ≡ e.back = eqb-true e.at e.back same in subst (λ (h : ℕ). StandsIn b.body (ImportEnd b.place h)) one stands
+            by_test false apart up = sound.kept e.back up
+
+            by_role : (role : Role) → e.given.role ≡ role → StandsIn b.body (ImportEnd b.place e.back)
+            by_role Ask asks = is.heard e.at e.back e.given stands e.back_there asks
+            by_role Serve serves = by_test (nat_eq e.at e.back) refl (e.turn ∙ ap (λ (x : Role). not (is_request (way_put x))) serves)
+
+        inner_slot : b.cut.inner (end_of b.own slot) ≡ Some (ImportEnd b.place e.at)
+        inner_slot = ap (λ (h : ℕ). b.cut.inner (PartEnd b.own h)) e.takes_at ∙ inner_port e.at stands
+
+        inner_reply : b.cut.inner (end_of b.own e.reply) ≡ Some (ImportEnd b.place e.back)
+        inner_reply = ap (λ (h : ℕ). b.cut.inner (PartEnd b.own h)) e.puts_at ∙ inner_port e.back stands_back
+
+        served : Served r b e.at v e.back (e.number v) s (fired r b.own row_is v s)
+        served =
+            subst (λ (o : Option End).
+            Runs b.body (Out (ImportEnd b.place e.at) v ∷ (in_if o (e.number v) ++ [])) (cut_tokens b.cut b.body s) (cut_tokens b.cut b.body (fired r b.own row_is v s))) inner_reply
+            (subst (λ (o : Option End).
+            Runs b.body (out_if o v ++ (in_if (b.cut.inner (end_of b.own e.reply)) (e.number v) ++ [])) (cut_tokens b.cut b.body s)
+            (cut_tokens b.cut b.body (fired r b.own row_is v s))) inner_slot
+            (body_sees slot row_is v s sound.fit lies (took ∙ ap Some e.is_row)))
+
+        state : (fired r b.own row_is v s).state b.own ≡ e.next v
+        state = kept_state (shake_of e.reply) (way_of e.reply) (Some (e.number v)) u1 ∙ new_state (e.next v) u0
+
+        gates : (way : Direction) → gate (fired r b.own row_is v s) way ≡ gate s way
+        gates way =
+            gate_apart (shake_of e.reply) reply_apart (way_of e.reply) (Some (e.number v)) u1 way ∙ gate_apart (shake_of slot) slot_apart (way_of slot) None s way
+
+    server_step : (slot : Slot) (s t : Tokens) → Sound r b s → Does r (Fire b.own slot) s t → Step r b (Fire b.own slot) s t
+    server_step slot s t sound (v, row, held, by, leads) =
+        subst (λ (u : Tokens). Step r b (Fire b.own slot) s u) (sym leads) (by_row (is.server.rows (s.state b.own) slot row (firing_own slot row s by)))
+      where
+        Made : Slot → Row → Type 0
+        Made c w = token_at r s (end_of b.own c) (way_of c) ≡ Some v → Took r b c w s → Step r b (Fire b.own c) s (fired r b.own w v s)
+
+        done : (c : Slot) (w : Row) → slot ≡ c → row ≡ w → Made c w → Step r b (Fire b.own slot) s (fired r b.own row v s)
         done c w same is_w make =
-            subst (λ (u : Tokens). Step r b (Fire b.own slot) s u) (sym (leads ∙ ap (λ (x : Row). fired r b.own x v s) is_w))
-            (subst (λ (x : Slot). Step r b (Fire b.own x) s (fired r b.own w v s)) (sym same)
-            (make (subst (λ (x : Slot). token_at r s (end_of b.own x) (way_of x) ≡ Some v) same held)
-            (subst (λ (x : Slot). firing_of (slice_get r.parts b.own) (s.state b.own) x ≡ Some w) same (by ∙ ap Some is_w))))
+            subst (λ (x : Slot). Made x row) (sym same) (subst (λ (x : Row). Made c x) (sym is_w) make) held by
 
-        by_row : LocalRow (s.state b.own).phase n slot row → Step r b (Fire b.own slot) s t
-        by_row (begins rest same is_w) = done (Req 3) begin_row same is_w (λ lies by. begun v s rest lies)
-        by_row (reads active same is_w) = done (Req 1) (read_row n) same is_w (was_read v s fit active)
-        by_row (writes active same is_w) = done (Req 2) write_row same is_w (was_written v s fit active)
-        by_row (ends active same is_w) = done (Ans 0) (end_row n) same is_w (λ lies by. finished v n s active lies)
+        by_row : ServerRow b.server (s.state b.own) slot row → Step r b (Fire b.own slot) s (fired r b.own row v s)
+        by_row (begins next rest same is_w runs closed) =
+            done (Req (run_of b.server)) (begin_row b.server next) same is_w (λ lies took. begun v next s rest lies took (runs v) (closed v))
+        by_row (serves_one e) = supplied slot v row s sound e held by
+        by_row (ends next runs same is_w rest closed) =
+            done (Ans 0) (end_row b.server next) same is_w (λ lies took. finished v next s runs lies took (rest v) closed)
 
-    fire_step : (i : ℕ) (slot : Slot) (s t : Tokens) → AllFit r s → Does r (Fire i slot) s t → Step r b (Fire i slot) s t
-    fire_step i slot s t fit does =
+    fire_step : (i : ℕ) (slot : Slot) (s t : Tokens) → Sound r b s → Does r (Fire i slot) s t → Step r b (Fire i slot) s t
+    fire_step i slot s t sound does =
         let part = firing_part (slice_get r.parts i) (s.state i) slot does.1 does.3 in by_part (is.parts i part.0 part.1)
       where
         by_part : IsPartOf b.cut i ⊎ (i ≡ b.own) → Step r b (Fire i slot) s t
@@ -356,7 +468,7 @@ module _ (r : Plan) (b : Block) (is : IsBlock r b) where
             (fired_same i (not_driver i (j, number)) does.1 does.0 s t does.4)
         by_part (inr same) =
             subst (λ (n : ℕ). Step r b (Fire n slot) s t) (sym same)
-            (driver_step slot s t fit (subst (λ (n : ℕ). Does r (Fire n slot) s t) same does))
+            (server_step slot s t sound (subst (λ (n : ℕ). Does r (Fire n slot) s t) same does))
 
     -- and what passes an import
     out_step : (j k v : ℕ) (s t : Tokens) → AllFit r s → Does r (Out (ImportEnd j k) v) s t → Step r b (Out (ImportEnd j k) v) s t
@@ -409,15 +521,64 @@ module _ (r : Plan) (b : Block) (is : IsBlock r b) where
             of_body x (In (ImportEnd i k) v) s t (takes_in i j k v stands leads imports)
             (one_sees b.cut b.body (In (ImportEnd i k) v) s t (runs (Some (ImportEnd i k)) (inner ∙ ap Some is_e))) same
 
-    pub step : (x : Element) (s t : Tokens) → AllFit r s → Does r x s t → Step r b x s t
-    step (Fire i slot) s t fit does = fire_step i slot s t fit does
-    step (Out (PartEnd i k) v) s t fit does = absurd does.0
-    step (Out (ImportEnd j k) v) s t fit does = out_step j k v s t fit does
-    step (Out (ResultEnd k) v) s t fit does =
+    pub step : (x : Element) (s t : Tokens) → Sound r b s → Does r x s t → Step r b x s t
+    step (Fire i slot) s t sound does = fire_step i slot s t sound does
+    step (Out (PartEnd i k) v) s t sound does = absurd does.0
+    step (Out (ImportEnd j k) v) s t sound does = out_step j k v s t sound.fit does
+    step (Out (ResultEnd k) v) s t sound does =
         let none = first_shake k (Out (ResultEnd k) v) s t does.1 in
         subst (λ (n : ℕ). Step r b (Out (ResultEnd n) v) s t) (sym none) (result_out v s t (subst (λ (n : ℕ). Does r (Out (ResultEnd n) v) s t) none does))
-    step (In (PartEnd i k) v) s t fit does = absurd does.0
-    step (In (ImportEnd j k) v) s t fit does = in_step j k v s t fit does
-    step (In (ResultEnd k) v) s t fit does =
+    step (In (PartEnd i k) v) s t sound does = absurd does.0
+    step (In (ImportEnd j k) v) s t sound does = in_step j k v s t sound.fit does
+    step (In (ResultEnd k) v) s t sound does =
         let none = first_shake k (In (ResultEnd k) v) s t does.1 in
         subst (λ (n : ℕ). Step r b (In (ResultEnd n) v) s t) (sym none) (result_in v s t (subst (λ (n : ℕ). Does r (In (ResultEnd n) v) s t) none does))
+
+    -- it holds on
+    kept_so : (s t : Tokens) → t.state b.own ≡ s.state b.own → Kept b s → Kept b t
+    kept_so s t state kept h up = kept h (sym (ap (λ (c : State). b.server.opened c h) state) ∙ up)
+
+    kept_on : (x : Element) (s t : Tokens) → Step r b x s t → Kept b s → Kept b t
+    kept_on x s t (of_body x' y s' t' local sees same) kept = kept_so s' t' same.state kept
+    kept_on x s t (asked v s' t' small unseen state ask ans) kept = kept_so s' t' state kept
+    kept_on x s t (told v s' t' unseen state ans none ask) kept = kept_so s' t' state kept
+    kept_on x s t (starts s' t' z) kept = λ h up. let clash : true ≡ false = sym up ∙ z.closed h in absurd (cc clash)
+    kept_on x s t (supplies slot s' t' z) kept = λ h up. by_back h (nat_eq z.serves.back h) refl (sym (opened h) ∙ up)
+      where
+        opened : (h : ℕ)
+            → b.server.opened (t'.state b.own) h
+            ≡ after_pass z.serves.back (way_put z.serves.given.role) (after_pass z.serves.at (way_taken z.serves.taken.role) (b.server.opened (s'.state b.own))) h
+        opened h = ap (λ (c : State). b.server.opened c h) z.state ∙ z.serves.opened z.value h
+
+        by_at : (h : ℕ) (t : Bool) → nat_eq z.serves.at h ≡ t → (if t then is_request (way_taken z.serves.taken.role) else b.server.opened (s'.state b.own) h) ≡ true
+            → StandsIn b.body (ImportEnd b.place h)
+        by_at h true e up = let same : z.serves.at ≡ h = eqb-true z.serves.at h e in subst (λ (n : ℕ). StandsIn b.body (ImportEnd b.place n)) same z.stands
+        by_at h false e up = kept h up
+
+        by_back : (h : ℕ) (t : Bool) → nat_eq z.serves.back h ≡ t
+            → (if t then is_request (way_put z.serves.given.role)
+            else after_pass z.serves.at (way_taken z.serves.taken.role) (b.server.opened (s'.state b.own)) h) ≡ true
+            → StandsIn b.body (ImportEnd b.place h)
+        by_back h true e up = let same : z.serves.back ≡ h = eqb-true z.serves.back h e in subst (λ (n : ℕ). StandsIn b.body (ImportEnd b.place n)) same z.stands_back
+        by_back h false e up = by_at h (nat_eq z.serves.at h) refl up
+    kept_on x s t (ended s' t' z) kept =
+        λ h up.
+        let shut = is.server.closed (t'.state b.own) h (ap b.server.runs z.rest ∙ is.server.rests) in
+        let clash : true ≡ false = sym up ∙ shut in absurd (cc clash)
+    kept_on x s t (lost j k v s' t' c there none unseen same) kept = kept_so s' t' same.state kept
+
+    pub sound_on : (x : Element) (s t : Tokens) → Sound r b s → Does r x s t → Sound r b t
+    sound_on x s t sound does =
+        record {
+          fit = all_stay_fit r (x ∷ []) s t is.cut.whole_right literals sound.fit (t, does, refl);
+          kept = kept_on x s t (step x s t sound does) sound.kept;
+        }
+
+  pub sound_first : (s : Tokens) → IsIdle r s → Sound r b s
+  sound_first s idle =
+      record {
+        fit = idle_fits r s idle;
+        kept = λ h up.
+            let shut = is.server.closed (s.state b.own) h (ap b.server.runs (idle.1 b.own) ∙ is.server.rests) in
+            let clash : true ≡ false = sym up ∙ shut in absurd (cc clash);
+      }

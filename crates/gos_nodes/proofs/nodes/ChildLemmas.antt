@@ -2,6 +2,7 @@
 use Rattle.std.specs.Prelude.{◌≡◌, ℕ, zero, suc, List, [], ◌∷◌, ◌++◌, Some}
 use Rattle.std.proofs.Common.{sym, ap, subst, inl, inr, ◌∙◌}
 use Rattle.gos_types.specs.Types.{Type'}
+use Rattle.gos_types.specs.Events.{Request, Answer}
 use Rattle.gos_model.specs.Terms.{Term}
 use Rattle.gos_model.specs.Typing.{Imported, Typed}
 use Rattle.gos_model.specs.Stores.{Store}
@@ -12,7 +13,7 @@ use Rattle.gos_plan.specs.Firing.{State}
 use Rattle.gos_plan.specs.Plans.{End, PartEnd, ImportEnd, ResultEnd, Plan, contact_at}
 use Rattle.gos_plan.specs.Tokens.{Tokens, Element, Fire, Out, In, IsPortEnd, way_taken, Does, Runs}
 use Rattle.gos_realises.specs.realises.Regular.{Pass, pass, way_in, way_out, InputsKeepTurns}
-use Rattle.gos_realises.specs.realises.Matched.{label_at, shows, GoesOn, IsMatched, program_of, RealisesDone}
+use Rattle.gos_realises.specs.realises.Matched.{label_at, shows, GoesOn, IsMatched, program_of, RealisesInTurn}
 use Rattle.gos_realises.specs.realises.Realises.{AllGround, NamesDiffer}
 use Rattle.gos_joining.specs.webs.Cutting.{StandsIn}
 use Rattle.gos_nodes.specs.sessions.Sessions.{Form, Session, session_of, value_of}
@@ -26,7 +27,6 @@ use Rattle.gos_programs.proofs.results.ResultLemmas.{moves_then, answers_are_typ
 use Rattle.gos_nodes.specs.windows.Regions.{whole_element}
 use Rattle.gos_nodes.specs.windows.Nodes.{Stage, IsStage}
 use Rattle.gos_nodes.specs.windows.Windows.{seen, Begins}
-use Rattle.gos_nodes.proofs.windows.KeepingLemmas.{turns_keep_protocol}
 use Rattle.gos_nodes.proofs.nodes.SilentLemmas.{silent_inner, one_inner, inner_stays, asked_first, answer_last, no_request}
 use Rattle.gos_nodes.proofs.nodes.FrameLemmas.{IsFrame, frame_is, framed, framed_unfolds}
 use Rattle.gos_nodes.proofs.nodes.RegionLemmas.{token_stands, outside_stays, fires_goes_on, out_shown, in_shown}
@@ -81,14 +81,12 @@ pub record Opened (d : ℕ) (f : Form) (g : Stage) (ys : List Element) (s : Toke
 pub opens : (r : Plan) (d : ℕ) (f : Form) (g : Stage) (ys : List Element) (s : Tokens) (e : Session)
     → AllGround r.imports → IsStage r d g
     → session_of f (s.state d).phase (s.state d).number ≡ Some e → e.asked_at ≡ g.asked_at → g.plan.outcome ≡ e.ty
-    → Typed g.plan.imports [] e.term e.ty → RealisesDone g.plan e.term → Begins 0 g 0 ys s → Opened d f g ys s e
+    → Typed g.plan.imports [] e.term e.ty → RealisesInTurn g.plan e.term → Begins 0 g 0 ys s → Opened d f g ys s e
 opens r d f g ys s e ground is at asked outcome typed realises begins =
     let p = g.plan in
     let list : List Element = In (ResultEnd 0) 0 ∷ ys in
     let runs : Runs p list begins.before begins.after = (seen g s, begins.asked, begins.runs) in
-    let keeps =
-    turns_keep_protocol p list begins.before begins.after (stage_ground r d g ground is) is.names is.outcome runs begins.turns in
-    let first = (realises begins.before begins.after list begins.idle runs keeps).0.1 (seen g s) begins.asked in
+    let first = (realises begins.before begins.after list begins.idle runs begins.turns).0.1 (seen g s) begins.asked in
     let shown : labels first.0 ≡ given 0 0 ∷ [] = first.3 ∙ request_shown p 0 is.outcome in
     let after = asked_first (child g e) first.0 first.1 (given 0 0) first.2 shown in
     let stays = inner_stays (child g e) after.0 e.term [] first.1 (silent_inner after.0 after.1) after.2 in
@@ -145,7 +143,7 @@ stirred r d g ground is p (Out (ImportEnd i h) v) ys s u t acts m st c past does
     let stands = token_stands g.plan (seen g s) (ImportEnd i h) (way_taken k.role) v held in
     let way = way_out (contact_at g.plan (ImportEnd i h)) in
     record {
-      inner = one_inner acts (label_at g.plan (ImportEnd i h) way v) shown (import_port g.plan i h v way k at);
+      inner = one_inner acts (label_at g.plan (ImportEnd i h) Request v) shown (import_port g.plan i h v Request k at);
       shown = shown ∙ sym (out_shown r g is.ports i h v stands);
       goes = tt;
       past = pass (ImportEnd i h) way ∷ past;
@@ -163,7 +161,7 @@ stirred r d g ground is p (In (ImportEnd i h) v) ys s u t acts m st c past does 
     let stands = stand i h (comes_open g.plan i h k past (stage_ground r d g ground is) at turns.0.0) in
     let way = way_in (contact_at g.plan (ImportEnd i h)) in
     record {
-      inner = one_inner acts (label_at g.plan (ImportEnd i h) way v) shown (import_port g.plan i h v way k at);
+      inner = one_inner acts (label_at g.plan (ImportEnd i h) Answer v) shown (import_port g.plan i h v Answer k at);
       shown = shown ∙ sym (in_shown r g is.ports i h v stands);
       goes = tt;
       past = pass (ImportEnd i h) way ∷ past;

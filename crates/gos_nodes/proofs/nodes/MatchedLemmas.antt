@@ -16,8 +16,8 @@ use Rattle.gos_plan.specs.Tokens.{Tokens, Element, Fire, Out, In, token_at, firi
 use Rattle.gos_plan.specs.TokenBits.{AllFit}
 use Rattle.gos_plan.proofs.DecidedLemmas.{one_state}
 use Rattle.gos_plan.proofs.TokenBitsLemmas.{all_stay_fit, idle_fits}
-use Rattle.gos_realises.specs.realises.Matched.{asks_on, shows, GoesOn, Agrees, IsMatched, program_of, RealisesDone}
-use Rattle.gos_realises.proofs.realises.InputLemmas.{protocol_keeps_turns, matching_suffices}
+use Rattle.gos_realises.specs.realises.Matched.{asks_on, shows, GoesOn, Agrees, IsMatched, program_of, RealisesInTurn}
+use Rattle.gos_realises.proofs.realises.InputLemmas.{matching_suffices}
 use Rattle.gos_realises.proofs.realises.MatchedLemmas.{matched_agrees}
 use Rattle.gos_nodes.specs.sessions.Sessions.{Form, Session, bits, own_part, own_term, own_type, run_shake, value_of, session_of, Computes, LeadsOn}
 use Rattle.gos_nodes.proofs.sessions.TableLemmas.{tables_are_right}
@@ -130,7 +130,7 @@ module _
       let same : found.0 ≡ g = node.one found.0 g found.1 has (found.2 ∙ asked) in
       let outcome : g.plan.outcome ≡ e.ty = subst (λ (x : Stage). x.plan.outcome ≡ e.ty) same found.3 in
       let typed : Typed g.plan.imports [] e.term e.ty = subst (λ (x : Stage). Typed x.plan.imports [] e.term e.ty) same found.4 in
-      let realises : RealisesDone g.plan e.term = subst (λ (x : Stage). RealisesDone x.plan e.term) same found.5 in
+      let realises : RealisesInTurn g.plan e.term = subst (λ (x : Stage). RealisesInTurn x.plan e.term) same found.5 in
       let here : session_of f (t.state d).phase (t.state d).number ≡ Some e = ap (λ (x : State). session_of f x.phase x.number) is ∙ at in
       let o = opens r d f g ys t e node.ground (node.stages g has) here asked outcome typed realises start in
       let within =
@@ -308,7 +308,5 @@ node_is_matched r d f gs s t xs node real idle runs turns =
 
 pub node_realises : NodeRealises
 node_realises r d f gs node real =
-    let is_regular = (node_is_regular r d f gs node).0 in
-    let done = subst IsDone (sym node.outcome) node.done in
-    matching_suffices r (own_term f) is_regular node.ground node.names done (λ s t xs idle runs keeps.
-    node_is_matched r d f gs s t xs node real idle runs (protocol_keeps_turns r xs s t is_regular node.ground node.names done idle runs keeps))
+    matching_suffices r (own_term f) (node_is_regular r d f gs node).0
+    (λ s t xs idle runs turns. node_is_matched r d f gs s t xs node real idle runs turns)

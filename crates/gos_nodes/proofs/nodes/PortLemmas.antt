@@ -16,7 +16,7 @@ use Rattle.gos_plan.specs.Tokens.{Tokens, Out, In, way_put, way_taken, bits_of, 
 use Rattle.gos_plan.specs.TokenBits.{TokensFit}
 use Rattle.gos_plan.proofs.JointLemmas.{same_is}
 use Rattle.gos_realises.specs.realises.Regular.{Pass, pass, is_open, is_request, way_in, ComesInTurn}
-use Rattle.gos_realises.specs.realises.Matched.{port_if, event_number, label_at, shows}
+use Rattle.gos_realises.specs.realises.Matched.{port_if, label_at, shows}
 use Rattle.gos_realises.specs.realises.Realises.{AllGround, NamesDiffer}
 use Rattle.gos_realises.proofs.realises.InputLemmas.{import_serves, one_ground}
 use Rattle.gos_realises.proofs.realises.ToldLemmas.{there_is}
@@ -24,7 +24,6 @@ use Rattle.gos_joining.proofs.renumbered.ImportLemmas.{has_type, type_has}
 use Rattle.gos_joining.specs.webs.Cutting.{StandsIn}
 use Rattle.gos_programs.specs.contexts.Widening.{AreAmong}
 use Rattle.gos_nodes.specs.sessions.Sessions.{value_of}
-use Rattle.gos_nodes.proofs.windows.TurnLemmas.{result_way_in, result_way_out}
 use Rattle.gos_nodes.proofs.windows.WholeLemmas.{zero_only}
 
 -- the result of a command or an expression has one handshake, at which the outside asks
@@ -36,10 +35,10 @@ no_more (Pair a b) h d = absurd d
 no_more (Fun a b) h d = absurd d
 
 pub request_shown : (p : Plan) (v : ℕ) → IsDone p.outcome → shows p (In (ResultEnd 0) v) ≡ given 0 v ∷ []
-request_shown p v d = ap (λ way. record { port = Given; event = event_number way 0; value = v } ∷ []) (result_way_in p.outcome d)
+request_shown p v d = refl
 
 pub answer_shown : (p : Plan) (v : ℕ) → IsDone p.outcome → shows p (Out (ResultEnd 0) v) ≡ given 1 v ∷ []
-answer_shown p v d = ap (λ way. record { port = Given; event = event_number way 0; value = v } ∷ []) (result_way_out p.outcome d)
+answer_shown p v d = refl
 
 passes_nothing : (p : Plan) (e : End) (v : ℕ) (o : Option Contact) (s t : Tokens) → o ≡ None → Passes p (Out e v) o s t → ⊥
 passes_nothing p e v o s t none h = subst (λ (x : Option Contact). Passes p (Out e v) x s t) none h

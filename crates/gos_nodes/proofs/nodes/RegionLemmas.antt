@@ -4,18 +4,17 @@ use Rattle.std.specs.Prelude.{◌≡◌, ◌≢◌, ℕ, true, List, [], ◌∷�
 use Rattle.std.proofs.Common.{arith, refl, sym, ap, ◌∙◌}
 use Rattle.std.proofs.lemmas.Bool.{cond-true, cond-false, ne_eqb}
 use Rattle.std.proofs.lemmas.Option.{slice_get_within}
-use Rattle.gos_types.specs.Events.{Direction, Answer}
+use Rattle.gos_types.specs.Events.{Direction, Request, Answer}
 use Rattle.gos_model.specs.Typing.{Imported}
 use Rattle.gos_model.specs.Labels.{Label}
 use Rattle.gos_model.specs.Moves.{Act}
 use Rattle.gos_plan.specs.Kinds.{Part, Contact}
 use Rattle.gos_plan.specs.Firing.{Rest, Slot, Req, Ans, State, at}
-use Rattle.gos_plan.specs.Plans.{End, PartEnd, ImportEnd, Joint, Plan, contact_at, contacts_of_import}
+use Rattle.gos_plan.specs.Plans.{End, PartEnd, ImportEnd, Joint, Plan, contact_at}
 use Rattle.gos_plan.specs.Tokens.{Tokens, Element, Fire, Out, In, places_of, held_at, token_at, way_taken, way_put, firing_of, Passes, Does}
 use Rattle.gos_plan.proofs.JointLemmas.{IsIn, Found, found, stands_there, contained, which_end}
 use Rattle.gos_plan.proofs.TurnLemmas.{token_state, fired_state}
 use Rattle.gos_plan.proofs.ElementLemmas.{firing_part}
-use Rattle.gos_realises.specs.realises.Regular.{way_in, way_out}
 use Rattle.gos_realises.specs.realises.Matched.{port_if, event_number, label_at, shows, GoesOn}
 use Rattle.gos_joining.specs.webs.Webs.{joint}
 use Rattle.gos_joining.specs.webs.Cutting.{Cut, lies_at, StandsIn, asks_in, cut_tokens}
@@ -73,11 +72,9 @@ outside_stays r g region n out (Out e v) s u t does (port, passes) = passes_stat
 outside_stays r g region n out (In e v) s u t does (port, passes) = comes_state r (lies_at g.cut e) v n (contact_at r (lies_at g.cut e)) s t passes
 
 -- the import at whose end it passes
-import_shown : (r c : Plan) (i k h : ℕ) (way : Option Contact → Direction) (v : ℕ) → slice_get r.imports k ≡ slice_get c.imports i
-    → label_at r (ImportEnd k h) (way (contact_at r (ImportEnd k h))) v ≡ label_at c (ImportEnd i h) (way (contact_at c (ImportEnd i h))) v
-import_shown r c i k h way v same =
-    ap (λ (o : Option Imported).
-    record { port = port_if o; event = event_number (way (slice_get (contacts_of_import o) h)) h; value = v }) same
+import_shown : (r c : Plan) (i k h : ℕ) (way : Direction) (v : ℕ) → slice_get r.imports k ≡ slice_get c.imports i
+    → label_at r (ImportEnd k h) way v ≡ label_at c (ImportEnd i h) way v
+import_shown r c i k h way v same = ap (λ (o : Option Imported). record { port = port_if o; event = event_number way h; value = v }) same
 
 -- a firing of the region shows nothing, and goes on where the stage's does
 pub fires_goes_on : (r : Plan) (g : Stage) → IsRegion g.cut g.sides r g.plan → (i : ℕ) (slot : Slot) (s u t : Tokens) (acts : List Act)
@@ -107,10 +104,10 @@ pub out_shown : (r : Plan) (g : Stage) → HasImports r g → (i h v : ℕ) → 
     → shows r (Out (g.cut.outer (ImportEnd i h)) v) ≡ shows g.plan (Out (ImportEnd i h) v)
 out_shown r g ports i h v stands =
     let port = ports i h stands in
-    ap (λ (e : End). shows r (Out e v)) port.1 ∙ ap (λ (l : Label). l ∷ []) (import_shown r g.plan i port.0 h way_out v port.2)
+    ap (λ (e : End). shows r (Out e v)) port.1 ∙ ap (λ (l : Label). l ∷ []) (import_shown r g.plan i port.0 h Request v port.2)
 
 pub in_shown : (r : Plan) (g : Stage) → HasImports r g → (i h v : ℕ) → StandsIn g.plan (ImportEnd i h)
     → shows r (In (g.cut.outer (ImportEnd i h)) v) ≡ shows g.plan (In (ImportEnd i h) v)
 in_shown r g ports i h v stands =
     let port = ports i h stands in
-    ap (λ (e : End). shows r (In e v)) port.1 ∙ ap (λ (l : Label). l ∷ []) (import_shown r g.plan i port.0 h way_in v port.2)
+    ap (λ (e : End). shows r (In e v)) port.1 ∙ ap (λ (l : Label). l ∷ []) (import_shown r g.plan i port.0 h Answer v port.2)

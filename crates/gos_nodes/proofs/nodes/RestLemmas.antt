@@ -10,7 +10,6 @@ use Rattle.gos_realises.specs.realises.Matched.{IsMatched, program_of}
 use Rattle.gos_nodes.specs.nodes.Realised.{RealisersRest}
 use Rattle.gos_nodes.proofs.nodes.SilentLemmas.{idle_shows, answer_last}
 use Rattle.gos_nodes.proofs.nodes.PortLemmas.{answer_shown}
-use Rattle.gos_nodes.proofs.windows.KeepingLemmas.{turns_keep_protocol}
 
 -- after its answer a program is idle
 pub ends_idle : (p : Program) (acts : List Act) (c d : Config) (v : ℕ) → Moves p acts c d → labels acts ≡ given 1 v ∷ [] → d ≡ Idle
@@ -27,7 +26,5 @@ rests_after p g v done (x ∷ xs) s t c (agrees, next) (u, does, runs) =
     let n = next u does in rests_after p g v done xs u t n.1 n.5 runs
 
 pub realisers_rest : RealisersRest
-realisers_rest p m ground names done realises s t xs v idle runs turns =
-    rests_after p (program_of p m) v done xs s t Idle
-    (realises s t (xs ++ Out (ResultEnd 0) v ∷ []) idle runs
-    (turns_keep_protocol p (xs ++ Out (ResultEnd 0) v ∷ []) s t ground names done runs turns)).0 runs
+realisers_rest p m done realises s t xs v idle runs turns =
+    rests_after p (program_of p m) v done xs s t Idle (realises s t (xs ++ Out (ResultEnd 0) v ∷ []) idle runs turns).0 runs

@@ -66,8 +66,12 @@ taken_given x e = cc e
 pub port_is_taken : (i : Imports) (o : Label) (a b : Term) → OneLabel i o a b → o.port ≡ Given → ⊥
 port_is_taken i o (Import x) b (inl (inl (h, e, et))) is = taken_given x (ap (λ l. l.port) (sym e) ∙ is)
 port_is_taken i o (Import x) b (inl (inr (w, h, e, et))) is = taken_given x (ap (λ l. l.port) (sym e) ∙ is)
-port_is_taken i o (Deref m) b (inl (x, w, em, h, e, et)) is = taken_given x (ap (λ l. l.port) (sym e) ∙ is)
-port_is_taken i o (Put m k) b (inl (x, w, em, h, e, et)) is = taken_given x (ap (λ l. l.port) (sym e) ∙ is)
+port_is_taken i o (Deref m) b (inl (inl (x, w, em, h, e, et))) is = taken_given x (ap (λ l. l.port) (sym e) ∙ is)
+port_is_taken i o (Deref m) b (inl (inr (x, p, h))) is = taken_given x (sym p ∙ is)
+port_is_taken i o (Deref m) b (inr (x, p, h)) is = taken_given x (sym p ∙ is)
+port_is_taken i o (Put m k) b (inl (inl (x, w, em, h, e, et))) is = taken_given x (ap (λ l. l.port) (sym e) ∙ is)
+port_is_taken i o (Put m k) b (inl (inr (x, p, h))) is = taken_given x (sym p ∙ is)
+port_is_taken i o (Put m k) b (inr (x, p, h)) is = taken_given x (sym p ∙ is)
 port_is_taken i o (Wait x n) b (inr (p, e, h)) is = taken_given x (sym p ∙ is)
 port_is_taken i o a b (inl h) is = absurd h
 port_is_taken i o a b (inr h) is = absurd h

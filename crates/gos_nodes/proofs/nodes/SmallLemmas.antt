@@ -5,10 +5,9 @@ use Rattle.std.proofs.lemmas.Option.{none-some, same_Some}
 use Rattle.gos_types.specs.Types.{Com}
 use Rattle.gos_model.specs.Terms as terms
 use Rattle.gos_model.specs.Typing.{Typed}
-use Rattle.gos_plan.specs.Kinds.{Skip}
 use Rattle.gos_plan.specs.Firing.{Phase, First, Second}
 use Rattle.gos_plan.specs.SmallPlans.{skip_plan}
-use Rattle.gos_realises.specs.realises.Matched.{RealisesDone}
+use Rattle.gos_realises.specs.realises.Matched.{RealisesInTurn}
 use Rattle.gos_realises.proofs.realises.SkipLemmas.{skip_is_realised}
 use Rattle.gos_joining.specs.webs.SmallWebs.{twice_plan, first_out}
 use Rattle.gos_nodes.specs.sessions.Sessions.{Session, session, session_of}
@@ -19,7 +18,7 @@ use Rattle.gos_nodes.specs.nodes.SmallNodes.{skip_stage, twice_stages, TwiceIsNo
 use Rattle.gos_nodes.proofs.nodes.MatchedLemmas.{node_realises}
 
 -- each Skip realises its term
-skip_realises : RealisesDone skip_plan terms.Skip
+skip_realises : RealisesInTurn skip_plan terms.Skip
 skip_realises = skip_is_realised.means
 
 abbrev first_session : Session
@@ -32,7 +31,7 @@ second_session = session 1 terms.Skip Com (λ x. x)
 abbrev HasStage : Session → Type 0
 HasStage e =
     (g : Stage) × Contains twice_stages g × (g.asked_at ≡ e.asked_at) × (g.plan.outcome ≡ e.ty)
-    × Typed g.plan.imports [] e.term e.ty × RealisesDone g.plan e.term
+    × Typed g.plan.imports [] e.term e.ty × RealisesInTurn g.plan e.term
 
 stage_of : (p : Phase) (n : ℕ) (e : Session) → session_of twice_form p n ≡ Some e → HasStage e
 stage_of First n e h =

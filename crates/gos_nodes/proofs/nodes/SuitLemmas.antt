@@ -7,7 +7,7 @@ use Rattle.gos_model.specs.Terms.{Term, Skip, Seq, If, While, Not, Bin, Held}
 use Rattle.gos_model.specs.Typing.{Imports, Typed}
 use Rattle.gos_plan.specs.Firing.{Phase, First, Second, Test, Branch, Body, Left, Right, Waiting}
 use Rattle.gos_plan.specs.Plans.{Plan}
-use Rattle.gos_realises.specs.realises.Matched.{RealisesDone}
+use Rattle.gos_realises.specs.realises.Matched.{RealisesInTurn}
 use Rattle.gos_realises.specs.realises.Realises.{Means}
 use Rattle.gos_nodes.specs.sessions.Sessions.{Form, Sequence, Choice, Loop, Binary, Complement, Session, session, session_of, own_term, own_type}
 use Rattle.gos_programs.proofs.contexts.WideningLemmas.{typed_more}
@@ -43,7 +43,7 @@ own_typed i (Binary op w m n) done each = (
 )
 own_typed i (Complement w m) done each = (w, refl, each Waiting 0 (session 0 m (Exp w) (λ x. Not x)) refl)
 
-means_done : (t : Type') (p : Plan) (m : Term) → IsDone t → RealisesDone p m → Means t p m
+means_done : (t : Type') (p : Plan) (m : Term) → IsDone t → RealisesInTurn p m → Means t p m
 means_done Com p m d h = h
 means_done (Exp w) p m d h = h
 means_done (Var w) p m d h = absurd d

@@ -16,7 +16,7 @@ use Rattle.gos_plan.specs.Tokens.{Tokens, Element, Fire, Out, In, places_of, hel
 use Rattle.gos_plan.specs.TokenBits.{LiteralFits, AllFit}
 use Rattle.gos_plan.proofs.DecidedLemmas.{one_state}
 use Rattle.gos_joining.specs.webs.Cutting.{Cut, cut_tokens}
-use Rattle.gos_realises.specs.realises.Regular.{Pass, way_in, way_out, is_open}
+use Rattle.gos_realises.specs.realises.Regular.{Pass, is_open}
 use Rattle.gos_realises.specs.realises.Matched.{port_if, event_number, shows, asks_on, GoesOn, Agrees, IsMatched, program_of}
 use Rattle.gos_realises.specs.realises.Realises.{AllGround}
 use Rattle.gos_realises.proofs.realises.RingLemmas.{after}
@@ -37,7 +37,7 @@ use Rattle.gos_nodes.proofs.parallel.DriverLemmas.{begin_row, end_row}
 use Rattle.gos_nodes.proofs.windows.KeepingLemmas.{InTurn}
 use Rattle.gos_nodes.proofs.parallel.RegionLemmas as region
 use Rattle.gos_nodes.proofs.parallel.StepLemmas.{gate, Same, Local, fires, puts_out, takes_in, Step, of_left, of_right, asked, told, starts, left_ends, right_ends, left_ends_all, right_ends_all, lost, step, free_left, free_right, gate_at_result, gate_at_part}
-use Rattle.gos_nodes.proofs.parallel.LinkedLemmas.{Linked, Comes, first_comes, past_all, left_seen, right_seen, left_list, right_list, linked_step, fits_on, when_asking, ways_left, ways_right, way_asked, way_told, not_lost, asked_turn}
+use Rattle.gos_nodes.proofs.parallel.LinkedLemmas.{Linked, Comes, first_comes, past_all, left_seen, right_seen, left_list, right_list, linked_step, fits_on, when_asking, not_lost, asked_turn}
 use Rattle.gos_nodes.proofs.parallel.OutputLemmas.{import_real}
 use Rattle.gos_nodes.proofs.parallel.OpenLemmas.{firing_same}
 use Rattle.gos_nodes.proofs.parallel.OrderLemmas.{par_firing}
@@ -162,16 +162,16 @@ module _
   left_shows : (x y : Element) → Local f r p x y → shows p y ≡ shows r x
   left_shows x y (fires i j k number) = refl
   left_shows x y (puts_out i j k v stands leads slices) =
-      λ t. record { port = port_if (slices t); event = event_number (way_out (sym (ways_left d f g r p q is literals i j k stands leads) t)) k; value = v } ∷ []
+      λ t. record { port = port_if (slices t); event = event_number Request k; value = v } ∷ []
   left_shows x y (takes_in i j k v stands leads slices) =
-      λ t. record { port = port_if (slices t); event = event_number (way_in (sym (ways_left d f g r p q is literals i j k stands leads) t)) k; value = v } ∷ []
+      λ t. record { port = port_if (slices t); event = event_number Answer k; value = v } ∷ []
 
   right_shows : (x y : Element) → Local g r q x y → shows q y ≡ shows r x
   right_shows x y (fires i j k number) = refl
   right_shows x y (puts_out i j k v stands leads slices) =
-      λ t. record { port = port_if (slices t); event = event_number (way_out (sym (ways_right d f g r p q is literals i j k stands leads) t)) k; value = v } ∷ []
+      λ t. record { port = port_if (slices t); event = event_number Request k; value = v } ∷ []
   right_shows x y (takes_in i j k v stands leads slices) =
-      λ t. record { port = port_if (slices t); event = event_number (way_in (sym (ways_right d f g r p q is literals i j k stands leads) t)) k; value = v } ∷ []
+      λ t. record { port = port_if (slices t); event = event_number Answer k; value = v } ∷ []
 
   not_given : (o : Option Imported) (x : Imported) → o ≡ Some x → port_if o ≡ Given → ⊥
   not_given o x at same = let bad : Taken x.name ≡ Given = sym (ap port_if at) ∙ same in cc bad
@@ -593,7 +593,6 @@ module _
         when_asking (is_open past (ResultEnd 0)) (s'.state d).phase (gate s' Request) (gate s' Answer) linked.driven.stage
         (asked_turn d f g r p q is literals past comes) in
         let (left_is, right_is, is_idle) = at_rest (s'.state d).phase (gate s' Request) (gate s' Answer) left right c stood rest none empty in
-        let way = sym (way_asked d f g r p q is literals r is.outcome) in
         record {
           acts = Showing (given 0 0) ∷ [];
           to = Running (Par m n) [];
@@ -601,7 +600,7 @@ module _
           right_to = right;
           moves =
               subst (λ (x : Config). Moves on_both (Showing (given 0 0) ∷ []) x (Running (Par m n) [])) (sym is_idle) (Running (Par m n) [], (refl, refl), refl);
-          shown = λ t. record { port = Given; event = event_number (way t) 0; value = sym small t } ∷ [];
+          shown = λ t. given 0 (sym small t) ∷ [];
           goes_on = tt;
           stood = waits (ap (λ q. q.phase) state ∙ rest) (ask ∙ ap (λ k. Some k) small) (ans ∙ empty) left_is right_is refl;
           left_came = left_came;
@@ -611,7 +610,6 @@ module _
         }
     follow x s w (told v s' w' left_same right_same state ans none ask) linked comes stood left_came right_came left_matched right_matched =
         let (store, rest, empty, value, left_is, right_is, is_skip) = at_done (s'.state d).phase (gate s' Request) (gate s' Answer) left right c v stood ans in
-        let way = sym (way_told d f g r p q is literals r is.outcome) in
         record {
           acts = Showing (given 1 0) ∷ [];
           to = Idle;
@@ -619,7 +617,7 @@ module _
           right_to = right;
           moves =
               subst (λ (x : Config). Moves on_both (Showing (given 1 0) ∷ []) x Idle) (sym is_skip) (Idle, (0, Skip, refl, inl (refl, refl)), refl);
-          shown = λ t. record { port = Given; event = event_number (way t) 0; value = value t } ∷ [];
+          shown = λ t. given 1 (value t) ∷ [];
           goes_on = tt;
           stood = rests (ap (λ q. q.phase) state ∙ rest) (ask ∙ empty) none left_is right_is refl;
           left_came = left_came;

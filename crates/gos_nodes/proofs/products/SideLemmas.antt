@@ -11,7 +11,7 @@ use Rattle.gos_model.specs.Typing.{Imported}
 use Rattle.gos_plan.specs.Kinds.{Part, Contact, asks, serves, contacts_of}
 use Rattle.gos_plan.specs.Plans.{End, PartEnd, ImportEnd, ResultEnd, Joint, Plan, contact_at, contacts_of_part, contacts_of_import, turned_if, stands_in, Fits, IsRight}
 use Rattle.gos_plan.specs.Joining.{Place, place, Wiring, JoinedWithin, Linked, LeftImport, Path, Connects, all_left, left_in, left_place, origin, IsJoining}
-use Rattle.gos_plan.proofs.JointLemmas.{one_joint, contained, fits, ends_are_apart}
+use Rattle.gos_plan.proofs.JointLemmas.{one_joint, contained, fits}
 use Rattle.gos_plan.proofs.ContactLemmas.{asks_is_not_serves, part_is_there}
 use Rattle.gos_realises.specs.realises.Wirings.{side}
 use Rattle.gos_realises.proofs.realises.ToldLemmas.{there_is}

@@ -13,11 +13,12 @@ use Rattle.gos_model.specs.Protocol as protocol
 use Rattle.gos_model.specs.Protocol.{event_of, FitsAnswer, Allowed, KeepsAfter, KeepsProtocol}
 use Rattle.gos_plan.specs.Kinds.{Contact, contacts_of}
 use Rattle.gos_plan.specs.Plans.{End, ImportEnd, ResultEnd, Plan, contact_at, contacts_of_import}
-use Rattle.gos_plan.specs.Tokens.{Tokens, Element, Fire, Out, In, IsPortEnd, Passes, way_taken, way_put, bits_of, Runs}
-use Rattle.gos_realises.specs.realises.Regular.{Pass, pass, way_in, way_out, ComesInTurn, InputsKeepTurns}
-use Rattle.gos_realises.specs.realises.Matched.{port_if, event_number, label_at, all_shown}
+use Rattle.gos_plan.specs.Tokens.{Tokens, Element, Fire, Out, In, IsPortEnd, Passes, way_taken, way_put, bits_of, Runs, IsIdle}
+use Rattle.gos_realises.specs.realises.Regular.{Pass, pass, way_in, way_out, ComesInTurn, InputsKeepTurns, IsRegular}
+use Rattle.gos_realises.specs.realises.Matched.{port_if, event_number, outward, inward, label_at, all_shown}
 use Rattle.gos_realises.specs.realises.Realises.{AllGround, NamesDiffer}
-use Rattle.gos_realises.proofs.realises.InputLemmas.{in_there, out_there, one_ground, OpenAlike, alike_first, alike_after}
+use Rattle.gos_realises.proofs.realises.InputLemmas.{in_there, out_there, one_ground, outward_way, inward_way, OpenAlike, alike_first, alike_out, alike_in}
+use Rattle.gos_realises.proofs.realises.PortInputLemmas.{protocol_keeps_turns}
 use Rattle.gos_realises.proofs.realises.ToldLemmas.{one_name, shake_event, asks_event, there_is}
 use Rattle.gos_nodes.specs.windows.Keeping.{TurnsKeepProtocol}
 use Rattle.gos_nodes.proofs.windows.PortLemmas.{port_role}
@@ -126,20 +127,20 @@ module _ (p : Plan) (ground : AllGround p.imports) (differ : NamesDiffer p.impor
   keeps (Fire i slot ∷ xs) u t ls past agree (w, does, runs) turns = keeps xs w t ls past agree runs turns
   keeps (Out e v ∷ xs) u t ls past agree (w, does, runs) turns =
       let (c, there) = out_there p e v u w does in
-      let way = ap way_out there in
-      let shown : is_output (label_at p e (way_out (contact_at p e)) v) ≡ true = ap (λ (d : Direction). is_output (label_at p e d v)) way ∙ shows_output e v c does.0 there in (
-        (λ no. absurd (true_is_not_false (is_output (label_at p e (way_out (contact_at p e)) v)) shown no)),
-        keeps xs w t (label_at p e (way_out (contact_at p e)) v ∷ ls) (pass e (way_out (contact_at p e)) ∷ past)
-            (alike_after p differ e (way_out (contact_at p e)) v ls past c there does.0 agree) runs turns,
+      let way = sym (outward_way p ground done e c there does.0) ∙ ap way_out there in
+      let shown : is_output (label_at p e (outward e) v) ≡ true = ap (λ (d : Direction). is_output (label_at p e d v)) way ∙ shows_output e v c does.0 there in (
+        (λ no. absurd (true_is_not_false (is_output (label_at p e (outward e) v)) shown no)),
+        keeps xs w t (label_at p e (outward e) v ∷ ls) (pass e (way_out (contact_at p e)) ∷ past)
+            (alike_out p differ ground done e v ls past c there does.0 agree) runs turns,
       )
   keeps (In e v ∷ xs) u t ls past agree (w, does, runs) turns =
       let (c, there) = in_there p e v u w does in
       let way = ap way_in there in
       let passes = subst (λ (o : Option Contact). Passes p (In e v) o u w) there does.1 in
       let allowed = input_allowed e v ls past c there does.0 agree (subst (ComesInTurn past e) way turns.0) passes.0 in (
-        (λ input. subst (λ (d : Direction). Permitted ls e v d) (sym way) allowed),
-        keeps xs w t (label_at p e (way_in (contact_at p e)) v ∷ ls) (pass e (way_in (contact_at p e)) ∷ past)
-            (alike_after p differ e (way_in (contact_at p e)) v ls past c there does.0 agree) runs turns.1,
+        (λ input. subst (λ (d : Direction). Permitted ls e v d) (sym way ∙ inward_way p ground done e c there does.0) allowed),
+        keeps xs w t (label_at p e (inward e) v ∷ ls) (pass e (way_in (contact_at p e)) ∷ past)
+            (alike_in p differ ground done e v ls past c there does.0 agree) runs turns.1,
       )
 
   pub in_turn_keeps : (xs : List Element) (s t : Tokens) → Runs p xs s t → InTurn p [] xs → KeepsProtocol p.imports (all_shown p xs)
@@ -147,3 +148,9 @@ module _ (p : Plan) (ground : AllGround p.imports) (differ : NamesDiffer p.impor
 
 pub turns_keep_protocol : TurnsKeepProtocol
 turns_keep_protocol p xs s t ground differ done runs turns = in_turn_keeps p ground differ done xs s t runs (turns_in_turn p [] xs turns)
+
+-- so the inputs of a regular plan that come in turn keep turns
+pub own_turns : (p : Plan) → IsRegular p → AllGround p.imports → NamesDiffer p.imports → IsDone p.outcome → (xs : List Element) (s t : Tokens)
+    → IsIdle p s → Runs p xs s t → InTurn p [] xs → InputsKeepTurns p [] xs
+own_turns p regular ground differ done xs s t idle runs turn =
+    protocol_keeps_turns p xs s t regular ground differ done idle runs (in_turn_keeps p ground differ done xs s t runs turn)

@@ -10,7 +10,7 @@ use Rattle.gos_model.specs.Moves.{Program, Config, Running, Act, Moves, labels}
 use Rattle.gos_plan.specs.Plans.{ResultEnd, Plan}
 use Rattle.gos_plan.specs.Tokens.{Tokens, Element, Out, In, Does, Runs, IsIdle}
 use Rattle.gos_realises.specs.realises.Regular.{InputsKeepTurns}
-use Rattle.gos_realises.specs.realises.Matched.{shows, GoesOn, Agrees, program_of, RealisesDone}
+use Rattle.gos_realises.specs.realises.Matched.{shows, GoesOn, Agrees, program_of, RealisesInTurn}
 use Rattle.gos_realises.specs.realises.Realises.{AllGround, Realises}
 use Rattle.gos_nodes.specs.windows.Nodes.{Stage}
 use Rattle.gos_nodes.specs.windows.OneSession.{IsTidy, EndsWell}
@@ -40,7 +40,7 @@ SessionIsRealised p h k n =
 
 -- the stage of N realises N, and M's stage does what `M := k` does where it is written with k
 pub record AreWritten (w : ℕ) (m n : Term) (gs : List Stage) : Type 0 where
-  pub number : (g : Stage) → Contains gs g → g.asked_at ≡ 0 → Typed g.plan.imports [] n (Exp w) × RealisesDone g.plan n
+  pub number : (g : Stage) → Contains gs g → g.asked_at ≡ 0 → Typed g.plan.imports [] n (Exp w) × RealisesInTurn g.plan n
   pub variable :
       (g : Stage) → Contains gs g → g.asked_at ≡ 1
       → (k : ℕ) → k < 2 ^ w → Typed g.plan.imports [] (Assign m (Lit k w)) Com × SessionIsRealised g.plan 1 k (Assign m (Lit k w))
@@ -49,7 +49,7 @@ pub record AreWritten (w : ℕ) (m n : Term) (gs : List Stage) : Type 0 where
 abbrev pub WriteRealises : Type 0
 WriteRealises =
     (r : Plan) (d w : ℕ) (gs : List Stage) (m n : Term)
-    → IsWrite r d w gs → AllGround r.imports → AreRestful gs → AreWritten w m n gs → RealisesDone r (Assign m n)
+    → IsWrite r d w gs → AllGround r.imports → AreRestful gs → AreWritten w m n gs → RealisesInTurn r (Assign m n)
 
 abbrev pub WriteRealisesByType : Type 0
 WriteRealisesByType =

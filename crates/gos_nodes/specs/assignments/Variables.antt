@@ -9,7 +9,7 @@ use Rattle.gos_model.specs.Terms.{Term}
 use Rattle.gos_plan.specs.Kinds.{Lit}
 use Rattle.gos_plan.specs.Plans.{PartEnd, ResultEnd, Plan}
 use Rattle.gos_realises.specs.realises.Regular.{IsRegular}
-use Rattle.gos_realises.specs.realises.Matched.{RealisesDone}
+use Rattle.gos_realises.specs.realises.Matched.{RealisesInTurn}
 use Rattle.gos_realises.specs.realises.Realises.{AllGround}
 use Rattle.gos_joining.specs.webs.Webs.{joint}
 use Rattle.gos_joining.specs.webs.Cutting.{Cut, StandsIn}
@@ -39,4 +39,4 @@ pub record IsLoneWrite (q : Plan) (d l w k : ℕ) (f : Cut) (p : Plan) : Type 0 
 abbrev pub LoneWriteIsSession : Type 0
 LoneWriteIsSession =
     (q : Plan) (d l w k : ℕ) (f : Cut) (p : Plan) (m : Term)
-    → IsLoneWrite q d l w k f p → IsRegular q → RealisesDone q (terms.Assign m (terms.Lit k w)) → SessionIsRealised p 1 k (terms.Assign m (terms.Lit k w))
+    → IsLoneWrite q d l w k f p → IsRegular q → RealisesInTurn q (terms.Assign m (terms.Lit k w)) → SessionIsRealised p 1 k (terms.Assign m (terms.Lit k w))

@@ -14,6 +14,7 @@ use Rattle.gos_joining.specs.webs.Webs.{joint}
 use Rattle.gos_joining.specs.webs.Cutting.{Cut}
 use Rattle.gos_realises.specs.realises.Realises.{Realises}
 use Rattle.gos_nodes.specs.parallel.SmallParallel.{skip_number}
+use Rattle.gos_nodes.specs.blocks.Servers.{local_server}
 use Rattle.gos_nodes.specs.blocks.Block.{Block, IsBlock}
 
 abbrev pub one_bit : Imported
@@ -50,7 +51,7 @@ abbrev pub body_out : Cut
 body_out = record { part = λ i. 1; number = skip_number; outer = body_outer; inner = body_inner }
 
 abbrev pub skip_block : Block
-skip_block = record { own = 0; width = 1; body = unused; cut = body_out; place = 0; variable = one_bit }
+skip_block = record { own = 0; server = local_server 1 0; body = unused; cut = body_out; place = 0; variable = one_bit }
 
 -- it is a block
 abbrev pub NewSkipIsBlock : Type 0
@@ -60,9 +61,9 @@ NewSkipIsBlock = IsBlock new_skip skip_block
 abbrev pub VariableIsNeeded : Type 0
 VariableIsNeeded = IsBlock new_skip (record skip_block { body = skip_plan }) → ⊥
 
--- nor with a variable of another width, or with another part in the place of Local
+-- nor with a variable of another width, or with another part in the place of the server
 abbrev pub WidthIsNeeded : Type 0
-WidthIsNeeded = IsBlock new_skip (record skip_block { width = 2 }) → ⊥
+WidthIsNeeded = IsBlock new_skip (record skip_block { server = local_server 2 0 }) → ⊥
 
 abbrev pub OtherPartIsNot : Type 0
 OtherPartIsNot = IsBlock new_skip (record skip_block { own = 1 }) → ⊥

@@ -10,8 +10,8 @@ use Rattle.gos_plan.specs.Firing.{Phase}
 use Rattle.gos_plan.specs.Plans.{Plan}
 use Rattle.gos_plan.specs.Tokens.{Tokens, Element, Runs, IsIdle}
 use Rattle.gos_realises.specs.realises.Regular.{InputsKeepTurns}
-use Rattle.gos_realises.specs.realises.Matched.{IsMatched, program_of, RealisesDone}
-use Rattle.gos_realises.specs.realises.Realises.{AllGround, NamesDiffer, Realises}
+use Rattle.gos_realises.specs.realises.Matched.{IsMatched, program_of, RealisesInTurn}
+use Rattle.gos_realises.specs.realises.Realises.{Realises}
 use Rattle.gos_nodes.specs.sessions.Sessions.{Form, Session, session_of, own_term, own_type}
 use Rattle.gos_nodes.specs.windows.Nodes.{Stage, IsRestful, IsNode}
 
@@ -20,7 +20,7 @@ abbrev pub AreRealised : Form → List Stage → Type 0
 AreRealised f gs =
     (p : Phase) (n : ℕ) (e : Session) → session_of f p n ≡ Some e
     → (g : Stage) × Contains gs g × (g.asked_at ≡ e.asked_at) × (g.plan.outcome ≡ e.ty)
-    × Typed g.plan.imports [] e.term e.ty × RealisesDone g.plan e.term
+    × Typed g.plan.imports [] e.term e.ty × RealisesInTurn g.plan e.term
 
 -- Then each list of the node from an idle state, where its inputs keep turns, is matched by the form's term.
 abbrev pub NodeIsMatched : Type 0
@@ -31,7 +31,7 @@ NodeIsMatched =
 
 -- So the node realises the term: its lists are orderly too, since a node is regular.
 abbrev pub NodeRealises : Type 0
-NodeRealises = (r : Plan) (d : ℕ) (f : Form) (gs : List Stage) → IsNode r d f gs → AreRealised f gs → RealisesDone r (own_term f)
+NodeRealises = (r : Plan) (d : ℕ) (f : Form) (gs : List Stage) → IsNode r d f gs → AreRealised f gs → RealisesInTurn r (own_term f)
 
 -- The plan suits the term too, so it realises it by its type.
 abbrev pub NodeRealisesByType : Type 0
@@ -42,4 +42,4 @@ NodeRealisesByType =
 abbrev pub RealisersRest : Type 0
 RealisersRest =
     (p : Plan) (m : Term)
-    → AllGround p.imports → NamesDiffer p.imports → IsDone p.outcome → RealisesDone p m → IsRestful p
+    → IsDone p.outcome → RealisesInTurn p m → IsRestful p

@@ -4,7 +4,7 @@
 use Rattle.std.specs.Prelude.{ℕ, List, [], ◌∷◌}
 use Rattle.gos_model.specs.Terms as terms
 use Rattle.gos_plan.specs.SmallPlans.{skip_plan}
-use Rattle.gos_realises.specs.realises.Matched.{RealisesDone}
+use Rattle.gos_realises.specs.realises.Matched.{RealisesInTurn}
 use Rattle.gos_joining.specs.webs.Cutting.{Cut}
 use Rattle.gos_joining.specs.webs.SmallWebs.{twice_plan, first_out}
 use Rattle.gos_nodes.specs.windows.Nodes.{Stage, IsNode}
@@ -32,4 +32,4 @@ TwoSkipsAreRealised = AreRealised twice_form twice_stages × (AreRealised twice_
 
 -- so the plan realises `skip ; skip`
 abbrev pub TwiceIsRealised : Type 0
-TwiceIsRealised = RealisesDone twice_plan (terms.Seq terms.Skip terms.Skip)
+TwiceIsRealised = RealisesInTurn twice_plan (terms.Seq terms.Skip terms.Skip)

@@ -1,5 +1,6 @@
 // What the plan of a block does. Each theorem is the contract of a function that does nothing.
 ghost use Rattle.gos_nodes.specs.blocks.Block.{BlockIsRegular, BlockRealises, OpenBlockIsRegular, OpenBlockIsRestful};
+ghost use Rattle.gos_nodes.specs.blocks.SmallServers.{LocalIsServer, OthersAreNone, TypeIsNeeded, OpenIsNone};
 ghost use Rattle.gos_nodes.specs.blocks.SmallBlocks.{NewSkipIsBlock, NewSkipIsRealised, VariableIsNeeded, WidthIsNeeded, OtherPartIsNot};
 
 /// Where the body's plan is regular the whole is, with imports of any types; where it rests after its answer so does the whole;
@@ -11,8 +12,17 @@ pub fn blocks()
     ensures realises { BlockRealises }
 {}
 
+/// A local variable is a server of a variable. Other parts in its place are none, nor is it one of an expression, of a variable of
+/// another width, or with another answer; and none that has something open from the start, or that never runs its body.
+pub fn small_servers()
+    ensures local { LocalIsServer }
+    ensures others { OthersAreNone }
+    ensures supply { TypeIsNeeded }
+    ensures opened { OpenIsNone }
+{}
+
 /// The plan of `new x : 1 in skip` is a block. Without an import for the variable, with a variable of another width, or with
-/// another part in the place of Local it isn't.
+/// another part in the place of the server it isn't.
 pub fn small_blocks()
     ensures block { NewSkipIsBlock }
     ensures realised { NewSkipIsRealised }

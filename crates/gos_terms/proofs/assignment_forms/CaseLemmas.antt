@@ -93,7 +93,7 @@ module _ (insides : InsideIsRealised) (types : Types) (ns : List ℕ) (ss : List
         number_stage : IsStage r d (stage_of f pl pln r e)
         number_stage =
             child_is_stage f own ts pl pln r e 0 (node.f_is types ns ss w m n kept var num i j env pl r wired of_types ordered) refl (node.parts types ns ss w m n kept var num i j env pl r wired of_types ordered) (node.laid types ns ss w m n kept var num i j env pl r wired of_types ordered) staged done answers.suits.regular
-            (realisers_rest e (Means n) answers.suits.all_ground answers.suits.names done answers.means) answers.suits.names
+            (realisers_rest e (Means n) done answers.means) answers.suits.names
             (servings_are_loyal f own ts pl pln r e (node.f_is types ns ss w m n kept var num i j env pl r wired of_types ordered) (node.parts types ns ss w m n kept var num i j env pl r wired of_types ordered) (node.laid types ns ss w m n kept var num i j env pl r wired of_types ordered) staged ordered)
 
         number_laid : assignments.IsLaid r d (stage_of f pl pln r e) e

@@ -14,7 +14,7 @@ use Rattle.gos_realises.specs.realises.Regular.{count}
 use Rattle.gos_ties.specs.declared.points.Place.{Place}
 use Rattle.gos_ties.specs.declared.points.Place.TheVariants as places
 use Rattle.gos_ties.specs.declared.points.Point.{Point}
-use Rattle.gos_joining.specs.webs.Webs.{Dot, Number, Node, Tie}
+use Rattle.gos_joining.specs.webs.Webs.{Dot, Tie}
 use Rattle.gos_joining.specs.unions.Unions.{within}
 use Rattle.gos_compile.specs.Wiring.{Types, answer_bits, shares, shares_ties, parts_of, nodes}
 use Rattle.gos_terms.specs.wired.Wired.{Supplies, dot_ties, all_supply_ties}

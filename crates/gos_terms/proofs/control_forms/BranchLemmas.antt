@@ -11,7 +11,7 @@ use Rattle.gos_check.specs.Linearity.{times}
 use Rattle.gos_plan.specs.Kinds.{Part}
 use Rattle.gos_plan.specs.Plans.{Plan}
 use Rattle.gos_plan.specs.TokenBits.{LiteralFits}
-use Rattle.gos_realises.specs.realises.Matched.{RealisesDone}
+use Rattle.gos_realises.specs.realises.Matched.{RealisesInTurn}
 use Rattle.gos_realises.specs.realises.Realises.{NamesDiffer, Means, Realises}
 use Rattle.gos_joining.specs.webs.Webs.{Tie}
 use Rattle.gos_nodes.specs.windows.Nodes.{IsStage}
@@ -33,7 +33,7 @@ use Rattle.gos_terms.specs.ground_forms.Cases.{RealisesWired}
 use Rattle.gos_terms.proofs.ground_forms.ChildLemmas.{child_realises}
 use Rattle.gos_terms.specs.run_children.Forks.{Branch, IsFork, AreBranches, branch_child, BranchIsChild, BranchHasParts}
 
-pub means_run : (t : Type') (p : Plan) (m : Term) → IsDone t → Means t p m → RealisesDone p m
+pub means_run : (t : Type') (p : Plan) (m : Term) → IsDone t → Means t p m → RealisesInTurn p m
 means_run Com p m done h = h
 means_run (Exp w) p m done h = h
 means_run (Var w) p m done h = absurd done
@@ -85,7 +85,7 @@ module _ (within : InsideIsRealised) (child : BranchIsChild) (parts : BranchHasP
     pub outcome : cared.plan.outcome ≡ type_of_node b.term
     outcome = realises.suits.outcome
 
-    pub is_run : RealisesDone cared.plan (meaning (inside ss (terms_of env)) b.term)
+    pub is_run : RealisesInTurn cared.plan (meaning (inside ss (terms_of env)) b.term)
     is_run = means_run (type_of_node b.term) cared.plan (meaning (inside ss (terms_of env)) b.term) (fork.done b listed) realises.means
 
     done : IsDone cared.plan.outcome
@@ -94,7 +94,7 @@ module _ (within : InsideIsRealised) (child : BranchIsChild) (parts : BranchHasP
     is_stage : IsStage r (pl.own (length ss)) (stage_of its_child pl cared.placing r cared.plan)
     is_stage =
         child_is_stage its_child all_parts ties pl cared.placing r cared.plan (length before) is_child refl has_parts laid found.2 done realises.suits.regular
-        (realisers_rest cared.plan (meaning (inside ss (terms_of env)) b.term) realises.suits.all_ground realises.suits.names done is_run) realises.suits.names
+        (realisers_rest cared.plan (meaning (inside ss (terms_of env)) b.term) done is_run) realises.suits.names
         (servings_are_loyal its_child all_parts ties pl cared.placing r cared.plan is_child has_parts laid found.2 (realised_are_ordered types env ns supplies))
 
     pub is_cared : IsCared all_parts ties i pl r (pl.own (length ss)) cared

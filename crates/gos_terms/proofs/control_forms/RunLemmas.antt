@@ -8,7 +8,7 @@ use Rattle.gos_check.specs.Nodes.{Numbered, inside, meaning, type_of_node}
 use Rattle.gos_plan.specs.Firing.{Phase}
 use Rattle.gos_plan.specs.Plans.{Plan}
 use Rattle.gos_plan.specs.TokenBits.{LiteralFits}
-use Rattle.gos_realises.specs.realises.Matched.{RealisesDone}
+use Rattle.gos_realises.specs.realises.Matched.{RealisesInTurn}
 use Rattle.gos_realises.specs.realises.Realises.{NamesDiffer, Realises}
 use Rattle.gos_joining.specs.webs.Webs.{Tie}
 use Rattle.gos_joining.proofs.unions.UnionLemmas.{in_image}
@@ -61,7 +61,7 @@ module _ (insides : InsideIsRealised) (child : BranchIsChild) (parts : BranchHas
   -- what the child does that runs a branch
   record Runs (b : Branch) (x : Cared) : Type 0 where
     realises : Realises (type_of_node b.term) x.plan (meaning (inside ss (terms_of env)) b.term)
-    is_run : RealisesDone x.plan (meaning (inside ss (terms_of env)) b.term)
+    is_run : RealisesInTurn x.plan (meaning (inside ss (terms_of env)) b.term)
 
   runs : (before after : List Branch) (b : Branch) (at : bs ≡ before ++ b ∷ after) → Runs b (cared before after b at)
   runs before after b at =
@@ -85,7 +85,7 @@ module _ (insides : InsideIsRealised) (child : BranchIsChild) (parts : BranchHas
     listed : Contains es x
     shake : asked x.child ≡ s.asked_at
     realises : Realises s.ty x.plan s.term
-    is_run : RealisesDone x.plan s.term
+    is_run : RealisesInTurn x.plan s.term
 
   served : (p : Phase) (n : ℕ) (s : Session) → session_of f p n ≡ Some s → (x : Cared) × Served s x
   served p n s e =
@@ -98,7 +98,7 @@ module _ (insides : InsideIsRealised) (child : BranchIsChild) (parts : BranchHas
           realises =
               subst (λ (u : Type'). Realises u it.one.plan s.term) (sym ty)
               (subst (λ (z : Term). Realises (type_of_node b.term) it.one.plan z) (sym term) it.known.realises);
-          is_run = subst (λ (z : Term). RealisesDone it.one.plan z) (sym term) it.known.is_run;
+          is_run = subst (λ (z : Term). RealisesInTurn it.one.plan z) (sym term) it.known.is_run;
         },
       )
 

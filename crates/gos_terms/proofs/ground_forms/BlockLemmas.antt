@@ -12,7 +12,6 @@ use Rattle.gos_model.specs.Terms.{Term, Name, Import, New}
 use Rattle.gos_model.specs.Typing.{Imported, import_type, Named, things, Typed}
 use Rattle.gos_model.specs.Substitution.{instantiate}
 use Rattle.gos_check.specs.Nodes.{Numbered, Under, OfNew, below, meaning, type_of_node}
-use Rattle.gos_check.specs.Linearity.{times}
 use Rattle.gos_check.proofs.TimesLemmas.{times-append, times_same, some_times}
 use Rattle.gos_plan.specs.Plans.{Plan}
 use Rattle.gos_plan.specs.TokenBits.{LiteralFits}
@@ -178,10 +177,8 @@ block_case wiring law names means types ns t w n m done type_m type_n bound leav
             body_realises types ns w n m type_n bound env supplies x t i j (i + 1) (suc j) pl h.placing r h.block.body wired h.wired differ fresh leaves scope
             names means rm type_m wide (literals_within h.block.cut r h.block.body h.is_block.cut fit) typed in
             subst (λ (u : Type'). Realises u r (New w (meaning (below n (terms_of env)) m))) wired.outcome
-            (subst (λ (v : ℕ). Realises r.outcome r (New v (meaning (below n (terms_of env)) m))) h.width
-            (law r h.block (meaning (below n (terms_of env)) m) h.is_block fit
+            (law r h.block w (meaning (below n (terms_of env)) m) h.is_block h.server fit
             (imports_are_ground types i j (Under t [] (OfNew w) n m) ns env pl r wired supplies) differ
-            (subst (λ (u : Type'). Typed r.imports [] (New h.block.width (meaning (below n (terms_of env)) m)) u) (sym wired.outcome)
-            (subst (λ (v : ℕ). Typed r.imports [] (New v (meaning (below n (terms_of env)) m)) t) (sym h.width) (is_done, wide, typed)))
+            (subst (λ (u : Type'). Typed r.imports [] (New w (meaning (below n (terms_of env)) m)) u) (sym wired.outcome) (is_done, wide, typed))
             (subst (λ (y : Imported). Realises r.outcome h.block.body (instantiate (meaning (below n (terms_of env)) m) (Import y.name))) (sym h.name)
-            (subst (λ (u : Type'). Realises u h.block.body (instantiate (meaning (below n (terms_of env)) m) (Import x))) (sym wired.outcome) realised))))
+            (subst (λ (u : Type'). Realises u h.block.body (instantiate (meaning (below n (terms_of env)) m) (Import x))) (sym wired.outcome) realised)))

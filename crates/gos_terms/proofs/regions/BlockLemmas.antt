@@ -4,13 +4,14 @@ use Rattle.std.proofs.Common.{refl, sym, ◌∙◌, ap, subst, arith, inl, inr}
 use Rattle.std.proofs.lemmas.Option.{none-some, same_Some, slice_get_within}
 use Rattle.std.proofs.lemmas.List.Elements.{Contains-append_left, Contains-append_cases}
 use Rattle.std.proofs.lemmas.Bool.{eqb-true, eq-eqb}
+use Rattle.gos_types.specs.declared.shakes.Role.TheVariants.{Serve, Ask}
 use Rattle.gos_types.specs.Types.{Type', Com, Exp, Var, Pair, Fun, IsDone}
 use Rattle.gos_model.specs.Terms.{Name}
 use Rattle.gos_model.specs.Typing.{Imported}
 use Rattle.gos_nodes.specs.sessions.Sessions.{bits}
 use Rattle.gos_check.specs.Nodes.{Numbered, Under, OfNew, type_of_node}
 use Rattle.gos_plan.specs.Kinds as kinds
-use Rattle.gos_plan.specs.Kinds.{Part, Contact, asks, contacts_of, part_contacts}
+use Rattle.gos_plan.specs.Kinds.{Part, Contact, asks, serves, contacts_of, part_contacts}
 use Rattle.gos_plan.specs.Plans.{End, PartEnd, ImportEnd, ResultEnd, Joint, Plan, contacts_of_part, contacts_of_import, turned_if, contact_at}
 use Rattle.gos_plan.specs.Tokens.{IsPortEnd}
 use Rattle.gos_plan.proofs.JointLemmas.{one_joint, contained}
@@ -29,7 +30,9 @@ use Rattle.gos_nodes.specs.folds.Folds.{joined_cut, with_joints}
 use Rattle.gos_nodes.proofs.folds.RegionLemmas.{folded_joint}
 use Rattle.gos_nodes.specs.parallel.Parallel.{IsJointOf, IsPartOf}
 use Rattle.gos_supplies.specs.names.Names.{name_plan, imported}
+use Rattle.gos_nodes.specs.blocks.Servers.{local_server}
 use Rattle.gos_nodes.specs.blocks.Block.{Block, IsBlock}
+use Rattle.gos_nodes.proofs.blocks.DriverLemmas.{local_is_server}
 use Rattle.gos_compile.specs.Wiring.{Types, parts_of, answer_bits}
 use Rattle.gos_terms.specs.wired.Wired.{Supplies, Source, Own, Supplied, Placing, IsFrom, placed, source_dot, result_ties, supply_ties, all_supply_ties, IsWired}
 use Rattle.gos_terms.specs.wired.Wired as origins
@@ -52,6 +55,15 @@ same_bits (Exp w) done = refl
 same_bits (Var w) done = absurd done
 same_bits (Pair a b) done = absurd done
 same_bits (Fun a b) done = absurd done
+
+-- a variable asks nothing
+serves_not_asks : Serve ≡ Ask → ⊥
+serves_not_asks e = cc e
+
+none_asks : (w h : ℕ) (c : Contact) → slice_get (contacts_of (Var w)) h ≡ Some c → c.role ≡ Ask → ⊥
+none_asks w zero c at asks = serves_not_asks (ap (λ (x : Contact). x.role) (same_Some (serves 0 w) c at) ∙ asks)
+none_asks w (suc zero) c at asks = serves_not_asks (ap (λ (x : Contact). x.role) (same_Some (serves w 0) c at) ∙ asks)
+none_asks w (suc (suc h)) c at asks = none-some c at
 
 module _
     (types : Types) (i j w n : ℕ) (t : Type') (m : Numbered) (ns : List ℕ) (env : Supplies) (pl : Placing) (x : Name) (r : Plan)
@@ -345,7 +357,7 @@ module _
     cut = joined_cut (its_cut s r) h.joints
 
     abbrev block : Block
-    block = record { own = pl.own 0; width = w; body = body; cut = cut; place = place; variable = variable }
+    block = record { own = pl.own 0; server = local_server w (bits r.outcome); body = body; cut = cut; place = place; variable = variable }
 
     abbrev OneImport : ℕ → ℕ → Type 0
     OneImport a g = (b : ℕ) × (cut.outer (ImportEnd a g) ≡ ImportEnd b g) × (slice_get body.imports a ≡ slice_get r.imports b)
@@ -394,6 +406,7 @@ module _
           cut = region_is_cut cut r body h.region;
           done = subst IsDone (sym is.outcome) done;
           outcome = type_m ∙ sym is.outcome;
+          server = local_is_server w (bits r.outcome);
           own =
               driver.0
               ∙ ap (λ (b : ℕ). Some (kinds.Local w b)) (same_bits t done ∙ ap bits (sym is.outcome));
@@ -402,6 +415,7 @@ module _
           there = variable_there.0;
           type = refl;
           served = outer_there;
+          heard = λ h a c stands at asks. absurd (none_asks w a c at asks);
           imports = its_imports;
           others = its_others;
           fresh = fresh;
@@ -413,7 +427,7 @@ module _
         }
 
     has_body : HasBody types i j n m ns env (pl.own 0) w x r
-    has_body = record { block = block; placing = plc; at = refl; width = refl; name = refl; wired = h.wired; is_block = is_block; imports = keeps_imports s r h.joints }
+    has_body = record { block = block; placing = plc; at = refl; server = refl; name = refl; wired = h.wired; is_block = is_block; imports = keeps_imports s r h.joints }
 
 pub block_is_wired : BlockIsWired
 block_is_wired types i j w n t m ns env pl x r is done type_m type_n bound fresh =

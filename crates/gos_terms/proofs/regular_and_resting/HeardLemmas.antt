@@ -13,6 +13,7 @@ use Rattle.gos_joining.specs.webs.Cutting.{Cut, lies_at, StandsIn}
 use Rattle.gos_nodes.specs.windows.OpenNodes.{IsHeard}
 use Rattle.gos_nodes.proofs.windows.PortLemmas.{stands_contact, one_place}
 use Rattle.gos_nodes.specs.parallel.Parallel.{IsJointOf, IsSide}
+use Rattle.gos_nodes.specs.blocks.Servers.{run_of}
 use Rattle.gos_nodes.specs.blocks.Block.{Block, IsBlock}
 use Rattle.gos_terms.specs.regions.Frames.{KeepsImports}
 
@@ -133,8 +134,8 @@ module _ (r : Plan) (b : Block) (is : IsBlock r b) where
       own : (i e k n : ℕ) → StandsIn b.body (ImportEnd i e) → b.cut.outer (ImportEnd i e) ≡ ImportEnd k e → StandsIn r (ImportEnd k n) → Other b.cut b.body k n
       own i e k n stands at (j, has, there) = by_joint (is.joints j.asking j.serving has) (which_end (ImportEnd k n) j there)
         where
-          by_joint : IsJointOf b.cut b.body j.asking j.serving ⊎ ((j.asking ≡ ResultEnd 0) × (j.serving ≡ PartEnd b.own 3))
+          by_joint : IsJointOf b.cut b.body j.asking j.serving ⊎ ((j.asking ≡ ResultEnd 0) × (j.serving ≡ PartEnd b.own (run_of b.server)))
               → (ImportEnd k n ≡ j.asking) ⊎ (ImportEnd k n ≡ j.serving) → Other b.cut b.body k n
           by_joint (inl of) which = of_joint b.cut b.body k n (body_shake k n) (body_result k n) j.asking j.serving of which
           by_joint (inr (first, last)) (inl is) = let clash : ImportEnd k n ≡ ResultEnd 0 = is ∙ first in absurd (cc clash)
-          by_joint (inr (first, last)) (inr is) = let clash : ImportEnd k n ≡ PartEnd b.own 3 = is ∙ last in absurd (cc clash)
+          by_joint (inr (first, last)) (inr is) = let clash : ImportEnd k n ≡ PartEnd b.own (run_of b.server) = is ∙ last in absurd (cc clash)

@@ -15,7 +15,7 @@ use Rattle.gos_ties.specs.declared.points.Place.TheVariants as places
 use Rattle.gos_ties.specs.declared.points.Point.{Point}
 use Rattle.gos_ties.specs.declared.points.Tie as point_ties
 use Rattle.gos_realises.proofs.realises.CountLemmas.{done_count}
-use Rattle.gos_joining.specs.webs.Webs.{Dot, Of, Number, Node, Within, Tie}
+use Rattle.gos_joining.specs.webs.Webs.{Dot, Of, Within, Tie}
 use Rattle.gos_joining.specs.unions.Unions.{within}
 use Rattle.gos_compile.specs.Wiring.{Types, row, led, parts_of, nodes, ties_of, shares_ties}
 use Rattle.gos_terms.specs.wired.Wired.{Supplies, dot_of_place, dot_ties, all_supply_ties, wired_ties}

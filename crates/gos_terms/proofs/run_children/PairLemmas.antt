@@ -21,7 +21,7 @@ use Rattle.gos_ties.specs.declared.points.Point.{Point}
 use Rattle.gos_ties.specs.declared.points.Tie as point_ties
 use Rattle.gos_ties.specs.Ties as points
 use Rattle.gos_ties.specs.Ties.{point}
-use Rattle.gos_joining.specs.webs.Webs.{Dot, Of, Number, Node, Within, Tie}
+use Rattle.gos_joining.specs.webs.Webs.{Dot, Of, Within, Tie}
 use Rattle.gos_joining.specs.unions.Unions.{within}
 use Rattle.gos_joining.proofs.unions.UnionLemmas.{of_image}
 use Rattle.gos_compile.specs.Wiring.{Types, row, shares, parts_of, nodes, ties_of, shares_ties}

@@ -9,6 +9,8 @@ use Rattle.gos_check.specs.Nodes.{Numbered, Under, OfNew, type_of_node}
 use Rattle.gos_check.specs.Linearity.{times, made, used}
 use Rattle.gos_plan.specs.Plans.{Plan}
 use Rattle.gos_supplies.specs.names.Names.{name_plan}
+use Rattle.gos_nodes.specs.sessions.Sessions.{bits}
+use Rattle.gos_nodes.specs.blocks.Servers.{local_server}
 use Rattle.gos_nodes.specs.blocks.Block.{Block, IsBlock}
 use Rattle.gos_compile.specs.Wiring.{Types}
 use Rattle.gos_terms.specs.regions.Frames.{KeepsImports}
@@ -28,7 +30,7 @@ pub record HasBody (types : Types) (i j n : ℕ) (m : Numbered) (ns : List ℕ) 
   pub block : Block
   pub placing : Placing
   pub at : block.own ≡ own
-  pub width : block.width ≡ w
+  pub server : block.server ≡ local_server w (bits r.outcome)
   pub name : block.variable ≡ record { name = x; ty = Var w }
   pub wired : IsWired types (i + 1) (suc j) m (ns ++ n ∷ []) (with_name n x (Var w) env) placing block.body
   pub is_block : IsBlock r block
