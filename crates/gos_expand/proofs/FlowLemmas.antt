@@ -4,6 +4,7 @@
 use Rattle.std.proofs.Common.{◌≡◌, ◌+◌, ◌≤◌, ◌⊎◌, ℕ, zero, suc, Bool, true, false, if◌then◌else◌, List, [], ◌∷◌, Option, length, slice_get, Some, inl, inr, refl, sym, ap, subst, ◌∙◌, zero-add, arith}
 use Rattle.std.specs.Prelude.{None}
 use Rattle.std.proofs.lemmas.Option.{none-some, same_Some}
+use Rattle.gos_types.specs.declared.widths.TheConstants.{GREATEST_WIDTH}
 use Rattle.gos_types.specs.declared.shakes.Role.{Role}
 use Rattle.gos_types.specs.declared.shakes.Role.TheVariants.{Serve, Ask}
 use Rattle.gos_types.specs.Types.{Type', Com, Exp, Var, Pair, Fun, IsGround, IsDone}
@@ -29,7 +30,7 @@ use Rattle.gos_expand.proofs.SeatLemmas.{joint_fits, IsSide, seat_found, loose_s
 -- what is asked of a plan, in its own words
 pub record IsSound (p : Plan) : Type 0 where
   pub gates : (i : ℕ) (k : Part) → slice_get p.parts i ≡ Some k → GatesFit k (layout k) (outs_of k)
-  pub narrow : (e : End) (c : Contact) → contact_at p e ≡ Some c → (c.ask_bits ≤ 32) × (c.answer_bits ≤ 32)
+  pub narrow : (e : End) (c : Contact) → contact_at p e ≡ Some c → (c.ask_bits ≤ GREATEST_WIDTH) × (c.answer_bits ≤ GREATEST_WIDTH)
   pub right : IsRight p
   pub done : IsDone p.outcome
   pub done_widths : HasWidths p.outcome

@@ -5,6 +5,7 @@ use Rattle.std.proofs.Common.{◌≡◌, ◌+◌, ◌≤◌, ◌<◌, ◌⊎◌,
 use Rattle.std.specs.Prelude.{None}
 use Rattle.std.specs.List.{AllByRecursion}
 use Rattle.std.proofs.lemmas.Option.{none-some, same_Some, slice_get_within}
+use Rattle.gos_types.specs.declared.widths.TheConstants.{GREATEST_WIDTH}
 use Rattle.gos_types.specs.declared.shakes.Role.{Role}
 use Rattle.gos_types.specs.declared.shakes.Role.TheVariants.{Serve, Ask}
 use Rattle.gos_netlist.specs.Nets.{Function, Input, Const, Not, And, Or, Xor, Mux, Add, Sub, Eq, Less, Gate, Reg, Cell, Side, Give, Take, pins}
@@ -39,7 +40,7 @@ pub record IsGood (G : Function → Type 0) (all : List Cell) (n : ℕ) (c : Cel
 
 -- the cells of tokens
 
-good_registers : (G : Function → Type 0) (all : List Cell) (w b : ℕ) (n : Nets) → w ≤ 32 → HasNets all IsAny w n → Each (IsGood G all) b (registers w n)
+good_registers : (G : Function → Type 0) (all : List Cell) (w b : ℕ) (n : Nets) → w ≤ GREATEST_WIDTH → HasNets all IsAny w n → Each (IsGood G all) b (registers w n)
 good_registers G all w b n small has =
     each_token (IsGood G all) w b (Reg n.pulse) (Reg n.number)
     (record {
@@ -55,12 +56,12 @@ good_registers G all w b n small has =
       order = inl (n.number, refl);
     })
 
-good_inputs : (G : Function → Type 0) (all : List Cell) (w b : ℕ) → w ≤ 32 → Each (IsGood G all) b (inputs w)
+good_inputs : (G : Function → Type 0) (all : List Cell) (w b : ℕ) → w ≤ GREATEST_WIDTH → Each (IsGood G all) b (inputs w)
 good_inputs G all w b small =
     each_token (IsGood G all) w b Input Input (record { exist = tt; fit = (omega arith, omega arith, tt); order = inr tt })
     (λ some. record { exist = tt; fit = (omega (arith, some), small, tt); order = inr tt })
 
-good_nothing : (G : Function → Type 0) (all : List Cell) (w b : ℕ) → w ≤ 32 → Each (IsGood G all) b (nothing w)
+good_nothing : (G : Function → Type 0) (all : List Cell) (w b : ℕ) → w ≤ GREATEST_WIDTH → Each (IsGood G all) b (nothing w)
 good_nothing G all w b small =
     each_token (IsGood G all) w b (Const 0) (Const 0) (record { exist = tt; fit = (omega arith, omega arith, pow_pos 1); order = inr tt })
     (λ some. record { exist = tt; fit = (omega (arith, some), small, pow_pos w); order = inr tt })
@@ -72,7 +73,7 @@ abbrev pub bits_shown : Side → Contact → ℕ
 bits_shown Give c = c.answer_bits
 bits_shown Take c = c.ask_bits
 
-good_side : (G : Function → Type 0) (all : List Cell) (side : Side) (c : Contact) (n : Nets) (b : ℕ) → (c.ask_bits ≤ 32) × (c.answer_bits ≤ 32)
+good_side : (G : Function → Type 0) (all : List Cell) (side : Side) (c : Contact) (n : Nets) (b : ℕ) → (c.ask_bits ≤ GREATEST_WIDTH) × (c.answer_bits ≤ GREATEST_WIDTH)
     → HasNets all IsAny (bits_shown side c) n
     → Each (IsGood G all) b (side_cells side c n)
 good_side G all Give c n b small has =
@@ -86,7 +87,7 @@ good_side G all Take c n b small has =
 abbrev pub ShakesFit : (Function → Type 0) → Keep → Plan → Outer → Type 0
 ShakesFit G keep p o =
     (h : ℕ) (c : Contact) → slice_get o.contacts h ≡ Some c
-    → ((c.ask_bits ≤ 32) × (c.answer_bits ≤ 32)) × HasNets (cells_of keep p) G (bits_shown o.side c) (arrives keep p (o.end_at h))
+    → ((c.ask_bits ≤ GREATEST_WIDTH) × (c.answer_bits ≤ GREATEST_WIDTH)) × HasNets (cells_of keep p) G (bits_shown o.side c) (arrives keep p (o.end_at h))
 
 result_fits : (G : Function → Type 0) (keep : Keep) (p : Plan) → Arriving keep G → IsSound p → ShakesFit G keep p (result_port p)
 result_fits G keep p arriving sound h c is =
@@ -141,7 +142,7 @@ good_port G keep p arriving sound k o is =
 
 -- joints
 
-good_way : (G : Function → Type 0) (all : List Cell) (kept : Bool) (w b : ℕ) (n : Nets) → w ≤ 32 → HasNets all IsAny w n
+good_way : (G : Function → Type 0) (all : List Cell) (kept : Bool) (w b : ℕ) (n : Nets) → w ≤ GREATEST_WIDTH → HasNets all IsAny w n
     → Each (IsGood G all) b (registers_if kept w n)
 good_way G all true w b n small has = good_registers G all w b n small has
 good_way G all false w b n small has = each_none (IsGood G all) b
@@ -175,11 +176,11 @@ good_joint G keep p sound x j is =
 good_loose : (G : Function → Type 0) (keep : Keep) (p : Plan) → IsSound p → (b n : ℕ) (e : End) → Each (IsGood G (cells_of keep p)) b (loose_cells p n e)
 good_loose G keep p sound b n e = good_nothing G (cells_of keep p) (bits_taken (contact_at p e)) b (small (contact_at p e) refl)
   where
-    few : (r : Role) (c : Contact) → (c.ask_bits ≤ 32) × (c.answer_bits ≤ 32) → bits_of c (way_taken r) ≤ 32
+    few : (r : Role) (c : Contact) → (c.ask_bits ≤ GREATEST_WIDTH) × (c.answer_bits ≤ GREATEST_WIDTH) → bits_of c (way_taken r) ≤ GREATEST_WIDTH
     few Serve c h = h.0
     few Ask c h = h.1
 
-    small : (o : Option Contact) → contact_at p e ≡ o → bits_taken o ≤ 32
+    small : (o : Option Contact) → contact_at p e ≡ o → bits_taken o ≤ GREATEST_WIDTH
     small None is = omega arith
     small (Some c) is = few c.role c (sound.narrow e c is)
 

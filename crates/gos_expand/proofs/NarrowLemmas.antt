@@ -1,9 +1,10 @@
--- Kinds and types in range have handshakes of at most 32 bits.
+-- Kinds and types in range have handshakes no wider than the greatest width.
 --
 -- Read first: Ranges of gos_plan; Handshakes of gos_types.
 use Rattle.std.proofs.Common.{◌≡◌, ◌≤◌, ℕ, zero, suc, List, [], ◌∷◌, ◌++◌, map, slice_get, Some, subst, arith}
 use Rattle.std.specs.List.{AllByRecursion}
 use Rattle.std.proofs.lemmas.Option.{none-some, same_Some}
+use Rattle.gos_types.specs.declared.widths.TheConstants.{GREATEST_WIDTH}
 use Rattle.gos_types.specs.declared.shakes.Step.TheVariants.{First, Second, Argument, Outcome}
 use Rattle.gos_types.specs.Types.{Type', Com, Exp, Var, Pair, Fun, type_of}
 use Rattle.gos_types.specs.Handshakes.{Shake, turn, turn_all, one_below, below, handshakes_of}
@@ -27,10 +28,10 @@ all_both P (x ∷ xs) ys left right = (left.0, all_both P xs ys left.1 right)
 
 -- a handshake of few bits
 abbrev pub IsNarrow : Contact → Type 0
-IsNarrow c = (c.ask_bits ≤ 32) × (c.answer_bits ≤ 32)
+IsNarrow c = (c.ask_bits ≤ GREATEST_WIDTH) × (c.answer_bits ≤ GREATEST_WIDTH)
 
 abbrev IsSlim : Shake → Type 0
-IsSlim s = (s.ask_bits ≤ 32) × (s.answer_bits ≤ 32)
+IsSlim s = (s.ask_bits ≤ GREATEST_WIDTH) × (s.answer_bits ≤ GREATEST_WIDTH)
 
 pub one_narrow : (cs : List Contact) (h : ℕ) (c : Contact) → AllByRecursion IsNarrow cs → slice_get cs h ≡ Some c → IsNarrow c
 one_narrow [] h c all is = absurd (none-some c is)
@@ -57,7 +58,7 @@ narrow_type t widths = all_mapped IsSlim IsNarrow contact (λ s h. h) (handshake
 
 -- those of a kind
 
-narrow_result : (op : Operation) (w : ℕ) → w ≤ 32 → result_width op w ≤ 32
+narrow_result : (op : Operation) (w : ℕ) → w ≤ GREATEST_WIDTH → result_width op w ≤ GREATEST_WIDTH
 narrow_result Add w h = h
 narrow_result Sub w h = h
 narrow_result And w h = h
@@ -67,16 +68,16 @@ narrow_result Eq w h = omega arith
 narrow_result Less w h = omega arith
 
 -- of a request or an answer without bits, and of one with
-none : (0 ≤ 32) × (0 ≤ 32)
+none : (0 ≤ GREATEST_WIDTH) × (0 ≤ GREATEST_WIDTH)
 none = (omega arith, omega arith)
 
-answer : (w : ℕ) → w ≤ 32 → (0 ≤ 32) × (w ≤ 32)
+answer : (w : ℕ) → w ≤ GREATEST_WIDTH → (0 ≤ GREATEST_WIDTH) × (w ≤ GREATEST_WIDTH)
 answer w h = (omega arith, h)
 
-request : (w : ℕ) → w ≤ 32 → (w ≤ 32) × (0 ≤ 32)
+request : (w : ℕ) → w ≤ GREATEST_WIDTH → (w ≤ GREATEST_WIDTH) × (0 ≤ GREATEST_WIDTH)
 request w h = (h, omega arith)
 
-one : (0 ≤ 32) × (1 ≤ 32)
+one : (0 ≤ GREATEST_WIDTH) × (1 ≤ GREATEST_WIDTH)
 one = (omega arith, omega arith)
 
 pub narrow_kind : (k : Kind) → IsInRange k → AllByRecursion IsNarrow (part_contacts (part_of k))

@@ -5,6 +5,8 @@ pub mod Waiting
 pub mod Not
 pub mod Assign
 pub mod Deref
+pub mod Stored
+pub mod BodyAnswer
 pub mod Local
 pub mod Layout
 pub mod Ranges

@@ -1,1 +1,2 @@
+pub mod BodyAnswerLemmas
 pub mod LocalLemmas

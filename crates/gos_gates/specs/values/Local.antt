@@ -1,17 +1,19 @@
 -- The gates of a local variable.
 --
--- Read first: Cells, Passing. Handshake 0 asks the body; 1 serves a read and 2 a write of the
+-- Read first: Stored, BodyAnswer; Passing. Handshake 0 asks the body; 1 serves a read and 2 a write of the
 -- variable; 3 is served. The body is asked a cycle after the request, and a write is answered a cycle after it came,
 -- so that a read that follows either sees the new number.
-use Rattle.std.specs.Prelude.{◌≡◌, ℕ, zero, suc, ◌+◌, ◌≤◌, List, [], ◌∷◌, ◌++◌}
-use Rattle.gos_netlist.specs.Nets.{Not, Mux, Gate, Reg, Cell}
+use Rattle.std.specs.Prelude.{◌≡◌, ℕ, ◌+◌, ◌≤◌, List, [], ◌∷◌, ◌++◌}
+use Rattle.gos_netlist.specs.Nets.{Not, Gate, Reg, Cell}
 use Rattle.gos_netlist.specs.Settling.{Numbers, at}
 use Rattle.gos_plan.specs.Firing.{Phase, Rest, Active, State, Req, Ans, Token}
 use Rattle.gos_gates.specs.Gates.{Incoming, Outgoing, Bare, Bearing, held}
 use Rattle.gos_gates.specs.Cells.{bit, wide, buffer}
+use Rattle.gos_gates.specs.values.Stored.{stored_cells}
+use Rattle.gos_gates.specs.values.BodyAnswer.{number_cells, body_answer}
 
--- Cell 7 holds the number: a write sets it, and a request sets it to 0. Cell 0 holds the request to the body, and
--- cell 3 the answer to a write.
+-- Cell 7 holds the number, which a write sets and a request clears: cells 5 to 7 store it. Cell 0 holds the request to
+-- the body, and cell 3 the answer to a write. Where the body is an expression its number is let through behind them.
 abbrev pub variable_cells : ℕ → ℕ → Incoming → List Cell
 variable_cells w b i =
     bit (Reg (i.pulse 3))
@@ -19,26 +21,13 @@ variable_cells w b i =
     ∷ wide w (Gate (i.pulse 1) (b + 7))
     ∷ bit (Reg (i.pulse 2))
     ∷ bit (Not (i.pulse 3))
-    ∷ wide w (Gate (b + 4) (b + 7))
-    ∷ wide w (Mux (i.pulse 2) (i.value 2) (b + 5))
-    ∷ wide w (Reg (b + 6))
-    ∷ buffer (i.pulse 0) ∷ []
-
--- where the body is an expression of v bits, its number is let through
-abbrev pub number_cells : ℕ → Incoming → List Cell
-number_cells zero i = []
-number_cells (suc v) i = wide (suc v) (Gate (i.pulse 0) (i.value 0)) ∷ []
+    ∷ (stored_cells w (b + 5) (b + 6) (b + 7) (b + 4) (i.pulse 2) (i.value 2) ++ buffer (i.pulse 0) ∷ [])
 
 abbrev pub local_cells : ℕ → ℕ → ℕ → Incoming → List Cell
 local_cells w v b i = variable_cells w b i ++ number_cells v i
 
--- what goes out at the handshake that is served
-abbrev pub local_answer : ℕ → ℕ → Outgoing
-local_answer zero b = Bare (b + 8)
-local_answer (suc v) b = Bearing (b + 8) (b + 9)
-
 abbrev pub local_outs : ℕ → ℕ → List Outgoing
-local_outs v b = Bare (b + 0) ∷ Bearing (b + 1) (b + 2) ∷ Bare (b + 3) ∷ local_answer v b ∷ []
+local_outs v b = Bare (b + 0) ∷ Bearing (b + 1) (b + 2) ∷ Bare (b + 3) ∷ body_answer v (b + 8) (b + 9) ∷ []
 
 -- writes and requests are late
 abbrev pub local_late : List ℕ

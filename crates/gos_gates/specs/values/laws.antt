@@ -7,6 +7,7 @@ pub mod WaitingKept
 pub mod NotKept
 pub mod AssignKept
 pub mod DerefKept
+pub mod StoredKept
 pub mod LocalKept
 pub mod LocalFit
 pub mod Kept

@@ -1,5 +1,6 @@
 // The laws of gates hold of small ones, and refuse others.
 ghost use Rattle.gos_gates.specs.SmallGates.{SkipGates, SharedGates};
+ghost use Rattle.gos_gates.specs.values.Stored.{StoredIsKept, KeptIsNotStored};
 ghost use Rattle.gos_gates.specs.SmallPaths.{SkipPaths, SkipIsNoDeadEnd, SharedAnswersPass, SharedRequestsWait, SharedAnswersAreNotLate, CountingIsNotNamed};
 
 /// The gates of Skip keep the law, and so do those of a Share of a command.
@@ -17,4 +18,10 @@ pub fn small_paths()
     ensures requests { SharedRequestsWait }
     ensures late { SharedAnswersAreNotLate }
     ensures counting { CountingIsNotNamed }
+{}
+
+/// A stored number is set by a write, cleared by an entry, and kept otherwise. Where an entry leaves it as it is it isn't stored.
+pub fn stored_numbers()
+    ensures kept { StoredIsKept }
+    ensures cleared { KeptIsNotStored }
 {}

@@ -7,7 +7,7 @@ ghost use Rattle.gos_gates.specs.values.Ranges.{IsArith};
 ghost use Rattle.gos_gates.specs.values.laws.Kept.{arith_gates};
 ghost use Rattle.gos_gates.specs.values.laws.Paths.{arith_paths};
 
-use crate::values::{assign, deref, lit, local, not, op};
+use crate::values::{assign, body_answer, deref, lit, local, not, op};
 use crate::{Macro, Wire};
 use gos_netlist::{NetId, NetPool, Region};
 use gos_plan::Kind;
@@ -83,7 +83,7 @@ impl Macro for Arith {
             Kind::Local { w, v } => {
                 pool.place_all(region, &local::variable(*w, base, wires));
                 if *v > 0 {
-                    pool.place(region, local::number(*v, wires));
+                    pool.place(region, body_answer::number(*v, wires));
                 }
             }
             _ => unreachable!(),

@@ -4,12 +4,14 @@
 
 ghost use Rattle.std.specs.Prelude.{◌≡◌, ◌+◌, ◌<◌, ◌≤◌, [], ◌∷◌, length, map};
 ghost use Rattle.gos_netlist.specs.Seen.{cell_of};
-ghost use Rattle.gos_gates.specs.Wires.{nets_in, incoming_of, HoldsNets, HoldNets};
-ghost use Rattle.gos_gates.specs.values.Local.{variable_cells, number_cells, local_answer, local_outs};
+ghost use Rattle.gos_gates.specs.Wires.{nets_in, incoming_of, HoldNets};
+ghost use Rattle.gos_gates.specs.values.Local.{variable_cells, local_outs};
 ghost use Rattle.gos_gates.specs.values.inner.Sizes.{local_size};
 
 use crate::Wire;
 use crate::cells::{bit, buffer, own, wide};
+use crate::values::body_answer;
+use crate::values::stored::Stored;
 use gos_netlist::{Cell, Gate};
 
 // The cells of the variable, from the number of the first one.
@@ -21,32 +23,23 @@ pub(crate) fn variable(w: u32, base: u32, wires: &[Wire]) -> [Cell; 9]
     let [body, read, write, caller] = wires else {
         unreachable!()
     };
-    let stays = own(base, 4);
-    let kept = own(base, 5);
-    let next = own(base, 6);
-    let number = own(base, 7);
+    let stored = Stored {
+        kept: own(base, 5),
+        next: own(base, 6),
+        number: own(base, 7),
+    };
+    let [kept, next, number] = stored.cells(w, own(base, 4), write.in_pulse, write.in_value);
     [
         bit(Gate::Reg(caller.in_pulse)),
         buffer(read.in_pulse),
-        wide(w, Gate::Gate(read.in_pulse, number)),
+        wide(w, Gate::Gate(read.in_pulse, stored.number)),
         bit(Gate::Reg(write.in_pulse)),
         bit(Gate::Not(caller.in_pulse)),
-        wide(w, Gate::Gate(stays, number)),
-        wide(w, Gate::Mux(write.in_pulse, write.in_value, kept)),
-        wide(w, Gate::Reg(next)),
+        kept,
+        next,
+        number,
         buffer(body.in_pulse),
     ]
-}
-
-// The cell behind them where the body is an expression of `v` bits.
-#[tactic(auto, using(crate::proofs::lemmas::values::LocalLemmas::number_of_bits))]
-pub(crate) fn number(v: u32, wires: &[Wire]) -> Cell
-    requires bits { 0 < v }
-    requires wires { length wires.now ≡ 4 }
-    ensures { cell_of result ∷ [] ≡ number_cells v (incoming_of wires.now) }
-{
-    let [body, ..] = wires else { unreachable!() };
-    wide(v, Gate::Gate(body.in_pulse, body.in_value))
 }
 
 // How many cells there are.
@@ -55,19 +48,6 @@ pub(crate) fn size(v: u32) -> u32
     ensures { result ≡ local_size v }
 {
     if v == 0 { 9 } else { 10 }
-}
-
-// Fills in the nets of the answer, which has a number where the body is an expression of `v` bits.
-#[tactic(auto, using(crate::proofs::lemmas::values::LocalLemmas::answer_nets))]
-fn answer(v: u32, base: u32, wire: &mut Wire)
-    requires { base + local_size v ≤ 4294967295 }
-    ensures nets { HoldsNets (local_answer v base) wire.new }
-    ensures rest { nets_in wire.new ≡ nets_in wire.old }
-{
-    wire.out_pulse = own(base, 8);
-    if v > 0 {
-        wire.out_value = own(base, 9);
-    }
 }
 
 // Fills in the nets that go out.
@@ -81,5 +61,5 @@ pub(crate) fn outs(v: u32, base: u32, wires: &mut [Wire])
     wires[1].out_pulse = own(base, 1);
     wires[1].out_value = own(base, 2);
     wires[2].out_pulse = own(base, 3);
-    answer(v, base, &mut wires[3]);
+    body_answer::outs(v, own(base, 8), own(base, 9), &mut wires[3]);
 }

@@ -2,6 +2,7 @@
 --
 -- Read first: Choice; Fit.
 use Rattle.std.proofs.Common.{inl, inr, ℕ, ◌≤◌, refl, arith}
+use Rattle.gos_types.specs.declared.widths.TheConstants.{GREATEST_WIDTH}
 use Rattle.gos_plan.specs.Kinds.{If}
 use Rattle.gos_gates.specs.Fit.{GatesFit}
 use Rattle.gos_gates.specs.control.Choice.{choice_com_layout, choice_exp_layout, choice_com_outs, choice_exp_outs}
@@ -41,7 +42,7 @@ choice_com_fits =
           );
     }
 
-pub choice_exp_fits : (w : ℕ) → 1 ≤ w → w ≤ 32 → GatesFit (If w) (choice_exp_layout w) choice_exp_outs
+pub choice_exp_fits : (w : ℕ) → 1 ≤ w → w ≤ GREATEST_WIDTH → GatesFit (If w) (choice_exp_layout w) choice_exp_outs
 choice_exp_fits w some small =
     record {
       outgoing = λ b i. (

@@ -3,6 +3,7 @@
 -- Read first: ChoiceCounts, ChoiceFit.
 use Rattle.std.proofs.Common.{◌≡◌, ℕ, ◌+◌, ◌≤◌, List, ◌++◌, sym, ◌∙◌, ap, arith}
 use Rattle.std.specs.Prelude.{◌-◌, ◌<◌, nat_eq, if◌then◌else◌, bit_or, bit_and}
+use Rattle.gos_types.specs.declared.widths.TheConstants.{GREATEST_WIDTH}
 use Rattle.gos_netlist.specs.Settling as nets
 use Rattle.gos_plan.specs.Kinds.{If}
 use Rattle.gos_plan.specs.Firing.{Test, State, Slot, Req, Ans, Token}
@@ -131,7 +132,7 @@ choice_com_gates =
       fits = choice_com_fits;
     }
 
-pub choice_exp_gates : (w : ℕ) → 1 ≤ w → w ≤ 32 → KeepLaws (If w) (choice_exp_layout w) choice_exp_outs choice_late choice_pending ChoiceStands
+pub choice_exp_gates : (w : ℕ) → 1 ≤ w → w ≤ GREATEST_WIDTH → KeepLaws (If w) (choice_exp_layout w) choice_exp_outs choice_late choice_pending ChoiceStands
 choice_exp_gates w some small =
     record {
       law = choice_exp_law w some;

@@ -2,6 +2,7 @@
 --
 -- Read first: Seq. A firing takes one token and puts one, so that the counts of both are the same.
 use Rattle.std.proofs.Common.{◌≡◌, inl, inr, ℕ, suc, ◌+◌, ◌≤◌, List, [], ◌∷◌, refl, sym, ◌∙◌, ap, subst, arith}
+use Rattle.gos_types.specs.declared.widths.TheConstants.{GREATEST_WIDTH}
 use Rattle.gos_netlist.specs.Settling as nets
 use Rattle.gos_plan.specs.Kinds.{Seq}
 use Rattle.gos_plan.specs.Firing.{Phase, Rest, First, Second, State, Slot, Req, Ans, Token, row, at, put}
@@ -123,7 +124,7 @@ seq_com_gates =
           };
     }
 
-pub seq_exp_gates : (w : ℕ) → 1 ≤ w → w ≤ 32 → KeepLaws (Seq w) (λ b. seq_exp_layout w) seq_exp_outs [] nothing_pending seq_stands
+pub seq_exp_gates : (w : ℕ) → 1 ≤ w → w ≤ GREATEST_WIDTH → KeepLaws (Seq w) (λ b. seq_exp_layout w) seq_exp_outs [] nothing_pending seq_stands
 seq_exp_gates w some small =
     record {
       law = seq_exp_law w some;

@@ -5,6 +5,7 @@ use Rattle.std.proofs.Common.{◌≡◌, ℕ, zero, suc, ◌+◌, ◌≤◌, Lis
 use Rattle.std.specs.Prelude.{◌<◌, length, slice_get, map}
 use Rattle.std.specs.List.{AllByRecursion}
 use Rattle.std.proofs.lemmas.Option.{slice_get_within}
+use Rattle.gos_types.specs.declared.widths.TheConstants.{GREATEST_WIDTH}
 use Rattle.gos_types.specs.declared.shakes.Role.{Role}
 use Rattle.gos_types.specs.declared.shakes.Role.TheVariants.{Serve, Ask}
 use Rattle.gos_types.specs.declared.shakes.Step.{Step}
@@ -23,14 +24,14 @@ use Rattle.gos_gates.specs.share.laws.Slots.{bits_there}
 use Rattle.gos_gates.specs.share.laws.Comes.{sides, in_bits, same_bits, ArePlaced, all_placed}
 use Rattle.gos_gates.specs.share.laws.Row.{asked_length, sent_length, block_length}
 
--- at most 32 bits are asked and answered
+-- no more bits are asked and answered than the greatest width has
 abbrev pub AreNarrow : List Contact → Type 0
 AreNarrow [] = Unit {0}
-AreNarrow (k ∷ ks) = (k.ask_bits ≤ 32) × (k.answer_bits ≤ 32) × AreNarrow ks
+AreNarrow (k ∷ ks) = (k.ask_bits ≤ GREATEST_WIDTH) × (k.answer_bits ≤ GREATEST_WIDTH) × AreNarrow ks
 
 abbrev ShakesNarrow : List Shake → Type 0
 ShakesNarrow [] = Unit {0}
-ShakesNarrow (s ∷ ss) = (s.ask_bits ≤ 32) × (s.answer_bits ≤ 32) × ShakesNarrow ss
+ShakesNarrow (s ∷ ss) = (s.ask_bits ≤ GREATEST_WIDTH) × (s.answer_bits ≤ GREATEST_WIDTH) × ShakesNarrow ss
 
 below_narrow : (step : Step) (ss : List Shake) → ShakesNarrow ss → ShakesNarrow (below step ss)
 below_narrow step [] narrow = tt
@@ -98,7 +99,7 @@ side_bits contacts i bits w e k come there is =
     let same : incoming_bits contacts e ≡ w = bits_there e contacts k there ∙ is in
     (known.0, λ some. known.1 (omega (arith, some, same)) ∙ same)
 
-asked_right : (w : ℕ) (i : Incoming) (h j b n : ℕ) (bits : List ℕ) → w ≤ 32 → SideBits bits i w (h + j) → SideBits bits i w (h + h + j)
+asked_right : (w : ℕ) (i : Incoming) (h j b n : ℕ) (bits : List ℕ) → w ≤ GREATEST_WIDTH → SideBits bits i w (h + j) → SideBits bits i w (h + h + j)
     → HaveBits bits b n (asked_cells w i h j b n) → AllByRecursion (HasRightWidths bits) (asked_cells w i h j b n)
 asked_right zero i h j b n bits narrow first second have =
     let own = bits_at bits b n (asked_cells zero i h j b n) have in
@@ -119,7 +120,7 @@ asked_right (suc w) i h j b n bits narrow first second have =
       ),
     )
 
-answered_right : (w : ℕ) (i : Incoming) (j b n : ℕ) (bits : List ℕ) → w ≤ 32 → SideBits bits i w j → width_at bits (b + 0) ≡ 1 → width_at bits (b + 1) ≡ 1
+answered_right : (w : ℕ) (i : Incoming) (j b n : ℕ) (bits : List ℕ) → w ≤ GREATEST_WIDTH → SideBits bits i w j → width_at bits (b + 0) ≡ 1 → width_at bits (b + 1) ≡ 1
     → HaveBits bits b n (answered_cells w i j b n) → AllByRecursion (HasRightWidths bits) (answered_cells w i j b n)
 answered_right zero i j b n bits narrow source to_caller to_other have =
     ((omega arith, omega arith, (source.0, to_other)), ((omega arith, omega arith, (source.0, to_caller)), tt))
@@ -134,7 +135,7 @@ answered_right (suc w) i j b n bits narrow source to_caller to_other have =
       ),
     )
 
-sent_right : (w : ℕ) (i : Incoming) (j b n : ℕ) (bits : List ℕ) → w ≤ 32 → SideBits bits i w j → width_at bits (b + 0) ≡ 1 → width_at bits (b + 1) ≡ 1
+sent_right : (w : ℕ) (i : Incoming) (j b n : ℕ) (bits : List ℕ) → w ≤ GREATEST_WIDTH → SideBits bits i w j → width_at bits (b + 0) ≡ 1 → width_at bits (b + 1) ≡ 1
     → HaveBits bits b n (sent_cells w i j b n) → AllByRecursion (HasRightWidths bits) (sent_cells w i j b n)
 sent_right zero i j b n bits narrow source to_caller to_other have =
     let own = bits_at bits b n (sent_cells zero i j b n) have in
@@ -162,7 +163,7 @@ sent_right (suc w) i j b n bits narrow source to_caller to_other have =
       ),
     )
 
-told_right : (w : ℕ) (i : Incoming) (h j b n : ℕ) (bits : List ℕ) → w ≤ 32 → SideBits bits i w (h + j) → SideBits bits i w (h + h + j)
+told_right : (w : ℕ) (i : Incoming) (h j b n : ℕ) (bits : List ℕ) → w ≤ GREATEST_WIDTH → SideBits bits i w (h + j) → SideBits bits i w (h + h + j)
     → HaveBits bits b n (told_cells w i h j b n) → AllByRecursion (HasRightWidths bits) (told_cells w i h j b n)
 told_right zero i h j b n bits narrow first second have = ((omega arith, omega arith, (first.0, second.0)), tt)
 told_right (suc w) i h j b n bits narrow first second have =
@@ -174,7 +175,7 @@ told_right (suc w) i h j b n bits narrow first second have =
     )
 
 -- a block, and both nets of the branch behind it
-block_right : (r : Role) (q a : ℕ) (i : Incoming) (h j b n c d : ℕ) (bits : List ℕ) → q ≤ 32 → a ≤ 32
+block_right : (r : Role) (q a : ℕ) (i : Incoming) (h j b n c d : ℕ) (bits : List ℕ) → q ≤ GREATEST_WIDTH → a ≤ GREATEST_WIDTH
     → SideBits bits i (in_bits (turned r) q a) j → SideBits bits i (in_bits r q a) (h + j) → SideBits bits i (in_bits r q a) (h + h + j)
     → width_at bits (b + 0) ≡ 1 → width_at bits (b + 1) ≡ 1 → width_at bits (b + 2) ≡ 1 → width_at bits c ≡ 1 → width_at bits d ≡ 1
     → HaveBits bits b n (block_cells r q a i h j b n c d)

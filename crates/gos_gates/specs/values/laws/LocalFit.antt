@@ -5,6 +5,7 @@ use Rattle.std.proofs.Common.{inl, inr, ℕ, zero, suc, ◌+◌, ◌≤◌, List
 use Rattle.std.specs.List.{AllByRecursion}
 use Rattle.gos_netlist.specs.Nets.{Cell}
 use Rattle.gos_netcheck.specs.CellRules.{HasRightWidths}
+use Rattle.gos_types.specs.declared.widths.TheConstants.{GREATEST_WIDTH}
 use Rattle.gos_types.specs.Widths.{IsWidth}
 use Rattle.gos_plan.specs.Kinds.{Local, part_contacts}
 use Rattle.gos_plan.specs.Firing.{Req, Ans}
@@ -12,7 +13,8 @@ use Rattle.gos_gates.specs.Gates.{Incoming, held}
 use Rattle.gos_gates.specs.Law.{StaySilent}
 use Rattle.gos_gates.specs.Fit.{IsKnown, NameEarlier, BitsComeIn, HaveBits, GatesFit}
 use Rattle.gos_gates.specs.Kept.{KeepLaws}
-use Rattle.gos_gates.specs.values.Local.{variable_cells, number_cells, local_cells, local_outs, local_late, local_pending, LocalStands}
+use Rattle.gos_gates.specs.values.BodyAnswer.{number_cells}
+use Rattle.gos_gates.specs.values.Local.{variable_cells, local_cells, local_outs, local_late, local_pending, LocalStands}
 use Rattle.gos_gates.specs.values.laws.LocalKept.{local_law}
 use Rattle.gos_gates.specs.values.laws.Silent.{silent}
 
@@ -77,7 +79,7 @@ variable_widths w u (low, high) b i bits behind come (w0, (w1, (w2, (w3, (w4, (w
       ),
     )
 
-local_widths : (w u : ℕ) → IsWidth w → u ≤ 32 → (b : ℕ) (i : Incoming) (bits : List ℕ) → BitsComeIn (part_contacts (Local w u)) i bits
+local_widths : (w u : ℕ) → IsWidth w → u ≤ GREATEST_WIDTH → (b : ℕ) (i : Incoming) (bits : List ℕ) → BitsComeIn (part_contacts (Local w u)) i bits
     → HaveBits bits b 0 (local_cells w u b i) → AllByRecursion (HasRightWidths bits) (local_cells w u b i)
 local_widths w zero width small b i bits come own = variable_widths w 0 width b i bits [] come own tt
 local_widths w (suc u) width small b i bits come (w0, (w1, (w2, (w3, (w4, (w5, (w6, (w7, (w8, (w9, nothing)))))))))) =
@@ -85,7 +87,7 @@ local_widths w (suc u) width small b i bits come (w0, (w1, (w2, (w3, (w4, (w5, (
     let answer = come 0 (omega arith) in
     variable_widths w (suc u) width b i bits (number_cells (suc u) i) come own ((omega arith, small, (answer.0, answer.1 (omega arith))), tt)
 
-local_fits : (w u : ℕ) → IsWidth w → u ≤ 32 → GatesFit (Local w u) (local_cells w u) (local_outs u)
+local_fits : (w u : ℕ) → IsWidth w → u ≤ GREATEST_WIDTH → GatesFit (Local w u) (local_cells w u) (local_outs u)
 local_fits w zero width small =
     record {
       outgoing = λ b i. (
@@ -125,7 +127,7 @@ local_silent w (suc u) b i v regs after
     (c0, k0, (c1, k1, (c2, k2, (c3, k3, (c4, k4, (c5, k5, (c6, k6, (c7, k7, (c8, k8, (c9, k9, nothing)))))))))) pulses =
     (silent _ _ _ _ (pulses 1 (omega arith)) c1 c2, (silent _ _ _ _ (pulses 0 (omega arith)) c8 c9, tt))
 
-pub local_gates : (w u : ℕ) → IsWidth w → u ≤ 32 → KeepLaws (Local w u) (local_cells w u) (local_outs u) local_late local_pending LocalStands
+pub local_gates : (w u : ℕ) → IsWidth w → u ≤ GREATEST_WIDTH → KeepLaws (Local w u) (local_cells w u) (local_outs u) local_late local_pending LocalStands
 local_gates w u width small =
     record {
       law = local_law w u width;

@@ -13,6 +13,7 @@ use Rattle.gos_plan.specs.Firings.{due, value_due, Asked, Fires, times}
 use Rattle.gos_gates.specs.Law.{PulsesComeIn, Fired, GatesLaw}
 use Rattle.gos_plan.specs.laws.Inversion.{by_one_row, by_three_rows}
 use Rattle.gos_gates.specs.laws.Passing.{repeated, buffered, let_through, bears, due_append, value_append, due_held, no_value_held, same_tokens}
+use Rattle.gos_gates.specs.values.laws.StoredKept.{stored_is_kept}
 use Rattle.gos_gates.specs.values.Local.{variable_cells, local_cells, local_outs, local_late, local_pending, IsLocalPhase, LocalStands}
 
 -- the rows
@@ -225,8 +226,12 @@ variable_kept w u width b i v regs after q s ts us (c0, k0, (c1, k1, (c2, k2, (c
     let asked = stands.asked in
     let written = stands.written in
     let write_value : nets.at v (i.value 2) ≡ x 2 = sym (bears w (nets.at v (i.value 2)) width.0) in
-    let entered : nets.at v (b + 5) ≡ (if nat_eq p3 1 then 0 else n) = c5 ∙ ((λ j. if nat_eq (c4 j) 1 then c7 j else 0) ∙ cleared p3 n (pulses 3 (omega arith))) in
-    let next : nets.at after (b + 7) ≡ next_number p2 p3 (x 2) n = k7 ∙ (c6 ∙ (λ j. if nat_eq p2 1 then write_value j else entered j)) in
+    let stored =
+    stored_is_kept w b 5 (b + 4) (i.pulse 2) (i.value 2) v regs after (c5, k5, (c6, k6, (c7, k7, tt))) in
+    let left : (if nat_eq (nets.at v (b + 4)) 1 then n else 0) ≡ (if nat_eq p3 1 then 0 else n) =
+    (λ j. if nat_eq (c4 j) 1 then n else 0) ∙ cleared p3 n (pulses 3 (omega arith)) in
+    let next : nets.at after (b + 7) ≡ next_number p2 p3 (x 2) n =
+    stored.1 ∙ (λ j. if nat_eq p2 1 then write_value j else left j) in
     record {
       shows = (
         omega (arith, zeroth, known.asked, asked),
