@@ -7,6 +7,7 @@ use Rattle.std.proofs.lemmas.List.Concat.{flat_map-append}
 use Rattle.std.proofs.lemmas.List.Elements.{Contains-append_left, Contains-append_right}
 use Rattle.std.proofs.lemmas.List.Sums.{sum_by-cons, sum_by-append}
 use Rattle.std.proofs.lemmas.Option.{slice_get-get_or, slice_get_within, get_or_from_slice_get}
+use Rattle.gos_types.specs.declared.widths.TheConstants.{GREATEST_WIDTH}
 use Rattle.gos_types.specs.Types.{Type', Com, Exp, Var, Pair, Fun, IsGround}
 use Rattle.gos_netlist.specs.Nets.{Function, Input, Cell, Side, Give, Take, NetPort, Netlist}
 use Rattle.gos_netcheck.specs.CellRules.{WidthsFit}
@@ -128,13 +129,13 @@ is_ground zero side (Pair a b) has = absurd has.1
 is_ground zero side (Fun a b) has = absurd has.1
 is_ground (suc k) side ty has = has.1
 
--- the bits of a net are at most 32
-width_few : (cells : List Cell) (n : ℕ) → WidthsFit cells → n < length cells → (1 ≤ width_of cells n) × (width_of cells n ≤ 32)
+-- a net has at least one bit, and no more than the greatest width
+width_few : (cells : List Cell) (n : ℕ) → WidthsFit cells → n < length cells → (1 ≤ width_of cells n) × (width_of cells n ≤ GREATEST_WIDTH)
 width_few cells n fits low =
     let right = fits n (cell_at cells n) (slice_get-get_or cells n no_cell low) in
     (omega (arith, right.0, width_is cells n), omega (arith, right.1, width_is cells n))
 
-widths_few : (cells : List Cell) (ns : List ℕ) → WidthsFit cells → AllByRecursion (λ n. n < length cells) ns → sum_by (width_of cells) ns ≤ 32 * length ns
+widths_few : (cells : List Cell) (ns : List ℕ) → WidthsFit cells → AllByRecursion (λ n. n < length cells) ns → sum_by (width_of cells) ns ≤ GREATEST_WIDTH * length ns
 widths_few cells [] fits low = omega arith
 widths_few cells (n ∷ ns) fits low = omega (arith, (width_few cells n fits low.0).1, widths_few cells ns fits low.1, sum_by-cons (width_of cells) n ns)
 

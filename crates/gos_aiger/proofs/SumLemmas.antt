@@ -6,6 +6,7 @@ use Rattle.std.proofs.lemmas.Bool.{cases_lt}
 use Rattle.std.proofs.lemmas.Option.{slice_get-get_or}
 use Rattle.std.proofs.lemmas.List.Sums.{sum_by-cons, sum_by-append}
 use Rattle.std.proofs.lemmas.List.Concat.{flat_map-append}
+use Rattle.gos_types.specs.declared.widths.TheConstants.{GREATEST_WIDTH}
 use Rattle.gos_netlist.specs.Nets.{Cell, NetPort}
 use Rattle.gos_netlist.specs.Seen.{cell_of}
 use Rattle.gos_netlist.specs.declared.nets.Cell as declared
@@ -117,10 +118,10 @@ none = record { width = 0; gate = gates.Input }
 pub width_seen : (cells : List declared.Cell) (n : ℕ) → width_of (map cell_of cells) n ≡ (get_or cells n none).width
 width_seen cells n = width_is (map cell_of cells) n ∙ ap (λ (c : Cell). c.width) (seen_cell cells n)
 
-pub width_low : (cells : List declared.Cell) (n : ℕ) → WidthsFit (map cell_of cells) → (get_or cells n none).width ≤ 32
+pub width_low : (cells : List declared.Cell) (n : ℕ) → WidthsFit (map cell_of cells) → (get_or cells n none).width ≤ GREATEST_WIDTH
 width_low cells n fits = by_place (cases_lt n (length cells))
   where
-    by_place : (n < length cells) ⊎ (length cells ≤ n) → (get_or cells n none).width ≤ 32
+    by_place : (n < length cells) ⊎ (length cells ≤ n) → (get_or cells n none).width ≤ GREATEST_WIDTH
     by_place (inl low) =
         let inside : n < length (map cell_of cells) = omega (arith, low, length-map cells cell_of) in
         let right = fits n (cell_at (map cell_of cells) n) (slice_get-get_or (map cell_of cells) n no_cell inside) in

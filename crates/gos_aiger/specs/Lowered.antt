@@ -76,7 +76,7 @@ registers_in cells regs (v ∷ vs) = regs ∷ registers_in cells (next_registers
 abbrev pub AreInputs : List Cell → Numbers → Type 0
 AreInputs cells ins = (n : ℕ) (c : Cell) → slice_get cells n ≡ Some c → c.gate ≡ Input → at ins n < 2 ^ c.width
 
--- For every list of inputs, in every cycle: the outputs are those of the netlist, and the latches hold what its registers do.
+-- In every cycle of a run under these inputs the outputs are those of the netlist, and the latches hold what its registers do.
 pub record RunsAlike (net : Netlist) (a : Gates) (ins vs : List Numbers) : Type 0 where
   pub outputs : outputs_of a (map (input_bits net) ins) ≡ map (output_bits net) vs
   pub latches : latches_of a (map (input_bits net) ins) ≡ map (register_bits net.cells) (registers_in net.cells (replicate (length net.cells) 0) vs)

@@ -1,5 +1,6 @@
 // A netlist as two-input gates and latches.
 ghost use Rattle.std.specs.Prelude.{◌≡◌, ◌≤◌, ◌<◌, ◌+◌, ◌*◌, ◌^◌, length, map, sum_by, All, IfOk, IfErr};
+ghost use Rattle.gos_types.specs.declared.widths.TheConstants.{GREATEST_WIDTH};
 ghost use Rattle.gos_netlist.specs.Nets.{pins};
 ghost use Rattle.gos_netlist.specs.Seen.{cell_of, function_of};
 ghost use Rattle.gos_netcheck.specs.CellRules.{NetsExist, WidthsFit};
@@ -80,7 +81,7 @@ fn count_bits(cells: &[Cell]) -> u64
 fn pin_bits(cells: &[Cell], gate: Gate) -> u64
     requires { WidthsFit (map cell_of cells.now) }
     ensures sum { result ≡ sum_by (width_of (map cell_of cells.now)) (pins (function_of gate)) }
-    ensures few { result ≤ 96 }
+    ensures few { result ≤ 3 * GREATEST_WIDTH }
 {
     match gate {
         Gate::Input | Gate::Const(_) => 0,
@@ -102,7 +103,7 @@ fn pin_bits(cells: &[Cell], gate: Gate) -> u64
 fn net_bits(cells: &[Cell], net: NetId) -> u64
     requires { WidthsFit (map cell_of cells.now) }
     ensures width { result ≡ width_of (map cell_of cells.now) net.0 }
-    ensures few { result ≤ 32 }
+    ensures few { result ≤ GREATEST_WIDTH }
 {
     let place = net.0 as usize;
     if place < cells.len() {

@@ -8,6 +8,7 @@ use Rattle.std.specs.List.{AllByRecursion, list_all}
 use Rattle.std.proofs.Common.{refl, ap, sym, ◌∙◌, subst, arith, inl, inr, true≢false}
 use Rattle.std.proofs.lemmas.List.Elements.{All-nil, All-cons}
 use Rattle.std.proofs.lemmas.Bool.{eq-eqb, and_parts}
+use Rattle.gos_types.specs.declared.widths.TheConstants.{GREATEST_WIDTH}
 use Rattle.gos_types.specs.declared.types.Ty.{Ty}
 use Rattle.gos_types.specs.Types.{Type', Com, Exp, Var, Pair, Fun, type_of}
 use Rattle.gos_types.specs.Handshakes.{handshakes_of}
@@ -48,7 +49,7 @@ HasRange (kinds.Op op w) = IsWidth w
 HasRange (kinds.Not w) = IsWidth w
 HasRange (kinds.Assign w) = IsWidth w
 HasRange (kinds.Deref w) = IsWidth w
-HasRange (kinds.Local w v) = IsWidth w × (v ≤ 32)
+HasRange (kinds.Local w v) = IsWidth w × (v ≤ GREATEST_WIDTH)
 HasRange (kinds.Share t) = IsFine t
 
 -- each type of imports, and each of binders, has widths
@@ -116,7 +117,7 @@ bits_wide (Var w) h = inl refl
 bits_wide (Pair a b) h = inl refl
 bits_wide (Fun a b) h = inl refl
 
-bits_few : (t : Type') → HasWidths t → answer_bits t ≤ 32
+bits_few : (t : Type') → HasWidths t → answer_bits t ≤ GREATEST_WIDTH
 bits_few Com h = omega arith
 bits_few (Exp w) h = h.1
 bits_few (Var w) h = omega arith
@@ -161,7 +162,7 @@ nodes_fit law i g env (Under u ss (OfNew w) n m) t is gs (e, has) (small, k) (do
     let body : Term = meaning (below n (inside ss env)) m in
     let same : u ≡ t = e ∙ law i g (terms.New w body) t (done, width, h) in
     let wide : HasWidths t = typed_wide i (Var w ∷ g) body t is (width, gs) k h in
-    let few : answer_bits u ≤ 32 = subst (λ (v : Type'). answer_bits v ≤ 32) (sym same) (bits_few t wide) in
+    let few : answer_bits u ≤ GREATEST_WIDTH = subst (λ (v : Type'). answer_bits v ≤ GREATEST_WIDTH) (sym same) (bits_few t wide) in
     ((width, omega arith), ((width, few), tt), nodes_fit law i (Var w ∷ g) (below n (inside ss env)) m t is (width, gs) has k h)
 nodes_fit law i g env (One u ss OfFst m) t is gs (e, has) (small, k) (b, h) = (tt, nodes_fit law i g (inside ss env) m (Pair t b) is gs has k h)
 nodes_fit law i g env (One u ss OfSnd m) t is gs (e, has) (small, k) (a, h) = (tt, nodes_fit law i g (inside ss env) m (Pair a t) is gs has k h)

@@ -6,6 +6,7 @@ use Rattle.std.specs.List.{AllByRecursion}
 use Rattle.std.proofs.Common.{refl, ap, sym, ◌∙◌, subst, arith, inl, inr}
 use Rattle.std.proofs.lemmas.List.{length-map}
 use Rattle.gos_lex.specs.Names.{IsNameOrWord}
+use Rattle.gos_types.specs.declared.widths.TheConstants.{GREATEST_WIDTH}
 use Rattle.gos_types.specs.Types.{Type', type_of}
 use Rattle.gos_model.specs.Typing.{Imports}
 use Rattle.gos_model.specs.Laws.{NodeHasType}
@@ -31,7 +32,7 @@ use Rattle.gos_compile.proofs.SlimLemmas.{imports_weigh, few_parts}
 use Rattle.gos_compile.proofs.TextLemmas.{text_length}
 
 -- parts in range have a line, and small types
-few_bits : (v : ℕ) → (v ≡ 0) ⊎ IsWidth v → v ≤ 32
+few_bits : (v : ℕ) → (v ≡ 0) ⊎ IsWidth v → v ≤ GREATEST_WIDTH
 few_bits v (inl e) = omega (arith, e)
 few_bits v (inr h) = h.1
 

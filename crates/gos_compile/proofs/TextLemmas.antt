@@ -6,6 +6,7 @@ use Rattle.std.specs.List.{AllByRecursion, flat_map}
 use Rattle.std.proofs.Common.{arith, length-append}
 use Rattle.std.proofs.lemmas.Fmt.{length-decimal-le}
 use Rattle.std.proofs.Math.Pow.{pow_mono}
+use Rattle.gos_types.specs.declared.widths.TheConstants.{GREATEST_WIDTH}
 use Rattle.gos_types.specs.Types.{Type', Com, Exp, Var, Pair, Fun}
 use Rattle.gos_model.specs.Typing.{Imported}
 use Rattle.gos_plan.specs.Kinds as kinds
@@ -29,7 +30,7 @@ number_length e k n some below fits =
 big_length : (e n : ℕ) → IsNumber n → length (number_text e n) ≤ 11
 big_length e n is = number_length e 10 n (omega arith) (omega (arith, is)) (omega (arith, is))
 
-bits_length : (e w : ℕ) → w ≤ 32 → length (number_text e w) ≤ 3
+bits_length : (e w : ℕ) → w ≤ GREATEST_WIDTH → length (number_text e w) ≤ 3
 bits_length e w is = number_length e 2 w (omega arith) (omega (arith, is)) (omega (arith, is))
 
 -- types
@@ -55,11 +56,11 @@ type_length e (Fun a b) is =
     omega (arith, all, both, one, other, shakes)
 
 -- parts
-bits_few : (v : ℕ) → v ≤ 32 → length (bits_text v) ≤ 3
+bits_few : (v : ℕ) → v ≤ GREATEST_WIDTH → length (bits_text v) ≤ 3
 bits_few zero is = omega arith
 bits_few (suc v) is = bits_length 10 (suc v) is
 
-body_length : (v : ℕ) → v ≤ 32 → length (body_text v) ≤ 7
+body_length : (v : ℕ) → v ≤ GREATEST_WIDTH → length (body_text v) ≤ 7
 body_length zero is = omega arith
 body_length (suc v) is =
     let all = length-append (codes "exp ") (number_text 10 (suc v)) in let digits = bits_length 10 (suc v) is in omega (arith, all, digits)

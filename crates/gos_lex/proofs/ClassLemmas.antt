@@ -4,6 +4,7 @@ use Rattle.std.specs.Char.{is_ascii_digit}
 use Rattle.std.specs.List.{list_all}
 use Rattle.std.specs.Str.{bytes_eq}
 use Rattle.std.proofs.lemmas.Bool.{and_parts, lt-ltb, le-ltb}
+use Rattle.gos_lex.specs.declared.numeral.TheConstants.{GREATEST_NUMERAL}
 use Rattle.gos_lex.specs.declared.word.Word.{Word}
 use Rattle.gos_lex.specs.declared.word.Word.TheVariants as words
 use Rattle.gos_lex.specs.declared.sign.Sign.{Sign}
@@ -35,7 +36,7 @@ class_of from bytes =
     cond (spells_name bytes)
     (cond (nat_lt 255 (length bytes)) (AnEnd (Some (faults.Name from))) (AToken (cond (is_word bytes) (kinds.Word (among word_text words.Var all_words bytes)) kinds.Name)))
     (cond (is_numeral bytes)
-    (cond (nat_lt 4294967295 (value_of bytes)) (AnEnd (Some (faults.Number from))) (AToken (kinds.Number (value_of bytes))))
+    (cond (nat_lt GREATEST_NUMERAL (value_of bytes)) (AnEnd (Some (faults.Number from))) (AToken (kinds.Number (value_of bytes))))
     (AToken (kinds.Sign (among sign_text signs.Arrow all_signs bytes))))
 
 class_of_word : (from : ℕ) (word : Word) → class_of from (word_text word) ≡ AToken (kinds.Word word)
@@ -90,7 +91,7 @@ class_of_kind from bytes kinds.Name is =
     rw (is.spelled, short, is.no_word) refl
 class_of_kind from bytes (kinds.Number n) is =
     let other = numeral_no_name bytes is.0 in
-    let small : nat_lt 4294967295 (value_of bytes) ≡ false = le-ltb 4294967295 (value_of bytes) (omega (arith, is.1, is.2)) in
+    let small : nat_lt GREATEST_NUMERAL (value_of bytes) ≡ false = le-ltb GREATEST_NUMERAL (value_of bytes) (omega (arith, is.1, is.2)) in
     rw (other, is.0, small) (ap (λ value. AToken (kinds.Number value)) is.1)
 class_of_kind from bytes (kinds.Word word) is = ap (class_of from) is ∙ class_of_word from word
 class_of_kind from bytes (kinds.Sign sign) is = ap (class_of from) is ∙ class_of_sign from sign
@@ -98,7 +99,7 @@ class_of_kind from bytes (kinds.Sign sign) is = ap (class_of from) is ∙ class_
 pub class_of_great : (from : ℕ) (bytes : List ℕ) → IsTooGreat bytes → class_of from bytes ≡ AnEnd (Some (faults.Number from))
 class_of_great from bytes is =
     let other = numeral_no_name bytes is.0 in
-    let great = lt-ltb 4294967295 (value_of bytes) is.1 in
+    let great = lt-ltb GREATEST_NUMERAL (value_of bytes) is.1 in
     rw (other, is.0, great) refl
 
 pub class_of_long : (from : ℕ) (bytes : List ℕ) → IsTooLong bytes → class_of from bytes ≡ AnEnd (Some (faults.Name from))

@@ -4,6 +4,7 @@
 -- Places count bytes from 0. Nothing here depends on how the text is gone through.
 use Rattle.std.specs.Prelude.{◌≡◌, ℕ, ◌-◌, ◌<◌, ◌≤◌, List, [], ◌∷◌, length, drop, map, IsTrue, Option, Some, None}
 use Rattle.std.specs.List.{slice_range}
+use Rattle.gos_lex.specs.declared.numeral.TheConstants.{GREATEST_NUMERAL}
 use Rattle.gos_lex.specs.declared.word.Word.{Word}
 use Rattle.gos_lex.specs.declared.sign.Sign.{Sign}
 use Rattle.gos_lex.specs.declared.token.Token.{Token}
@@ -21,13 +22,13 @@ use Rattle.gos_lex.specs.Gaps.{IsSkipped}
 -- the bytes of a token are of its kind
 abbrev pub IsOfKind : List ℕ → TokenKind → Type 0
 IsOfKind bytes kinds.Name = IsName bytes
-IsOfKind bytes (kinds.Number n) = IsTrue (is_numeral bytes) × (value_of bytes ≡ n) × (n ≤ 4294967295)
+IsOfKind bytes (kinds.Number n) = IsTrue (is_numeral bytes) × (value_of bytes ≡ n) × (n ≤ GREATEST_NUMERAL)
 IsOfKind bytes (kinds.Word word) = bytes ≡ word_text word
 IsOfKind bytes (kinds.Sign sign) = bytes ≡ sign_text sign
 
 -- a numeral whose value is above that of any token
 abbrev pub IsTooGreat : List ℕ → Type 0
-IsTooGreat bytes = IsTrue (is_numeral bytes) × (4294967295 < value_of bytes)
+IsTooGreat bytes = IsTrue (is_numeral bytes) × (GREATEST_NUMERAL < value_of bytes)
 
 -- spelled as a name, and longer than any
 abbrev pub IsTooLong : List ℕ → Type 0

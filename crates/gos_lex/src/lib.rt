@@ -16,6 +16,7 @@ pub use line_number::number;
 pub use line_words::{all_different, is_among, place_of};
 pub use lines::{Line, count_lines, next_line};
 pub use name::{Name, is_name, is_name_or_word};
+pub use numeral::GREATEST_NUMERAL;
 pub use scanner::scan;
 pub use sign::Sign;
 pub use table::NameTable;

@@ -14,7 +14,7 @@ pub struct Span {
 #[derive(Clone, Copy, Debug, PartialEq, Eq)]
 pub enum TokenKind {
     Name,
-    Number(u32),
+    Number(u64),
     Word(Word),
     Sign(Sign),
 }

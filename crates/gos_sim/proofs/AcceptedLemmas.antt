@@ -6,6 +6,7 @@ use Rattle.std.proofs.lemmas.Option.{slice_get-get_or, slice_get_within}
 use Rattle.std.proofs.Common.{arith, refl, sym, ◌∙◌, ap, subst, inl, inr, pow_mono}
 use Rattle.std.proofs.lemmas.List.{append-nil, append_assoc}
 use Rattle.std.proofs.lemmas.List.Elements.{All-append, All-cons, All-nil, All-filter, All-from_recursion, Contains-append_left, Contains-append_right, Contains-push, filter-append, filter_passes}
+use Rattle.gos_types.specs.declared.widths.TheConstants.{GREATEST_WIDTH}
 use Rattle.gos_types.specs.Types.{Type', Com, Exp, Var, Pair, Fun}
 use Rattle.gos_netlist.specs.Nets.{Function, Input, Const, Not, And, Or, Xor, Mux, Add, Sub, Eq, Less, Gate, Reg, Cell, pins, Side, Give, Take, NetPort, Netlist}
 use Rattle.gos_netlist.specs.Events.{is_input, net_count}
@@ -19,7 +20,7 @@ use Rattle.gos_sim.specs.inner.Program.{IsShort}
 use Rattle.gos_sim.specs.inner.Ready.{AreApart, AreCellsReady, AreTwo, IsReady}
 
 -- a constant that fits its cell has at most 32 bits
-short : (ws : List ℕ) (w : ℕ) (f : Function) → w ≤ 32 → OperandsFit ws w f → IsShort f
+short : (ws : List ℕ) (w : ℕ) (f : Function) → w ≤ GREATEST_WIDTH → OperandsFit ws w f → IsShort f
 short ws w (Const k) h fits = let more : 2 ^ w ≤ 2 ^ 32 = pow_mono h in omega arith
 short ws w Input h fits = tt
 short ws w (Not a) h fits = tt

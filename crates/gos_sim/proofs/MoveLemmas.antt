@@ -6,6 +6,7 @@ use Rattle.std.proofs.lemmas.Bool.{cases_order}
 use Rattle.std.proofs.lemmas.List.{length-map, get_or-replicate, get_or_past, length-append, length-replicate, ext_get_or}
 use Rattle.std.proofs.lemmas.List.Elements.{All-contains, All-map, All-weaker}
 use Rattle.std.proofs.lemmas.Option.{slice_get-get_or, slice_get_within, get_or_from_slice_get}
+use Rattle.gos_types.specs.declared.widths.TheConstants.{GREATEST_WIDTH}
 use Rattle.gos_netlist.specs.declared.nets.Gate.TheVariants as gates
 use Rattle.gos_netlist.specs.Nets.{Function, Input, Const, Not, And, Or, Xor, Mux, Add, Sub, Eq, Less, Gate, Reg, Cell, pins}
 use Rattle.gos_netlist.specs.Seen.{function_of}
@@ -168,7 +169,7 @@ shown_bits w p (Less a b) v = refl
 shown_bits w p (Gate s a) v = refl
 shown_bits w p (Reg a) v = refl
 
-bits_small : (f : Function) (w : ℕ) → w ≤ 32 → bits_of f w ≤ 32
+bits_small : (f : Function) (w : ℕ) → w ≤ GREATEST_WIDTH → bits_of f w ≤ GREATEST_WIDTH
 bits_small Input w h = omega arith
 bits_small (Const k) w h = omega arith
 bits_small (Not a) w h = h
@@ -309,7 +310,7 @@ step_within places count s t numbering m within =
       net = subst (λ (n : ℕ). n < count) (sym m.net) (numbering.below s.net within.net);
       reads = subst (All (λ a. a < count)) (sym (reads_moved (at places) s t m))
           (All-map (λ a. a < count) (at places) (reads s) (All-weaker (λ a. a < length places) (λ a. at places a < count) numbering.below (reads s) within.reads));
-      width = subst (λ (w : ℕ). w ≤ 32) (sym m.width) (bits_small (function_of s.gate) s.width within.width);
+      width = subst (λ (w : ℕ). w ≤ GREATEST_WIDTH) (sym m.width) (bits_small (function_of s.gate) s.width within.width);
       short = subst IsShort (sym m.gate) (short_moved (at places) (function_of s.gate) within.short);
     }
 

@@ -1,4 +1,5 @@
 pub mod ItemLemmas
+pub mod NumberLemmas
 pub mod NestingLemmas
 pub mod ImportLemmas
 pub mod LeadsLemmas

@@ -3,6 +3,7 @@
 -- Read first: Trees, ModuleTrees.
 use Rattle.std.specs.Prelude.{◌≤◌, List, [], ◌∷◌}
 use Rattle.gos_lex.specs.Names.{IsName}
+use Rattle.gos_lex.specs.declared.numeral.TheConstants.{GREATEST_NUMERAL}
 use Rattle.gos_types.specs.Types as types
 use Rattle.gos_types.specs.Types.{Type'}
 use Rattle.gos_syntax.specs.Trees.{Tree, Skip, Lit, Use, Lam, New, App, Both, Fst, Snd, Seq, Par, If, While, Assign, Deref, Not, Bin}
@@ -19,7 +20,7 @@ HasNumerals (types.Fun a b) = HasNumerals a × HasNumerals b
 -- the names of a term are names, and its numerals no greater than a token's
 abbrev pub IsWritableTree : Tree → Type 0
 IsWritableTree (Skip s) = Unit {0}
-IsWritableTree (Lit s value width) = (value ≤ 4294967295) × (width ≤ 4294967295)
+IsWritableTree (Lit s value width) = (value ≤ GREATEST_NUMERAL) × (width ≤ 4294967295)
 IsWritableTree (Use s name) = IsName name
 IsWritableTree (Lam s name ty ty_span body) = IsName name × HasNumerals ty × IsWritableTree body
 IsWritableTree (New s name width width_span body) = IsName name × (width ≤ 4294967295) × IsWritableTree body

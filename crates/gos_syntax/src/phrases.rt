@@ -303,12 +303,13 @@ impl<'a> Source<'a> {
     }
 
     // literal = numeral ":" numeral, the first of which has been read
-    fn literal(&self, alloc: Global, at: usize, value: u32) -> Result<(Box<Term>, usize), Stop>
+    fn literal(&self, alloc: Global, at: usize, value: u64) -> Result<(Box<Term>, usize), Stop>
+        requires stands { Stands self.now }
         requires room { at < length self.now.tokens.now }
         requires number { HasNumber (seen self.now) at value }
         ensures { IsTermAnswer self.now Atom at result }
     {
-        let width = self.number(self.after_sign(at + 1, Sign::Colon)?)?;
+        let width = self.width(self.after_sign(at + 1, Sign::Colon)?)?;
         self.node(alloc, at, at + 3, Form::Lit { value, width })
     }
 
@@ -352,7 +353,7 @@ impl<'a> Source<'a> {
     {
         let name = self.name(alloc, at + 1)?;
         let width_at = self.after_sign(at + 2, Sign::Colon)?;
-        let width = self.number(width_at)?;
+        let width = self.width(width_at)?;
         let width_span = self.span(width_at, width_at + 1);
         let body_at = self.after_word(width_at + 1, Word::In)?;
         Ok((

@@ -59,7 +59,7 @@ fn add_type(alloc: Global, text: &mut Vec<u8>, ty: &Ty) -> Result<(), NoMemory>
 }
 
 // Adds a number in decimal digits.
-fn add_number(alloc: Global, text: &mut Vec<u8>, n: u32) -> Result<(), NoMemory>
+fn add_number(alloc: Global, text: &mut Vec<u8>, n: u64) -> Result<(), NoMemory>
     ensures { OnOk result (text.new.items ≡ text.old.items ++ decimal n) }
 {
     let digits = format!(in alloc; "{n}")?;
@@ -67,12 +67,12 @@ fn add_number(alloc: Global, text: &mut Vec<u8>, n: u32) -> Result<(), NoMemory>
 }
 
 // Adds the text of a literal: its value, and behind a colon its width.
-fn add_literal(alloc: Global, text: &mut Vec<u8>, value: u32, width: u32) -> Result<(), NoMemory>
+fn add_literal(alloc: Global, text: &mut Vec<u8>, value: u64, width: u32) -> Result<(), NoMemory>
     ensures { OnOk result (text.new.items ≡ text.old.items ++ decimal value ++ codes ":" ++ decimal width) }
 {
     add_number(alloc, text, value)?;
     add(text, b":")?;
-    add_number(alloc, text, width)
+    add_number(alloc, text, u64::from(width))
 }
 
 // Adds the text of a term.
@@ -220,7 +220,7 @@ fn add_local(alloc: Global, text: &mut Vec<u8>, name: &Name, width: u32) -> Resu
     add(text, b"new ")?;
     add(text, name.bytes())?;
     add(text, b" : ")?;
-    add_number(alloc, text, width)?;
+    add_number(alloc, text, u64::from(width))?;
     add(text, b" in ")
 }
 

@@ -90,7 +90,7 @@ impl<'a> Source<'a> {
 
     // The value of the numeral at a place.
     #[tactic(auto, using(crate::proofs::StopLemmas::stops_at_token))]
-    pub fn number(&self, at: usize) -> Result<u32, Stop>
+    pub fn number(&self, at: usize) -> Result<u64, Stop>
         requires { at ≤ length self.now.tokens.now }
         ensures within { IfOk result (λ value. at < length self.now.tokens.now) }
         ensures number { IfOk result (λ value. HasNumber (seen self.now) at value) }
@@ -100,6 +100,18 @@ impl<'a> Source<'a> {
             Some(TokenKind::Number(value)) => Ok(value),
             _ => Err(Stop::At(at)),
         }
+    }
+
+    // The width that the numeral at a place writes. No token's value is above the numbers of 32 bits.
+    #[tactic(auto, using(crate::proofs::NumberLemmas::number_small))]
+    pub fn width(&self, at: usize) -> Result<u32, Stop>
+        requires stands { Stands self.now }
+        requires within { at ≤ length self.now.tokens.now }
+        ensures within { IfOk result (λ width. at < length self.now.tokens.now) }
+        ensures number { IfOk result (λ width. HasNumber (seen self.now) at width) }
+        ensures refused { IfErr result (Stops (seen self.now) (wanted.number ∷ []) at) }
+    {
+        Ok(self.number(at)? as u32)
     }
 
     // The name at a place.

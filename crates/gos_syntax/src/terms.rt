@@ -39,7 +39,7 @@ pub enum Form {
     Skip,
     /// `value : width`
     Lit {
-        value: u32,
+        value: u64,
         width: u32,
     },
     /// A name, of a binder around it or of an import.

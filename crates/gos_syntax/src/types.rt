@@ -1,6 +1,7 @@
 // The types of a source text.
 
 ghost use Rattle.std.specs.Prelude.{◌≤◌, length};
+ghost use Rattle.gos_syntax.specs.Items.{Stands};
 ghost use Rattle.gos_syntax.specs.Grammar.{Whole, Product, Base};
 ghost use Rattle.gos_syntax.specs.inner.Phrases.{IsTypeAnswer};
 
@@ -16,7 +17,8 @@ impl<'a> Source<'a> {
     // type = prod [ "->" type ]
     #[cycle(ty)]
     pub(crate) fn ty(&self, alloc: Global, at: usize) -> Result<(Ty, usize), Stop>
-        requires { at ≤ length self.now.tokens.now }
+        requires stands { Stands self.now }
+        requires within { at ≤ length self.now.tokens.now }
         ensures { IsTypeAnswer self.now Whole at result }
     {
         let (argument, end) = self.product(alloc, at)?;
@@ -33,7 +35,8 @@ impl<'a> Source<'a> {
     // prod = base [ "*" prod ]
     #[cycle(ty)]
     fn product(&self, alloc: Global, at: usize) -> Result<(Ty, usize), Stop>
-        requires { at ≤ length self.now.tokens.now }
+        requires stands { Stands self.now }
+        requires within { at ≤ length self.now.tokens.now }
         ensures { IsTypeAnswer self.now Product at result }
     {
         let (first, end) = self.base(alloc, at)?;
@@ -50,13 +53,14 @@ impl<'a> Source<'a> {
     // base = "com" | "exp" numeral | "var" numeral | "(" type ")"
     #[cycle(ty)]
     fn base(&self, alloc: Global, at: usize) -> Result<(Ty, usize), Stop>
-        requires { at ≤ length self.now.tokens.now }
+        requires stands { Stands self.now }
+        requires within { at ≤ length self.now.tokens.now }
         ensures { IsTypeAnswer self.now Base at result }
     {
         match self.kind(at) {
             Some(TokenKind::Word(Word::Com)) => Ok((Ty::Com, at + 1)),
-            Some(TokenKind::Word(Word::Exp)) => Ok((Ty::Exp(self.number(at + 1)?), at + 2)),
-            Some(TokenKind::Word(Word::Var)) => Ok((Ty::Var(self.number(at + 1)?), at + 2)),
+            Some(TokenKind::Word(Word::Exp)) => Ok((Ty::Exp(self.width(at + 1)?), at + 2)),
+            Some(TokenKind::Word(Word::Var)) => Ok((Ty::Var(self.width(at + 1)?), at + 2)),
             Some(TokenKind::Sign(Sign::Open)) => {
                 let (inner, end) = self.ty(alloc, at + 1)?;
                 Ok((inner, self.after_sign(end, Sign::Close)?))

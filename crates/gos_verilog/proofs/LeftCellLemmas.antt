@@ -9,6 +9,7 @@ use Rattle.gos_netlist.specs.Writable.{IsNumber}
 use Rattle.gos_lex.specs.ItemTexts.{Passed, IsTextOf, ended}
 use Rattle.gos_netlist.proofs.PassedLemmas.{passed_as, passed_both}
 use Rattle.gos_lex.proofs.SequenceLemmas.{IsCode, misses_as}
+use Rattle.gos_verilog.specs.declared.slots.TheConstants.{LAST_BIT}
 use Rattle.gos_verilog.specs.declared.declared.Shape.{Shape}
 use Rattle.gos_verilog.specs.PortNets.{PortNet}
 use Rattle.gos_verilog.specs.Lines.{cell_net, cell_declaration, cell_declarations}
@@ -25,7 +26,7 @@ use Rattle.gos_verilog.proofs.BreakLemmas.{from_as, first_breaks, either_further
 use Rattle.gos_verilog.proofs.LeftLemmas.{some_cells, no_shape, cells_split, cells_join, shape_first}
 
 abbrev pub range_slot : Bool → Slot'
-range_slot register = record { before = shape_front register; low = 0; high = 31; end = 58 }
+range_slot register = record { before = shape_front register; low = 0; high = LAST_BIT; end = 58 }
 
 abbrev pub shape_slots : Bool → ℕ → List Slot'
 shape_slots register i = range_slot register ∷ exactly (codes "0] n") i 59 ∷ []
@@ -47,7 +48,7 @@ slots_line register i n =
     ∙ ap (λ (m : ℕ). front ++ decimal m ++ codes ":0] " ++ cell_net i ++ codes ";\n") e)))))
 
 -- the numbers of two slots
-two_numbers : (register : Bool) (i : ℕ) (ns : List ℕ) → FitSlots (shape_slots register i) ns → (n : ℕ) × (n ≤ 31) × (ns ≡ n ∷ i ∷ [])
+two_numbers : (register : Bool) (i : ℕ) (ns : List ℕ) → FitSlots (shape_slots register i) ns → (n : ℕ) × (n ≤ LAST_BIT) × (ns ≡ n ∷ i ∷ [])
 two_numbers register i [] fit = absurd fit
 two_numbers register i (n ∷ []) fit = absurd fit.1
 two_numbers register i (n ∷ m ∷ []) fit = let same : m ≡ i = omega (arith, fit.1.0.0, fit.1.0.1) in (n, fit.0.1, ap (λ (k : ℕ). n ∷ k ∷ []) same)

@@ -7,6 +7,7 @@ use Rattle.gos_netlist.specs.Events.{is_input}
 use Rattle.gos_lex.specs.ItemTexts.{Passed, IsInRange, ended}
 use Rattle.gos_netlist.proofs.PassedLemmas.{passed_as, passed_both}
 use Rattle.gos_lex.proofs.SequenceLemmas.{IsCode, misses_as}
+use Rattle.gos_verilog.specs.declared.slots.TheConstants.{LAST_BIT}
 use Rattle.gos_verilog.specs.declared.port_net.Role.{Role}
 use Rattle.gos_verilog.specs.declared.port_net.Role.TheVariants.{AnsValue, WriteValue}
 use Rattle.gos_verilog.specs.PortNets.{PortNet, suffix, direction}
@@ -97,12 +98,12 @@ open_misses role side last name text at a b r first over_a over_b max one other 
     from false n bytes is text = inr (n, is, text)
 
 -- last bits are few
-pub most_few : (role : Role) (last : ℕ) → last ≤ 31 → most_of role last ≤ 31
+pub most_few : (role : Role) (last : ℕ) → last ≤ LAST_BIT → most_of role last ≤ LAST_BIT
 most_few AnsValue last few = omega arith
 most_few WriteValue last few = few
 most_few role last few = omega arith
 
-pub behind_few : (role : Role) (last n : ℕ) → last ≤ 31 → IsInRange (least_of role last) (most_of role last) n → last_behind role last n ≤ 31
+pub behind_few : (role : Role) (last n : ℕ) → last ≤ LAST_BIT → IsInRange (least_of role last) (most_of role last) n → last_behind role last n ≤ LAST_BIT
 behind_few AnsValue last n few is = is.1
 behind_few role last n few is = few
 
@@ -111,7 +112,7 @@ least_most AnsValue last = omega arith
 least_most WriteValue last = omega arith
 least_most role last = omega arith
 
-pub declaration_code : (role : Role) (side : Side) (last : ℕ) (name : List ℕ) → last ≤ 31 → IsCode (Bool × ℕ) (IsDeclared role side last) (net_text name)
+pub declaration_code : (role : Role) (side : Side) (last : ℕ) (name : List ℕ) → last ≤ LAST_BIT → IsCode (Bool × ℕ) (IsDeclared role side last) (net_text name)
 declaration_code role side last name few v w x y is_v is_w same =
     let bound = most_few role last few in
     let known = net_declaration_code (net_of name v) (net_of name w) x y (omega arith, omega (arith, is_v.1.1, bound)) (omega arith, omega (arith, is_w.1.1, bound)) refl same in
@@ -132,7 +133,7 @@ some_nets before side last (n ∷ named) =
     by false input = refl
 
 -- a declaration is passed
-pub nets_on : (list : List (Role × List ℕ)) (k : ℕ) (n : Role × List ℕ) (nets : List PortNet) (side : Side) (last : ℕ) (old now new : TextAt) (v : Bool × ℕ) → last ≤ 31 → drop k list ≡ n ∷ drop (k + 1) list
+pub nets_on : (list : List (Role × List ℕ)) (k : ℕ) (n : Role × List ℕ) (nets : List PortNet) (side : Side) (last : ℕ) (old now new : TextAt) (v : Bool × ℕ) → last ≤ LAST_BIT → drop k list ≡ n ∷ drop (k + 1) list
     → IsDeclared n.0 side last v → LeadsOn (LeftNets [] Give 0 list) (LeftNets nets side last (drop k list)) old now → Passed now new (net_text n.1 v)
     → LeadsOn (LeftNets [] Give 0 list) (LeftNets (nets ++ net_of n.1 v ∷ []) (side_behind (is_first n.0) side v.0) (last_behind n.0 last v.1) (drop (k + 1) list)) old new
 nets_on list k n nets side last old now new v few cut is far passed =
@@ -233,7 +234,7 @@ lines_join [] n = append-nil (port_declaration n)
 lines_join (m ∷ nets) n = ap (λ (rest : List ℕ). port_declaration m ++ rest) (lines_join nets n) ∙ sym (append_assoc (port_declaration m) (flat_map port_declaration nets) (port_declaration n))
 
 pub net_read : (names : List (Bor (List ℕ))) (k : ℕ) (name : Bor (List ℕ)) (nets longer : List PortNet) (text : List ℕ) (from at new : ℕ) (v : Bool × ℕ) → drop k names ≡ name ∷ drop (k + 1) names → longer ≡ nets ++ net_of name.now v ∷ []
-    → v.1 ≤ 31 → NetsRead names k nets text from at → PassedIn text at new (net_text name.now v) → NetsRead names (k + 1) longer text from new
+    → v.1 ≤ LAST_BIT → NetsRead names k nets text from at → PassedIn text at new (net_text name.now v) → NetsRead names (k + 1) longer text from new
 net_read names k name nets longer text from at new v cut is few read passed =
     let n : PortNet = net_of name.now v in
     subst (λ (list : List PortNet). NetsRead names (k + 1) list text from new) (sym is)

@@ -18,7 +18,7 @@ use crate::cell_line::exactly;
 use crate::fault::VFault;
 use crate::port_net::{PortNet, Role};
 use crate::ports_of::ends_with;
-use crate::slots::{Slot, framed, line};
+use crate::slots::{LAST_BIT, Slot, framed, line};
 use gos_lex::Cursor;
 use gos_netlist::{NetId, Side};
 use std::alloc::Global;
@@ -137,7 +137,7 @@ fn net_declaration(
     side: Side,
     last: u32,
 ) -> Result<(PortNet, usize), VFault>
-    requires { last ≤ 31 }
+    requires { last ≤ LAST_BIT }
     ensures within { IfOk result (λ both. both.1 ≤ length rest.now) }
     ensures declared { IfOk result (λ both. (v : Bool × ℕ) × IsDeclared role (side_of side) last v × (both.0 ≡ net_of name.now v)
         × PassedIn rest.now 0 both.1 (net_text name.now v)) }
@@ -168,7 +168,7 @@ fn net_line(
     role: Role,
     last: u32,
 ) -> Result<(PortNet, usize), VFault>
-    requires { last ≤ 31 }
+    requires { last ≤ LAST_BIT }
     ensures within { IfOk result (λ both. both.1 ≤ length rest.now) }
     ensures declared { IfOk result (λ both. (n : ℕ) × IsInRange (lefts.least_of role last) (lefts.most_of role last) n × (both.0 ≡ net_of name.now (input, n))
         × PassedIn rest.now 0 both.1 (net_text name.now (input, n))) }
@@ -211,7 +211,7 @@ fn most_of(role: Role, last: u32) -> u64
     ensures { result ≡ lefts.most_of role last }
 {
     match role {
-        Role::AnsValue => 31,
+        Role::AnsValue => LAST_BIT,
         Role::WriteValue => u64::from(last),
         _ => 0,
     }
@@ -289,7 +289,7 @@ fn declared_as(alloc: Global, rest: &[u8], i: u32, register: bool) -> Result<(Sh
         Slot {
             before: shape_word(register),
             low: 0,
-            high: 31,
+            high: LAST_BIT,
             end: b':',
         },
         exactly(b"0] n", i, b';'),

@@ -9,13 +9,16 @@ ghost use Rattle.gos_verilog.specs.inner.Stages.{Rest};
 ghost use Rattle.gos_verilog.specs.inner.Slots.{IsSlot, IsRightSlot, AreSlots, FitSlots, slot_text, line_text, IsLine, Slot'};
 
 use gos_lex::Cursor;
-use gos_types::NoMemory;
+use gos_types::{GREATEST_WIDTH, NoMemory};
 use smallvec::SmallVec;
 use std::alloc::Global;
 use std::marker::Model;
 
 /// The greatest number of a net.
 pub const LAST_NET: u64 = 4_294_967_295;
+
+/// The greatest number of a value's last bit.
+pub const LAST_BIT: u64 = (GREATEST_WIDTH - 1) as u64;
 
 /// A word, a number of a range, and the byte that ends it.
 #[derive(Drop)]

@@ -3,6 +3,7 @@
 -- Read first: Nets and Cycles of gos_netlist. A step is a cell that is neither an input nor a register, and a latch is a
 -- register with its pin. No step writes a net that it or an earlier one has read.
 use Rattle.std.specs.Prelude.{◌≡◌, ◌≢◌, ℕ, ◌<◌, ◌≤◌, Bool, true, false, IsFalse, if◌then◌else◌, List, [], ◌∷◌, ◌++◌, All, Contains, Some, get_or, slice_get}
+use Rattle.gos_types.specs.declared.widths.TheConstants.{GREATEST_WIDTH}
 use Rattle.gos_netlist.specs.declared.nets.Cell as declared
 use Rattle.gos_netlist.specs.declared.nets.Gate.TheVariants as gates
 use Rattle.gos_netlist.specs.Nets.{Function, Input, Const, Reg, Cell, pins}
@@ -71,11 +72,11 @@ abbrev pub IsShort : Function → Type 0
 IsShort (Const k) = IsWord k
 IsShort f = Unit {0}
 
--- a step of at most 32 bits whose nets are below a count
+-- a step of no more than the greatest width whose nets are below a count
 pub record IsStepWithin (count : ℕ) (s : Step) : Type 0 where
   pub net : s.net < count
   pub reads : All (λ a. a < count) (reads s)
-  pub width : s.width ≤ 32
+  pub width : s.width ≤ GREATEST_WIDTH
   pub short : IsShort (function_of s.gate)
 
 -- a latch whose nets are below a count

@@ -2,6 +2,7 @@
 --
 -- Read first: EventNets, Program.
 use Rattle.std.specs.Prelude.{◌≡◌, ◌≢◌, ℕ, ◌<◌, ◌≤◌, List, All, Some, length, slice_get}
+use Rattle.gos_types.specs.declared.widths.TheConstants.{GREATEST_WIDTH}
 use Rattle.gos_netlist.specs.Nets.{Input, Cell, Netlist, pins}
 use Rattle.gos_netlist.specs.Cycles.{IsRegister}
 use Rattle.gos_sim.specs.declared.event_nets.EventNets.{EventNets}
@@ -9,10 +10,10 @@ use Rattle.gos_sim.specs.EventNets.{input_events, output_events, OnNets, Names}
 use Rattle.gos_netlist.specs.Events.{net_count}
 use Rattle.gos_sim.specs.inner.Program.{IsShort}
 
--- a cell of at most 32 bits whose pins are below a count
+-- a cell of no more than the greatest width whose pins are below a count
 pub record IsCellWithin (count : ℕ) (c : Cell) : Type 0 where
   pub pins : All (λ a. a < count) (pins c.gate)
-  pub width : c.width ≤ 32
+  pub width : c.width ≤ GREATEST_WIDTH
   pub short : IsShort c.gate
 
 -- all cells, each with pins that are cells

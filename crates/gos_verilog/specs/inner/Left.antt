@@ -10,6 +10,7 @@ use Rattle.gos_netlist.specs.Nets.{Function, Input, Side, Give, Take, NetPort}
 use Rattle.gos_netlist.specs.Events.{is_input}
 use Rattle.gos_lex.specs.ItemTexts.{IsTextOf, IsInRange}
 use Rattle.gos_netlist.specs.Writable.{IsNumber, OperandsFit}
+use Rattle.gos_verilog.specs.declared.slots.TheConstants.{LAST_BIT}
 use Rattle.gos_verilog.specs.declared.declared.Shape.{Shape}
 use Rattle.gos_verilog.specs.declared.port_net.Role.{Role}
 use Rattle.gos_verilog.specs.declared.port_net.Role.TheVariants.{Run, Ask, AnsValue, Read, WriteValue}
@@ -114,7 +115,7 @@ least_of WriteValue last = last
 least_of role last = 0
 
 abbrev pub most_of : Role → ℕ → ℕ
-most_of AnsValue last = 31
+most_of AnsValue last = LAST_BIT
 most_of WriteValue last = last
 most_of role last = 0
 

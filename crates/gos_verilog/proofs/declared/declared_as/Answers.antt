@@ -3,6 +3,7 @@ use Rattle.std.specs.Prelude.{codes}
 use Rattle.std.proofs.lemmas.Result.{err_from_is_err_and}
 use Rattle.gos_lex.specs.Items.{TextAt, Misses}
 use Rattle.gos_lex.specs.ItemTexts.{Passed}
+use Rattle.gos_verilog.specs.declared.slots.TheConstants.{LAST_BIT}
 use Rattle.gos_verilog.specs.inner.Slots.{Slot', FitSlots, line_text, IsLine}
 use Rattle.gos_verilog.specs.inner.Left.{IsShapeOf, shape_text}
 use Rattle.gos_verilog.proofs.PlaceLemmas.{start_at}
@@ -16,8 +17,8 @@ returns-in_err-numbers-clause-wrong c =
     let register = c.args.register in
     let rest = c.args.rest.now in
     let place = c.in_err-numbers.field-0.0 in
-    let slots : record { before = c.shape_word.result.now; low = 0; high = 31; end = 58 } ∷ c.exactly.result ∷ [] ≡ shape_slots register i =
-    λ j. record { before = c.shape_word.ensures j; low = 0; high = 31; end = 58 } ∷ c.exactly.ensures j ∷ [] in
+    let slots : record { before = c.shape_word.result.now; low = 0; high = LAST_BIT; end = 58 } ∷ c.exactly.result ∷ [] ≡ shape_slots register i =
+    λ j. record { before = c.shape_word.ensures j; low = 0; high = LAST_BIT; end = 58 } ∷ c.exactly.ensures j ∷ [] in
     let wrong = subst (λ (list : List Slot'). Misses (IsLine list (codes "\n")) old.text old.at place) slots c.in_err-numbers.ensures.wrong in
     let known = subst (λ (t : TextAt). Misses (IsShapeOf register i) t.text t.at place) (start_at old rest c.new-cursor.ensures.text c.new-cursor.ensures.at) (shape_misses register i old.text old.at place wrong) in
     let p = err_from_is_err_and c.from_residual.result c.from_residual.ensures.1 in
@@ -31,8 +32,8 @@ returns-clause-passed c =
     let register = c.args.register in
     let rest = c.args.rest.now in
     let ns = c.in_ok-numbers.numbers.items in
-    let slots : record { before = c.shape_word.result.now; low = 0; high = 31; end = 58 } ∷ c.exactly.result ∷ [] ≡ shape_slots register i =
-    λ j. record { before = c.shape_word.ensures j; low = 0; high = 31; end = 58 } ∷ c.exactly.ensures j ∷ [] in
+    let slots : record { before = c.shape_word.result.now; low = 0; high = LAST_BIT; end = 58 } ∷ c.exactly.result ∷ [] ≡ shape_slots register i =
+    λ j. record { before = c.shape_word.ensures j; low = 0; high = LAST_BIT; end = 58 } ∷ c.exactly.ensures j ∷ [] in
     let fit = subst (λ (list : List Slot'). FitSlots list ns) slots c.in_ok-numbers.ensures.fit in
     let passed = subst (λ (list : List Slot'). Passed old new (line_text list (codes "\n") ns)) slots c.in_ok-numbers.ensures.passed in
     let known = shape_passed register i old new ns fit passed in

@@ -5,6 +5,7 @@ use Rattle.gos_lex.specs.Items.{TextAt, Misses}
 use Rattle.gos_lex.proofs.PlaceLemmas.{rest_whole}
 use Rattle.gos_netlist.specs.Nets.{Side, Give}
 use Rattle.gos_netlist.specs.Seen.{side_of}
+use Rattle.gos_verilog.specs.declared.slots.TheConstants.{LAST_BIT}
 use Rattle.gos_verilog.specs.declared.fault.VFault.{VFault}
 use Rattle.gos_verilog.specs.declared.port_net.Role.{Role}
 use Rattle.gos_verilog.specs.PortNets.{PortNet}
@@ -43,7 +44,7 @@ loop-name-preserved c =
     let e : v.1 + 1 - 1 ≡ v.1 = omega arith in
     let last_is : c.last_behind-last.result ≡ last_behind role last v.1 = c.last_behind-last.ensures ∙ (ap (λ (n : PortNet). last_behind role last (n.width - 1)) (c.net.view_is ∙ net_is) ∙ ap (last_behind role last) e) in
     let side_is : side_of c.side_behind-side.result ≡ side_behind (is_first role) side v.0 = c.side_behind-side.ensures ∙ ap (λ (n : PortNet). side_behind (is_first role) side n.input) (c.net.view_is ∙ net_is) in
-    let few : v.1 ≤ 31 = omega (arith, declared.1.1.1, most_few role last c.loop-name.invariant.few) in
+    let few : v.1 ≤ LAST_BIT = omega (arith, declared.1.1.1, most_few role last c.loop-name.invariant.few) in
     record {
       within = omega (arith, size, c.in-Ok.ensures.within, c.loop-name.invariant.within);
       few = omega (arith, last_is, behind_few role last v.1 c.loop-name.invariant.few declared.1.1);
