@@ -24,3 +24,4 @@ pub mod NumberedLemmas
 pub mod RenameLemmas
 pub mod StandLemmas
 pub mod CheckedLemmas
+pub mod TermLemmas

@@ -8,7 +8,7 @@ use Rattle.gos_check.specs.declared.linear.Split.{Split}
 use Rattle.gos_check.specs.declared.opens.Open.{Open}
 use Rattle.gos_check.specs.Nodes.{Meaning, inside_one, inside}
 use Rattle.gos_check.specs.Linearity.{times, split_in, sides, IsOneOf}
-use Rattle.gos_check.specs.inner.Opens.{number_in, others, next_if, outside, split_of, merged_splits, merged_names, merged_next}
+use Rattle.gos_check.specs.Opens.{number_in, others, next_if, outside, split_of, merged_splits, merged_names, merged_next}
 use Rattle.gos_check.proofs.NameLemmas.{name_cases, other_false}
 use Rattle.gos_check.proofs.OpenLemmas.{others_none}
 use Rattle.gos_check.proofs.TimesLemmas.{times_same, times_other, one_other, one_left, one_right, inside_other}

@@ -17,8 +17,8 @@ use Rattle.gos_check.specs.Scopes.{Binders}
 use Rattle.gos_check.specs.inner.Walked.{names_of, types_of}
 use Rattle.gos_check.specs.Nodes.{Binding, OfFun, OfNew, OneForm, OfFst, OfSnd, OfDeref, OfNot, TwoForm, OfApp, OfBoth, OfSeq, OfPar, OfWhile, OfAssign, OfBin, Numbered, Meaning, shifted, below, inside, meaning, HasTypes, bound_type, binder_term, one_term, two_term, type_of_node}
 use Rattle.gos_check.specs.Linearity.{times, split_in, sides, used, all_sides, made, IsOneOf, Comes, itself, by_left, by_right, IsSplitBetween, SidesApart}
-use Rattle.gos_check.specs.inner.Opens.{number_in, others, merged_splits, merged_names, merged_next, binder_number, binder_next}
-use Rattle.gos_check.specs.inner.Numbering.{one_type, two_type, binder_type, Result, closed_result, use_result, binder_result, one_result, two_result, inner_splits, inner_names, inner_next, choice_result}
+use Rattle.gos_check.specs.Opens.{number_in, others, merged_splits, merged_names, merged_next, binder_number, binder_next}
+use Rattle.gos_check.specs.Numbering.{one_type, two_type, binder_type, Result, closed_result, use_result, binder_result, one_result, two_result, inner_splits, inner_names, inner_next, choice_result}
 use Rattle.gos_check.proofs.NameLemmas.{name_cases}
 use Rattle.gos_check.proofs.TimesLemmas.{times_same, times_other, times-append, split_in-append, sides-append, inside-append, inside_other}
 use Rattle.gos_check.proofs.MergeLemmas.{numbers, Differ, Gives, Fits, differ_others, number_others, number_times, taken, others_count, merged_differ, merged_upto, merged_fresh, merged_count, merged_gives, split_where}

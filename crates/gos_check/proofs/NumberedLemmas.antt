@@ -7,7 +7,8 @@ use Rattle.gos_check.specs.declared.fault.CheckFault.{CheckFault}
 use Rattle.gos_check.specs.declared.numbering.NumberedTerm.{NumberedTerm}
 use Rattle.gos_check.specs.declared.linear.Split.{Split}
 use Rattle.gos_check.specs.declared.opens.Open.{Open}
-use Rattle.gos_check.specs.inner.Numbering.{Result, Numbers, inner_splits, inner_names, choice_after, choice_result}
+use Rattle.gos_check.specs.Numbering.{Result, inner_splits, inner_names, choice_after, choice_result}
+use Rattle.gos_check.specs.inner.NumberedTerms.{Numbers}
 
 -- an answer that is seen as a result is seen as one that is the same
 pub numbers_same : (answer : prelude.Result NumberedTerm CheckFault) (found there : Result) → found ≡ there → Numbers found answer → Numbers there answer

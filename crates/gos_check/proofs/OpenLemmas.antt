@@ -3,7 +3,7 @@ use Rattle.std.specs.Prelude.{◌≡◌, ℕ, suc, ◌+◌, ◌≤◌, List, [],
 use Rattle.std.proofs.Common.{arith, refl, sym, ap, ◌∙◌}
 use Rattle.gos_model.specs.Terms.{Name}
 use Rattle.gos_check.specs.declared.opens.Open.{Open}
-use Rattle.gos_check.specs.inner.Opens.{number_in, others, next_if, outside, merged_names, merged_next, binder_next}
+use Rattle.gos_check.specs.Opens.{number_in, others, next_if, outside, merged_names, merged_next, binder_next}
 use Rattle.gos_check.proofs.NameLemmas.{name_cases}
 
 -- a name without a number is none of the names

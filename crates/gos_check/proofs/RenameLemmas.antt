@@ -10,7 +10,7 @@ use Rattle.gos_model.proofs.NumberLemmas.{number_cases}
 use Rattle.gos_check.specs.declared.linear.Split.{Split}
 use Rattle.gos_check.specs.Nodes.{Numbered, Closed, Use, Under, One, Two, If, Meaning, shifted, below, inside_one, inside, meaning, HasTypes, bound_type, binder_term, one_term, two_term}
 use Rattle.gos_check.specs.Linearity.{times, split_in, sides, used, all_sides, made, IsOneOf, Comes, itself, by_left, by_right, IsSplitBetween, SidesApart}
-use Rattle.gos_check.specs.inner.Numbering.{exchanged, renamed_split, renamed}
+use Rattle.gos_check.specs.Numbering.{exchanged, renamed_split, renamed}
 use Rattle.gos_check.proofs.TimesLemmas.{times-append}
 
 -- a function that undoes itself

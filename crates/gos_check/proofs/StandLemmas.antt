@@ -20,8 +20,8 @@ use Rattle.gos_check.specs.Scopes.{Binders, type_at}
 use Rattle.gos_check.specs.inner.Walked.{names_of, types_of}
 use Rattle.gos_check.specs.Nodes.{OfFst, OfSnd, OfDeref, OfNot, OfApp, OfBoth, OfSeq, OfPar, OfWhile, OfAssign, OfBin, Numbered, Meaning, meaning, HasTypes}
 use Rattle.gos_check.specs.Linearity.{times, used, all_sides, made, SidesApart, import_at, StandsFor}
-use Rattle.gos_check.specs.inner.Opens.{number_in, others, next_if, outside, merged_names}
-use Rattle.gos_check.specs.inner.Numbering.{Result, numbered, exchanged, raised, import_number, with_place, placed, inner_names, inner_next}
+use Rattle.gos_check.specs.Opens.{number_in, others, next_if, outside, merged_names}
+use Rattle.gos_check.specs.Numbering.{Result, numbered, exchanged, raised, import_number, with_place, placed, typed_term, inner_names, inner_next}
 use Rattle.gos_check.proofs.NameLemmas.{name_cases, other_false}
 use Rattle.gos_check.proofs.TimesLemmas.{times_same}
 use Rattle.gos_check.proofs.MergeLemmas.{numbers, Lacks, Differ, Gives, lacks_none, lacks_others, number_others, number_times}
@@ -321,9 +321,7 @@ pulled_gives is (o ∷ os) d once far all x k h =
 
 -- the term that is numbered and placed stands for the program
 pub stands : (m : SeenModule) (t : Type') → Typed (program_of m).imports [] (program_of m).body t
-    → StandsFor (program_of m)
-    (placed m.imports (numbered (map import_of m.imports) [] (length m.imports) (tree_of m.body.form m.body.span)).names
-    (numbered (map import_of m.imports) [] (length m.imports) (tree_of m.body.form m.body.span)).node)
+    → StandsFor (program_of m) (typed_term m)
 stands m t typed =
     record {
       body = placed_meaning m.imports r.names r.node (import_at i) ∙ good.term (pulled m.imports r.names (import_at i)) gives;

@@ -10,6 +10,10 @@ pub mod Judgements
 pub mod Accepted
 pub mod Nodes
 pub mod Linearity
+pub mod Opens
+pub mod Numbering
+pub mod OneTerm
+pub mod SmallTerms
 pub mod Checked
 pub mod Copies
 pub mod inner

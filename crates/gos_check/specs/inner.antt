@@ -4,5 +4,4 @@ pub mod Seen
 pub mod Rules
 pub mod Known
 pub mod Walked
-pub mod Opens
-pub mod Numbering
+pub mod NumberedTerms

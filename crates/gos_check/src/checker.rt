@@ -9,6 +9,7 @@ ghost use Rattle.gos_check.specs.Faults.{Refuses};
 ghost use Rattle.gos_check.specs.Judgements.{light, module_judged};
 ghost use Rattle.gos_check.specs.Accepted.{IsAccepted, IsRefused, weighed};
 ghost use Rattle.gos_check.specs.Linearity.{StandsFor};
+ghost use Rattle.gos_check.specs.Numbering.{typed_term};
 ghost use Rattle.gos_check.specs.Checked.{program_in};
 ghost use Rattle.gos_check.specs.Nodes.{node_seen};
 ghost use Rattle.gos_check.specs.Copies.{plain_import};
@@ -47,6 +48,7 @@ pub fn check(alloc: Global, program: &Module) -> Result<Linear, CheckFault>
     ensures imports { IfOk result (λ linear. map plain_import linear.imports ≡ map plain_import program.now.imports) }
     ensures outcome { IfOk result (λ linear. type_of linear.result ≡ type_of program.now.result) }
     ensures term { IfOk result (λ linear. StandsFor (program_of program.now) (node_seen linear.term)) }
+    ensures one { IfOk result (λ linear. node_seen linear.term ≡ typed_term program.now) }
 
     // Each fault exactly where it is the first one.
     ensures none { IfOk result (λ linear. module_judged program.now ≡ Ok linear.weight) }

@@ -53,12 +53,12 @@ pub enum CheckFault {
         first: Span,
         second: Span,
     },
-    /// A width that isn't 1 to 32, with value 0; or a literal whose value doesn't fit into its width.
+    /// A number that is no width, with value 0; or a literal whose value doesn't fit into its width.
     #[error("width {width} and value {value} at {span:?}")]
     Width {
         span: Span,
         width: u32,
-        value: u32,
+        value: u64,
     },
     /// The written type, or the type of the term, at `span` has more than 64 handshakes: so many.
     #[error("{handshakes} handshakes at {span:?}")]

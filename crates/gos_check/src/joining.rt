@@ -3,7 +3,8 @@
 ghost use Rattle.std.specs.Prelude.{◌≡◌, ◌+◌, ◌^◌, ◌<◌, ◌≤◌, length, IfOk, IfErr};
 ghost use Rattle.gos_types.specs.Types.{type_of, Var};
 ghost use Rattle.gos_check.specs.Nodes.{OfFun, OfNew, If, one_form, two_form, node_seen, type_of_node};
-ghost use Rattle.gos_check.specs.inner.Numbering.{seen, binder_result, one_result, two_result, choice_after, Numbers};
+ghost use Rattle.gos_check.specs.Numbering.{binder_result, one_result, two_result, choice_after};
+ghost use Rattle.gos_check.specs.inner.NumberedTerms.{seen, Numbers};
 
 use crate::fault::CheckFault;
 use crate::forms::{OnePart, TwoParts, function_type};

@@ -60,7 +60,7 @@ pub(crate) fn closed(alloc: Global, ty: Ty) -> Judged
 pub(crate) fn typed_literal(
     alloc: Global,
     span: Span,
-    value: u32,
+    value: u64,
     width: u32,
 ) -> Result<Judged, CheckFault>
     ensures found { Finds (literal span value width) result }

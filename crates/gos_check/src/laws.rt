@@ -5,6 +5,8 @@ ghost use Rattle.gos_lex.specs.Tokens.{Reads};
 ghost use Rattle.gos_syntax.specs.ParsedModules.{IsParsed};
 ghost use Rattle.gos_check.specs.Sizes.{IsCountableModule};
 ghost use Rattle.gos_check.specs.Accepted.{FoundExactly};
+ghost use Rattle.gos_check.specs.OneTerm.{TermIsOne};
+ghost use Rattle.gos_check.specs.SmallTerms.{TwiceIsSplit, TurnedIsNotTyped, SameIsNumbered, NextIsNotTyped};
 
 use gos_lex::Token;
 use gos_model::types_of_terms;
@@ -23,4 +25,17 @@ pub fn parsed_is_countable(text: &[u8], tokens: &[Token], program: &Module)
     requires scanned { Reads text.now 0 tokens.now None }
     requires parsed { IsParsed text.now tokens.now program.now }
     ensures { IsCountableModule program.now }
+{}
+
+/// Modules that are one but for their boxes have one typed term.
+pub fn one_term()
+    ensures { TermIsOne }
+{}
+
+/// The typed terms of `c ; c` with an import and of `fun a : com . a`, and that no other numbers stand in these.
+pub fn small_terms()
+    ensures twice { TwiceIsSplit }
+    ensures turned { TurnedIsNotTyped }
+    ensures same { SameIsNumbered }
+    ensures next { NextIsNotTyped }
 {}

@@ -7,7 +7,7 @@ ghost use Rattle.gos_types.specs.Types.{type_of, Pair};
 ghost use Rattle.gos_model.specs.Weight.{after_fun, left_of, right_of, read_of, op_type};
 ghost use Rattle.gos_model.specs.Sources.{op_of};
 ghost use Rattle.gos_check.specs.Nodes.{One, Two, one_form, two_form, node_seen, type_of_node};
-ghost use Rattle.gos_check.specs.inner.Numbering.{one_type, two_type};
+ghost use Rattle.gos_check.specs.Numbering.{one_type, two_type};
 
 use crate::demands::result_width;
 use crate::fault::CheckFault;

@@ -13,7 +13,7 @@ ghost use Rattle.gos_check.specs.Scopes.{type_at};
 ghost use Rattle.gos_check.specs.inner.Seen.{binders_of};
 ghost use Rattle.gos_check.specs.inner.Walked.{tree, parts_size};
 ghost use Rattle.gos_check.specs.Nodes.{OfFun, OfNew, one_form, two_form, numbered_of, node_seen};
-ghost use Rattle.gos_check.specs.inner.Numbering.{
+ghost use Rattle.gos_check.specs.Numbering.{
   use_result,
   binder_result,
   one_result,
@@ -21,10 +21,11 @@ ghost use Rattle.gos_check.specs.inner.Numbering.{
   choice_result,
   inner_next,
   numbered,
-  Numbers,
   import_number,
   placed,
+  typed_term,
 };
+ghost use Rattle.gos_check.specs.inner.NumberedTerms.{Numbers};
 
 use crate::fault::CheckFault;
 use crate::forms::{OnePart, TwoParts};
@@ -49,9 +50,7 @@ pub(crate) struct NumberedTerm {
 // The typed term of a module's body.
 pub(crate) fn number_module(alloc: Global, program: &Module) -> Result<Node, CheckFault>
     requires { length program.now.imports + 2 * size (tree program.now.body) < 2 ^ 32 }
-    ensures ok { IfOk result (λ node. node_seen node ≡ placed program.now.imports
-        (numbered (map import_of program.now.imports) [] (length program.now.imports) (tree program.now.body)).names
-        (numbered (map import_of program.now.imports) [] (length program.now.imports) (tree program.now.body)).node) }
+    ensures ok { IfOk result (λ node. node_seen node ≡ typed_term program.now) }
     ensures err { IfErr result (λ e. e ≡ CheckFault.NoMemory) }
 {
     let imports = program.imports.as_slice();
@@ -107,7 +106,7 @@ fn number(
             next,
             Ty::Exp(*width),
             NodeForm::Lit {
-                value: u64::from(*value),
+                value: *value,
                 width: *width,
             },
         ),

@@ -1,7 +1,7 @@
 // The free names of a term, with the numbers that they have there.
 
 ghost use Rattle.std.specs.Prelude.{◌≡◌, ◌+◌, ◌++◌, ◌∷◌, [], ◌^◌, ◌<◌, ◌≤◌, length, IfOk, IfErr};
-ghost use Rattle.gos_check.specs.inner.Opens.{
+ghost use Rattle.gos_check.specs.Opens.{
   number_in,
   others,
   next_if,

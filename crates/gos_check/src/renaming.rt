@@ -2,7 +2,7 @@
 
 ghost use Rattle.std.specs.Prelude.{◌≡◌, map};
 ghost use Rattle.gos_check.specs.Nodes.{node_seen};
-ghost use Rattle.gos_check.specs.inner.Numbering.{exchanged, renamed_split, renamed};
+ghost use Rattle.gos_check.specs.Numbering.{exchanged, renamed_split, renamed};
 
 use crate::linear::{Node, NodeForm, Split};
 

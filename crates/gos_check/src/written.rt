@@ -93,12 +93,12 @@ pub(crate) fn written_width(span: Span, width: u32) -> Result<(), CheckFault>
 }
 
 // The type of a literal.
-pub(crate) fn literal(span: Span, value: u32, width: u32) -> Result<Ty, CheckFault>
+pub(crate) fn literal(span: Span, value: u64, width: u32) -> Result<Ty, CheckFault>
     ensures ok { IfOk result (λ ty. literal span value width ≡ Ok (type_of ty)) }
     ensures err { IfErr result (λ e. Refuses (literal span value width) e) }
 {
     written_width(span, width)?;
-    if fits(u64::from(value), width) {
+    if fits(value, width) {
         Ok(Ty::Exp(width))
     } else {
         Err(CheckFault::Width { span, width, value })

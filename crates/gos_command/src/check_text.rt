@@ -104,13 +104,13 @@ fn twice_text(
     Ok(text)
 }
 
-fn width_text(alloc: Global, span: Span, width: u32, value: u32) -> Result<Vec<u8>, NoMemory>
+fn width_text(alloc: Global, span: Span, width: u32, value: u64) -> Result<Vec<u8>, NoMemory>
     ensures { IfOk result (λ text. text.items ≡ codes "C6 at " ++ span_text span ++ counted (codes " width ") width ++ counted (codes " value ") value) }
 {
     let mut text = b"C6 at ".to_vec(alloc)?;
     add_span(alloc, &mut text, span)?;
     add_count(alloc, &mut text, b" width ", u64::from(width))?;
-    add_count(alloc, &mut text, b" value ", u64::from(value))?;
+    add_count(alloc, &mut text, b" value ", value)?;
     Ok(text)
 }
 

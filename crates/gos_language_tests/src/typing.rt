@@ -17,7 +17,7 @@ enum Told<'a> {
     NotFunction(Span),
     NotPair(Span),
     Shared(&'a [u8], Span, Span),
-    Width(Span, u32, u32),
+    Width(Span, u32, u64),
     TypeTooLarge(Span, u64),
     Repeated(&'a [u8], Span, Span),
     TooHeavy(u64),

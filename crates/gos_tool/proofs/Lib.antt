@@ -2,3 +2,4 @@ pub mod lemmas
 mod WordLemmas
 mod EndLemmas
 mod CompleteLemmas
+mod RepeatedLemmas

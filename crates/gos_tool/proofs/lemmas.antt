@@ -1,5 +1,6 @@
 -- The lemmas of each folder of src. In reading order.
 pub mod StopLemmas
+pub mod AgreeLemmas
 pub mod objects
 pub mod circuits
 pub mod netlists

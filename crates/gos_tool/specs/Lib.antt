@@ -1,5 +1,7 @@
 -- In reading order: a file or chapter uses only those above it.
 pub mod Calls
+pub mod Agreement
+pub mod SmallAgreement
 pub mod Causes
 pub mod objects
 pub mod circuits
@@ -11,4 +13,5 @@ pub mod Command
 pub mod Run
 pub mod SmallCauses
 pub mod Complete
+pub mod Repeated
 pub mod inner

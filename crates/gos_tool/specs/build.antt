@@ -5,5 +5,6 @@ pub mod SmallPrograms
 pub mod Headline
 pub mod Built
 pub mod Complete
+pub mod Repeated
 pub mod Paced
 pub mod inner

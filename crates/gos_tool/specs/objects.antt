@@ -3,3 +3,4 @@ pub mod Checked
 pub mod Complete
 pub mod Typed
 pub mod Compiled
+pub mod Repeated

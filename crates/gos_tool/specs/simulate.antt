@@ -2,3 +2,4 @@
 pub mod Simulation
 pub mod Sim
 pub mod Complete
+pub mod Repeated

@@ -7,7 +7,7 @@
 // specs/build/Paced.
 
 pub use building::build;
-pub use laws::{headlines, paced_modules, right_builds, small_programs};
+pub use laws::{headlines, one_circuit, paced_modules, right_builds, small_programs};
 
 mod building;
 mod compiling;

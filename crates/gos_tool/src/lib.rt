@@ -34,7 +34,7 @@ pub use gos_command::{Cause, Fault, Status};
 use gos_command::{finish, say};
 pub use gos_link::FileName;
 use gos_outside::{Sink, Store};
-pub use laws::{right_commands, small_causes};
+pub use laws::{right_commands, same_files, small_agreement, small_causes};
 use std::alloc::Global;
 
 /// Does what the words of a command say, with the files of a store, and prints one line to a sink.

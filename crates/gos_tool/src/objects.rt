@@ -7,7 +7,7 @@
 
 pub use checking::{check_source, module_in};
 pub use compiling::{compile_source, write_plan};
-pub use laws::accepted_sources;
+pub use laws::{accepted_sources, one_object};
 
 mod checking;
 mod compiling;

@@ -4,7 +4,7 @@
 // first. What they leave, when they reject a file and which calls they make is said in specs/simulate/Simulation and
 // specs/simulate/Sim.
 
-pub use laws::{right_pulses, right_runs};
+pub use laws::{one_trace, right_pulses, right_runs};
 pub use sim_command::sim;
 pub use simulation::simulate;
 

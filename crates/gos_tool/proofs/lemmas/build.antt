@@ -7,4 +7,5 @@ pub mod RoleLemmas
 pub mod HeadlineLemmas
 pub mod PulseLemmas
 pub mod CompleteLemmas
+pub mod RepeatedLemmas
 pub mod BuildLemmas

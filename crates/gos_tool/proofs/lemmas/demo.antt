@@ -21,4 +21,5 @@ pub mod PulseTextLemmas
 pub mod PulseLemmas
 pub mod RightLemmas
 pub mod EndLemmas
+pub mod RepeatedLemmas
 pub mod CallLemmas

@@ -1,3 +1,4 @@
 pub mod SimulationLemmas
 pub mod SimLemmas
 pub mod CompleteLemmas
+pub mod RepeatedLemmas

@@ -1,7 +1,7 @@
 -- The command `compile SRC OBJ`.
 --
--- Read first: Checked; Wiring of gos_compile (the plan of a module); Modules and Slim of gos_realises (what it is to realise a
--- module); ObjectText and ObjectFaults of gos_plan (its text, and which texts are read).
+-- Read first: Checked; Numbering of gos_check (the typed term of a module); Wiring of gos_compile (the plan of a module); Modules
+-- and Slim of gos_realises (what it is to realise a module); ObjectText and ObjectFaults of gos_plan (its text, and which texts are read).
 use Rattle.std.specs.Prelude.{◌≡◌, ◌⊎◌, ℕ, List, Option, Some, IfSome}
 use Rattle.gos_outside.specs.Files.{Files, bytes_at, with_file, SameBut}
 use Rattle.gos_outside.specs.Faults.{LastFault, ReadFault, WriteFault}
@@ -10,8 +10,8 @@ use Rattle.gos_types.specs.Types.{type_of}
 use Rattle.gos_syntax.specs.Modules.{SeenModule}
 use Rattle.gos_model.specs.Sources.{program_of}
 use Rattle.gos_check.specs.Accepted.{weighed}
-use Rattle.gos_check.specs.Nodes.{Numbered}
 use Rattle.gos_check.specs.Linearity.{StandsFor}
+use Rattle.gos_check.specs.Numbering.{typed_term}
 use Rattle.gos_plan.specs.Plans.{Plan}
 use Rattle.gos_plan.specs.ObjectText.{text_of}
 use Rattle.gos_plan.specs.ObjectFaults.{IsRead}
@@ -22,12 +22,11 @@ use Rattle.gos_command.specs.declared.report.Report.{Report}
 use Rattle.gos_command.specs.declared.report.Report.TheVariants as reports
 use Rattle.gos_tool.specs.objects.Checked.{SaysModule}
 
--- The plan of a module: its parts and joints are those of a typed term that stands for the module. The plan is slim and realises
--- the module's program, and its text is read as it.
+-- The plan of a module: its parts and joints are those of the module's typed term, which stands for it. The plan is slim and
+-- realises the module's program, and its text is read as it.
 pub record IsPlanOfModule (m : SeenModule) (plan : Plan) : Type 0 where
-  pub term : Numbered
-  pub stands : StandsFor (program_of m) term
-  pub made : IsPlanOf (program_of m).imports (type_of m.result) (weighed m) term plan
+  pub stands : StandsFor (program_of m) (typed_term m)
+  pub made : IsPlanOf (program_of m).imports (type_of m.result) (weighed m) (typed_term m) plan
   pub slim : IsSlim plan
   pub read : IsRead (text_of plan) plan
   pub realises : RealisesModule plan (program_of m).body

@@ -1,12 +1,14 @@
--- Which sources are not rejected; and that a source says one program. Laws of these definitions, for all texts.
+-- Which sources are not rejected; and that a source says one program, and has one typed term. Laws of these definitions, for all
+-- texts.
 --
--- Read first: Checked.
+-- Read first: Checked; Numbering of gos_check.
 use Rattle.std.specs.Prelude.{◌≡◌, ℕ, List}
 use Rattle.gos_outside.specs.Files.{Files, bytes_at}
 use Rattle.gos_lex.specs.Lines.{Word}
 use Rattle.gos_types.specs.Types.{type_of}
 use Rattle.gos_syntax.specs.Modules.{SeenModule}
 use Rattle.gos_model.specs.Sources.{program_of}
+use Rattle.gos_check.specs.Numbering.{typed_term}
 use Rattle.gos_command.specs.declared.status.Fault.{Fault}
 use Rattle.gos_tool.specs.objects.Checked.{SaysModule, IsSourceFault}
 
@@ -21,3 +23,7 @@ abbrev pub SaysOneProgram : Type 0
 SaysOneProgram =
     (text : List ℕ) (m other : SeenModule) → SaysModule text m → SaysModule text other
     → (program_of m ≡ program_of other) × (type_of m.result ≡ type_of other.result)
+
+-- and they have one typed term
+abbrev pub SaysOneTerm : Type 0
+SaysOneTerm = (text : List ℕ) (m other : SeenModule) → SaysModule text m → SaysModule text other → typed_term m ≡ typed_term other

@@ -10,6 +10,7 @@ use Rattle.gos_check.specs.Accepted.{weighed}
 use Rattle.gos_check.specs.Checked.{SeenLinear, program_in}
 use Rattle.gos_check.specs.Nodes.{node_seen}
 use Rattle.gos_check.specs.Linearity.{StandsFor}
+use Rattle.gos_check.specs.Numbering.{typed_term}
 use Rattle.gos_plan.specs.Plans.{Plan}
 use Rattle.gos_plan.specs.ObjectText.{text_of}
 use Rattle.gos_plan.specs.ObjectFaults.{IsRead}
@@ -18,7 +19,7 @@ use Rattle.gos_realises.specs.realises.Slim.{IsSlim}
 use Rattle.gos_compile.specs.Wiring.{IsPlanOf}
 use Rattle.gos_tool.specs.objects.Checked.{SaysModule}
 
--- the text is that of a module that is accepted, and for which this checked module stands
+-- the text is that of a module that is accepted, for which this checked module stands, and its term is the module's
 pub record IsTypedAs (text : List ℕ) (linear : SeenLinear) : Type 0 where
   pub made : SeenModule
   pub says : SaysModule text made
@@ -26,6 +27,7 @@ pub record IsTypedAs (text : List ℕ) (linear : SeenLinear) : Type 0 where
   pub outcome : type_of linear.result ≡ type_of made.result
   pub weight : linear.weight ≡ weighed made
   pub term : StandsFor (program_of made) (node_seen linear.term)
+  pub one : node_seen linear.term ≡ typed_term made
 
 -- The plan of this checked module. It is slim and realises the module's program, and where the module has at most 64 imports, its
 -- text is read as it.

@@ -42,7 +42,7 @@ pub fn small_circuits()
     ensures function { FunctionHasNone }
 {}
 
-/// A plan has one circuit. Where `link` is done twice with the same files, it leaves the same files and tells the same.
+/// A plan has one circuit. Where `link` is done twice with the same build file and objects, it writes the same and tells the same.
 pub fn one_link()
     ensures circuit { CircuitIsOne }
     ensures link { LinkMakesOne }

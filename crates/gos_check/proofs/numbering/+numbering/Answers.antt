@@ -6,7 +6,8 @@ use Rattle.gos_syntax.specs.Sizes.{size}
 use Rattle.gos_check.specs.Nodes.{OfFun, OfNew, one_form, two_form}
 use Rattle.gos_check.specs.inner.Seen.{binders_of}
 use Rattle.gos_check.specs.inner.Walked.{tree}
-use Rattle.gos_check.specs.inner.Numbering.{seen, binder_result, one_result, two_result, choice_result, inner_next, numbered}
+use Rattle.gos_check.specs.Numbering.{binder_result, one_result, two_result, choice_result, inner_next, numbered}
+use Rattle.gos_check.specs.inner.NumberedTerms.{seen}
 use Rattle.gos_check.proofs.PartLemmas.{size_parts}
 use Rattle.gos_check.proofs.NumberedLemmas.{numbers_same, choice_merged, room_there}
 use Rattle.gos_check.proofs.numbering.+numbering.Goals as goal

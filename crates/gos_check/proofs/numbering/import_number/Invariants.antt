@@ -1,5 +1,5 @@
 use Rattle.std.proofs.Common.{◌≡◌, drop}
-use Rattle.gos_check.specs.inner.Numbering.{import_number, raised}
+use Rattle.gos_check.specs.Numbering.{import_number, raised}
 use Rattle.gos_check.proofs.numbering.import_number.Given as goal
 
 -- the name isn't among those before

@@ -1,6 +1,6 @@
 use Rattle.std.proofs.Common.{◌≡◌, drop}
 use Rattle.gos_check.specs.Nodes.{node_seen}
-use Rattle.gos_check.specs.inner.Numbering.{placed}
+use Rattle.gos_check.specs.Numbering.{placed}
 use Rattle.gos_check.proofs.numbering.place.Given as goal
 
 -- what is placed so far, and then what is left

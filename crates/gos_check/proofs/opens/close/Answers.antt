@@ -1,5 +1,5 @@
 use Rattle.std.proofs.Common.{rules, ◌≡◌}
-use Rattle.gos_check.specs.inner.Opens.{number_in, others, binder_next}
+use Rattle.gos_check.specs.Opens.{number_in, others, binder_next}
 use Rattle.gos_check.proofs.OpenLemmas.{binder_room}
 use Rattle.gos_check.proofs.opens.close.Goals as goal
 

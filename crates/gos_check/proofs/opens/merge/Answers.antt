@@ -1,6 +1,6 @@
 use Rattle.std.proofs.Common.{arith, ◌≡◌}
 use Rattle.std.proofs.lemmas.Grind.{common_steps}
-use Rattle.gos_check.specs.inner.Opens.{merged_names, merged_next}
+use Rattle.gos_check.specs.Opens.{merged_names, merged_next}
 use Rattle.gos_check.proofs.OpenLemmas.{merged_room}
 use Rattle.gos_check.proofs.opens.merge.Goals as goal
 

@@ -1,5 +1,5 @@
 use Rattle.std.proofs.Common.{◌≡◌, ◌+◌, ◌++◌, ◌≤◌, length}
-use Rattle.gos_check.specs.inner.Opens.{merged_splits, merged_names, merged_next}
+use Rattle.gos_check.specs.Opens.{merged_splits, merged_names, merged_next}
 use Rattle.gos_check.proofs.opens.merge.Given as goal
 
 -- what is merged so far, and then what is left

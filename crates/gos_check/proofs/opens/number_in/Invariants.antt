@@ -1,5 +1,5 @@
 use Rattle.std.proofs.Common.{◌≡◌, drop}
-use Rattle.gos_check.specs.inner.Opens.{number_in}
+use Rattle.gos_check.specs.Opens.{number_in}
 use Rattle.gos_check.proofs.opens.number_in.Given as goal
 
 -- the name isn't among those before

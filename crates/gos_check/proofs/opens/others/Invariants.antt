@@ -1,5 +1,5 @@
 use Rattle.std.proofs.Common.{◌≡◌, ◌++◌}
-use Rattle.gos_check.specs.inner.Opens.{others}
+use Rattle.gos_check.specs.Opens.{others}
 use Rattle.gos_check.proofs.opens.others.Given as goal
 
 -- the names kept so far, and those that are kept of what is left

@@ -2,7 +2,7 @@ use Rattle.std.proofs.Common.{◌<◌, length, arith, get_or}
 use Rattle.std.proofs.lemmas.List.{get_or_default}
 use Rattle.std.proofs.lemmas.List.Edits.{map_over_more}
 use Rattle.gos_check.specs.declared.linear.Split.{Split}
-use Rattle.gos_check.specs.inner.Numbering.{exchanged, renamed_split}
+use Rattle.gos_check.specs.Numbering.{exchanged, renamed_split}
 use Rattle.gos_check.proofs.renaming.exchange_splits.Goals as goal
 
 pub loop-split-preserved : goal.loop-split-preserved

@@ -1,5 +1,5 @@
 use Rattle.std.specs.Prelude.{◌≡◌, ◌++◌, map, take, drop}
-use Rattle.gos_check.specs.inner.Numbering.{exchanged, renamed_split}
+use Rattle.gos_check.specs.Numbering.{exchanged, renamed_split}
 use Rattle.gos_check.proofs.renaming.exchange_splits.Given as goal
 
 -- the splits before the index are renamed, and the others are as they were

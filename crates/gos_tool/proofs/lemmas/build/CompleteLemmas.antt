@@ -13,7 +13,7 @@ use Rattle.gos_link.specs.declared.build.Build.{Build}
 use Rattle.gos_link.specs.declared.build.Instance.{Instance}
 use Rattle.gos_command.specs.declared.status.Fault.{Fault}
 use Rattle.gos_tool.specs.objects.Checked.{SaysModule}
-use Rattle.gos_tool.specs.objects.Complete.{AcceptedIsNotRejected, SaysOneProgram}
+use Rattle.gos_tool.specs.objects.Complete.{AcceptedIsNotRejected, SaysOneProgram, SaysOneTerm}
 use Rattle.gos_tool.proofs.lemmas.objects.CompiledLemmas.{plan_too}
 use Rattle.gos_tool.specs.circuits.Circuit.{IsCircuitOf}
 use Rattle.gos_tool.specs.circuits.Linked.{SaysBuild}
@@ -40,24 +40,24 @@ says_at files (j ∷ is) (m ∷ ms) zero i say at = (m, subst (λ (x : Instance)
 says_at files (j ∷ is) (m ∷ ms) (suc k) i say at = says_at files is ms k i say.1 at
 
 -- plans of modules that the sources say are plans of all that they say
-plans_too : SaysOneProgram → (files : Files) (is : List Instance) (ms others : List SeenModule) (ps : List SeenPlan) → SayModules files is ms
+plans_too : SaysOneProgram → SaysOneTerm → (files : Files) (is : List Instance) (ms others : List SeenModule) (ps : List SeenPlan) → SayModules files is ms
     → SayModules files is others → HavePlans others ps → HavePlans ms ps
-plans_too one files [] [] [] [] say also have = tt
-plans_too one files [] [] [] (p ∷ ps) say also have = have
-plans_too one files [] [] (o ∷ os) ps say also have = absurd also
-plans_too one files [] (m ∷ ms) others ps say also have = absurd say
-plans_too one files (i ∷ is) [] others ps say also have = absurd say
-plans_too one files (i ∷ is) (m ∷ ms) [] ps say also have = absurd also
-plans_too one files (i ∷ is) (m ∷ ms) (o ∷ os) [] say also have = absurd have
-plans_too one files (i ∷ is) (m ∷ ms) (o ∷ os) (p ∷ ps) say also have =
+plans_too one term files [] [] [] [] say also have = tt
+plans_too one term files [] [] [] (p ∷ ps) say also have = have
+plans_too one term files [] [] (o ∷ os) ps say also have = absurd also
+plans_too one term files [] (m ∷ ms) others ps say also have = absurd say
+plans_too one term files (i ∷ is) [] others ps say also have = absurd say
+plans_too one term files (i ∷ is) (m ∷ ms) [] ps say also have = absurd also
+plans_too one term files (i ∷ is) (m ∷ ms) (o ∷ os) [] say also have = absurd have
+plans_too one term files (i ∷ is) (m ∷ ms) (o ∷ os) (p ∷ ps) say also have =
     let same = one (bytes_at files i.source) o m also.0 say.0 in
-    (plan_too o m (plan_of p) same.0 same.1 have.0, plans_too one files is ms os ps say.1 also.1 have.1)
+    (plan_too o m (plan_of p) same.0 same.1 (term (bytes_at files i.source) o m also.0 say.0) have.0, plans_too one term files is ms os ps say.1 also.1 have.1)
 
-module _ (one_program : SaysOneProgram) (files : Files) (new : Option Files) (own : Word) (right : AreRightToBuild files new own) (b : Build) (says : SaysBuild files own b)
+module _ (one_program : SaysOneProgram) (one_term : SaysOneTerm) (files : Files) (new : Option Files) (own : Word) (right : AreRightToBuild files new own) (b : Build) (says : SaysBuild files own b)
     (same : whole b ≡ whole right.build) (plans : List SeenPlan) (objects : Option Files) (written : AllWritten files objects b.instances.items plans) where
   plans_made : HavePlans right.modules plans
   plans_made =
-      plans_too one_program files right.build.instances.items right.modules written.modules plans right.sources
+      plans_too one_program one_term files right.build.instances.items right.modules written.modules plans right.sources
       (subst (λ (is : List Instance). SayModules files is written.modules) (instances_same b right.build same)
       (say_modules files b.instances.items written.modules written.written.say written.all))
       written.written.plans
@@ -84,10 +84,11 @@ module _ (one_program : SaysOneProgram) (files : Files) (new : Option Files) (ow
       (subst (MayRunUnder wrong.net) text (right.runs wrong.net net held))
       (subst (λ (told : Option Files). IfSome told (λ all. IsPulseFault all wrong.net b.pulses fault line)) stands.is wrong.why)
 
-pub build_is_not_rejected : IsOneBuild → BuildHasNoWrongLine → AcceptedIsNotRejected → SaysOneProgram → PulsesAreNotRejected → BuildIsNotRejected
-build_is_not_rejected one_build not_wrong accepted one_program not_rejected files new own fault line right (inl (wrong, kept)) =
+pub build_is_not_rejected : IsOneBuild → BuildHasNoWrongLine → AcceptedIsNotRejected → SaysOneProgram → SaysOneTerm → PulsesAreNotRejected
+    → BuildIsNotRejected
+build_is_not_rejected one_build not_wrong accepted one_program one_term not_rejected files new own fault line right (inl (wrong, kept)) =
     no_form_cause not_wrong (bytes_at files own) own right.build right.says fault.cause wrong.cause
-build_is_not_rejected one_build not_wrong accepted one_program not_rejected files new own fault line right (inr (b, says, wrong)) =
+build_is_not_rejected one_build not_wrong accepted one_program one_term not_rejected files new own fault line right (inr (b, says, wrong)) =
     by (one_build (bytes_at files own) own b right.build says right.says) wrong
   where
     by : whole b ≡ whole right.build → RejectsInstances files new own b fault line → ⊥
@@ -97,11 +98,11 @@ build_is_not_rejected one_build not_wrong accepted one_program not_rejected file
         accepted files source.instance.source there.0 fault line there.1 source.why
     by same (inr (plans, objects, written, inl (unlinked, kept))) =
         no_plans_cause b plans
-        (λ why here. right.links plans why (plans_made one_program files new own right b says same plans objects written)
+        (λ why here. right.links plans why (plans_made one_program one_term files new own right b says same plans objects written)
         (unlinked_too b right.build same plans why here))
         fault.cause unlinked.cause
     by same (inr (plans, objects, written, inr pulses)) =
-        pulses_right one_program files new own right b says same plans objects written not_rejected fault line pulses
+        pulses_right one_program one_term files new own right b says same plans objects written not_rejected fault line pulses
 
 pub empty_is_not_right : EmptyIsNoBuild → EmptyIsNotRight
 empty_is_not_right no_build files new own e right = no_build files own right.build e right.says

@@ -30,7 +30,7 @@ abbrev IsBetween : ℕ → Option Files → Option Files → Type 0
 IsBetween levels old mid = mid ≡ with_files (demo_files levels) old
 
 -- the build file that the build reads is that of the demo
-own_text : (levels : ℕ) (files : Files) → bytes_at (with_demo levels files) (build_file levels).name ≡ (build_file levels).text
+pub own_text : (levels : ℕ) (files : Files) → bytes_at (with_demo levels files) (build_file levels).name ≡ (build_file levels).text
 own_text levels files = ap (λ (o : Option (List ℕ)). unwrap_or o []) (put _ (build_file levels).name (build_file levels).text)
 
 -- so what it writes is known

@@ -27,12 +27,12 @@ use Rattle.gos_tool.proofs.lemmas.demo.PulseTextLemmas.{HasPorts}
 use Rattle.gos_tool.proofs.lemmas.demo.PulseLemmas.{may_run}
 
 -- what a file holds
-held_at : (files : Files) (name text : List ℕ) → Holds (Some files) (record { name = name; text = text }) → bytes_at files name ≡ text
+pub held_at : (files : Files) (name text : List ℕ) → Holds (Some files) (record { name = name; text = text }) → bytes_at files name ≡ text
 held_at files name text holds =
     let same : files ≡ holds.all = cc (holds.told) in
     ap (λ (fs : Files). unwrap_or (get fs name) []) same ∙ ap (λ (o : Option (List ℕ)). unwrap_or o []) holds.text
 
-hold_sources : (levels : ℕ) (files : Files) → HoldsEach (Some files) (demo_files levels) → HoldSources files
+pub hold_sources : (levels : ℕ) (files : Files) → HoldsEach (Some files) (demo_files levels) → HoldSources files
 hold_sources levels files hold AMain = held_at files _ _ hold.0
 hold_sources levels files hold ATwice = held_at files _ _ hold.1.0
 hold_sources levels files hold APass = held_at files _ _ hold.1.1.0

@@ -11,8 +11,9 @@ use Rattle.gos_model.specs.Sources.{import_of, program_of}
 use Rattle.gos_model.specs.Weight.{weight}
 use Rattle.gos_check.specs.Accepted.{weighed}
 use Rattle.gos_check.specs.Linearity.{StandsFor}
+use Rattle.gos_check.specs.Numbering.{typed_term}
 use Rattle.gos_check.specs.Checked.{SeenLinear, IsChecked, program_in}
-use Rattle.gos_check.specs.Nodes.{node_seen}
+use Rattle.gos_check.specs.Nodes.{Numbered, node_seen}
 use Rattle.gos_plan.specs.Plans.{Plan}
 use Rattle.gos_plan.specs.Seen.{SeenPlan, plan_of}
 use Rattle.gos_plan.specs.ObjectText.{text_of}
@@ -59,24 +60,24 @@ plan_is source linear typed plan is =
     let term = node_seen linear.term in
     let of_program = subst (λ (p : Program). IsPlanOf p.imports (type_of linear.result) linear.weight term plan) typed.program is.made in
     let of_type = subst (λ (t : Type'). IsPlanOf (program_of m).imports t linear.weight term plan) typed.outcome of_program in
+    let of_weight = subst (λ (w : ℕ). IsPlanOf (program_of m).imports (type_of m.result) w term plan) typed.weight of_type in
     record {
-      term = term;
-      stands = typed.term;
-      made = subst (λ (w : ℕ). IsPlanOf (program_of m).imports (type_of m.result) w term plan) typed.weight of_type;
+      stands = subst (λ (n : Numbered). StandsFor (program_of m) n) typed.one typed.term;
+      made = subst (λ (n : Numbered). IsPlanOf (program_of m).imports (type_of m.result) (weighed m) n plan) typed.one of_weight;
       slim = is.slim;
       read = is.read_back (few source linear typed);
       realises = subst (λ (p : Program). RealisesModule plan p.body) typed.program is.realises;
     }
 
--- a plan of a module is one of each module with the same program and result
-pub plan_too : (m other : SeenModule) (plan : Plan) → program_of m ≡ program_of other → type_of m.result ≡ type_of other.result → IsPlanOfModule m plan
-    → IsPlanOfModule other plan
-plan_too m other plan program result is =
+-- a plan of a module is one of each module with the same program, result and typed term
+pub plan_too : (m other : SeenModule) (plan : Plan) → program_of m ≡ program_of other → type_of m.result ≡ type_of other.result
+    → typed_term m ≡ typed_term other → IsPlanOfModule m plan → IsPlanOfModule other plan
+plan_too m other plan program result term is =
     record {
-      term = is.term;
-      stands = subst (λ (p : Program). StandsFor p is.term) program is.stands;
-      made = subst (λ (t : Type'). IsPlanOf (program_of other).imports t (weighed other) is.term plan) result
-          (subst (λ (p : Program). IsPlanOf p.imports (type_of m.result) (weight p.imports p.body) is.term plan) program is.made);
+      stands = subst (λ (n : Numbered). StandsFor (program_of other) n) term (subst (λ (p : Program). StandsFor p (typed_term m)) program is.stands);
+      made = subst (λ (n : Numbered). IsPlanOf (program_of other).imports (type_of other.result) (weighed other) n plan) term
+          (subst (λ (t : Type'). IsPlanOf (program_of other).imports t (weighed other) (typed_term m) plan) result
+          (subst (λ (p : Program). IsPlanOf p.imports (type_of m.result) (weight p.imports p.body) (typed_term m) plan) program is.made));
       slim = is.slim;
       read = is.read;
       realises = subst (λ (p : Program). RealisesModule plan p.body) program is.realises;

@@ -21,13 +21,14 @@ use Rattle.gos_check.specs.declared.fault.CheckFault.{CheckFault}
 use Rattle.gos_check.specs.declared.fault.CheckFault.TheVariants as checks
 use Rattle.gos_check.specs.Faults.{Found, Refuses}
 use Rattle.gos_check.specs.Judgements.{module_judged}
+use Rattle.gos_check.specs.OneTerm.{TermIsOne}
 use Rattle.gos_check.specs.Accepted.{AreWritten, FoundExactly, IsAccepted, IsNew, IsWritten, KeepsLimits, NamesDiffer, weighed}
 use Rattle.gos_command.specs.Ends.{IsRealCause}
 use Rattle.gos_command.specs.declared.status.Cause.{Cause}
 use Rattle.gos_command.specs.declared.status.Cause.TheVariants as causes
 use Rattle.gos_command.proofs.FilesLemmas.{is_read_whole}
 use Rattle.gos_tool.specs.objects.Checked.{IsSource, IsSourceCause}
-use Rattle.gos_tool.specs.objects.Complete.{AcceptedIsNotRejected, SaysOneProgram}
+use Rattle.gos_tool.specs.objects.Complete.{AcceptedIsNotRejected, SaysOneProgram, SaysOneTerm}
 
 -- the program of a module without its boxes
 abbrev plain : ImportTree → Imported
@@ -118,6 +119,9 @@ module _ (one_way : (text : List ℕ) → ReadsInOneWay text) (one_tree : (items
   says_one_program text m other one two =
       let tree = same_tree text m other one.source two.source in
       (same_program m other tree, ap (λ (t : ModuleTree). t.result) tree)
+
+  pub says_one_term : TermIsOne → SaysOneTerm
+  says_one_term term_one text m other one two = term_one m other (same_tree text m other one.source two.source)
 
 pub accepted_is_not_rejected : ((text : List ℕ) → ReadsInOneWay text) → ((text : List ℕ) → FaultsExcludeTokens text)
     → ((text : List ℕ) (tokens : List Token) → FaultsExcludeModules text tokens) → ((items : List Item) → HasOneTree items) → FoundExactly

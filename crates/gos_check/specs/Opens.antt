@@ -1,7 +1,7 @@
 -- The free names of a numbered term, each with its number there, and what becomes of them at a binder and where two parts
 -- come together.
 --
--- Between the functions of this crate.
+-- Read first: Nodes (splits).
 use Rattle.std.specs.Prelude.{ℕ, suc, List, [], ◌∷◌, ◌++◌, Option, Some, None, if◌then◌else◌}
 use Rattle.std.specs.Str.{bytes_eq}
 use Rattle.gos_check.specs.declared.opens.Open.{Open}

@@ -1,26 +1,23 @@
--- How a term is numbered, from its leaves up.
+-- How a term is numbered, from its leaves up; and the one typed term of a module.
 --
--- Read first: Nodes, Opens, Scopes. Between the functions of this crate: what a numbered term is for says Linearity.
-use Rattle.std.specs.Prelude as prelude
-use Rattle.std.specs.Prelude.{◌≡◌, ℕ, suc, ◌+◌, List, [], ◌∷◌, ◌++◌, map, Option, Some, None, nat_eq, if◌then◌else◌, MatchResult}
+-- Read first: Nodes, Opens, Scopes. What a numbered term is for says Linearity. Each use has a new number. Where two parts of a
+-- node use one name, it has a new number outside, and a split says which numbers it has inside.
+use Rattle.std.specs.Prelude.{ℕ, suc, ◌+◌, List, [], ◌∷◌, ◌++◌, map, length, Option, Some, None, nat_eq, if◌then◌else◌}
 use Rattle.std.specs.Str.{bytes_eq}
 use Rattle.gos_types.specs.Types.{Type', Com, Exp, Var, Pair, Fun}
 use Rattle.gos_syntax.specs.Trees as trees
-use Rattle.gos_syntax.specs.Trees.{Tree}
-use Rattle.gos_syntax.specs.Modules.{SeenImport}
+use Rattle.gos_syntax.specs.Trees.{Tree, tree_of}
+use Rattle.gos_syntax.specs.Modules.{SeenImport, SeenModule}
 use Rattle.gos_model.specs.Terms as terms
 use Rattle.gos_model.specs.Terms.{Name, Term}
 use Rattle.gos_model.specs.Typing.{Imports}
 use Rattle.gos_model.specs.Weight.{or_com, after_fun, left_of, right_of, read_of, op_type}
-use Rattle.gos_model.specs.Sources.{op_of}
-use Rattle.gos_check.specs.declared.fault.CheckFault.{CheckFault}
-use Rattle.gos_check.specs.declared.fault.CheckFault.TheVariants as faults
+use Rattle.gos_model.specs.Sources.{op_of, import_of}
 use Rattle.gos_check.specs.declared.linear.Split.{Split}
-use Rattle.gos_check.specs.declared.numbering.NumberedTerm.{NumberedTerm}
 use Rattle.gos_check.specs.declared.opens.Open.{Open}
 use Rattle.gos_check.specs.Scopes.{Binders, type_at}
-use Rattle.gos_check.specs.Nodes.{Binding, OfFun, OfNew, OneForm, OfFst, OfSnd, OfDeref, OfNot, TwoForm, OfApp, OfBoth, OfSeq, OfPar, OfWhile, OfAssign, OfBin, Numbered, Closed, Use, Under, One, Two, If, node_seen, type_of_node}
-use Rattle.gos_check.specs.inner.Opens.{number_in, others, merged_splits, merged_names, merged_next, binder_number, binder_next}
+use Rattle.gos_check.specs.Nodes.{Binding, OfFun, OfNew, OneForm, OfFst, OfSnd, OfDeref, OfNot, TwoForm, OfApp, OfBoth, OfSeq, OfPar, OfWhile, OfAssign, OfBin, Numbered, Closed, Use, Under, One, Two, If, type_of_node}
+use Rattle.gos_check.specs.Opens.{number_in, others, merged_splits, merged_names, merged_next, binder_number, binder_next}
 
 -- the types of the forms, from those of their parts
 abbrev pub one_type : OneForm → Type' → Type'
@@ -48,14 +45,6 @@ pub record Result : Type 0 where
   pub node : Numbered
   pub names : List Open
   pub next : ℕ
-
--- a numbered term of the program
-abbrev pub seen : NumberedTerm → Result
-seen term = record { node = node_seen term.node.value; names = term.names.items; next = term.next }
-
--- the answer is a numbered term that is seen so, or want of memory
-abbrev pub Numbers : Result → prelude.Result NumberedTerm CheckFault → Type 0
-Numbers found answer = MatchResult answer (λ r. seen r ≡ found) (λ e. e ≡ faults.NoMemory)
 
 -- a term without names
 abbrev pub closed_result : Type' → Term → ℕ → Result
@@ -168,3 +157,14 @@ with_place (Some p) n node = renamed (exchanged n p) node
 abbrev pub placed : List SeenImport → List Open → Numbered → Numbered
 placed is [] node = node
 placed is (o ∷ os) node = placed is os (with_place (import_number is o.name) o.number node)
+
+-- a tree under these imports, whose numbers are their places
+abbrev pub under_imports : List SeenImport → Tree → Result
+under_imports is m = numbered (map import_of is) [] (length is) m
+
+abbrev pub typed_tree : List SeenImport → Tree → Numbered
+typed_tree is m = placed is (under_imports is m).names (under_imports is m).node
+
+-- the typed term of a module
+abbrev pub typed_term : SeenModule → Numbered
+typed_term m = typed_tree m.imports (tree_of m.body.form m.body.span)
