@@ -1,0 +1,4 @@
+pub mod HeadLemmas
+pub mod PlaceLemmas
+pub mod SideLemmas
+pub mod SmallLemmas

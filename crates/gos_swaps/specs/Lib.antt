@@ -1,0 +1,6 @@
+-- In reading order: a chapter uses only chapters above it.
+pub mod doings
+pub mod proper
+pub mod orders
+pub mod heights
+pub mod needed

@@ -1,0 +1,4 @@
+pub mod Heads
+pub mod Doings
+pub mod Sides
+pub mod SmallDoings

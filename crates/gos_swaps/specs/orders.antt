@@ -1,0 +1,4 @@
+pub mod Alike
+pub mod Effects
+pub mod Orders
+pub mod SmallOrders
