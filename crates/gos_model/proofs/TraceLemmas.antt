@@ -5,13 +5,10 @@ use Rattle.gos_types.specs.Types.{Exp}
 use Rattle.gos_model.specs.Terms.{Term, Skip, Bound, Import, Seq, Par, Wait, Lit, New, While, If, Bin, Add, Eq, Deref, Assign, Loc, Scope, Held, Put}
 use Rattle.gos_model.specs.Substitution.{instantiate}
 use Rattle.gos_model.specs.Reach.{Unfolds}
-use Rattle.gos_model.specs.Stores.{Entry, Store}
+use Rattle.gos_model.specs.Stores.{variable_at, Store}
 use Rattle.gos_model.specs.Labels.{given, taken}
 use Rattle.gos_model.specs.Moves.{Computing, Showing, Idle, Running, Unfoldings, ActsTo}
 use Rattle.gos_model.specs.SmallPrograms.{c, d, e, loop_once, double, ParEitherWay, LoopRuns, NewIsZero, DoubleAsksTwice}
-
-abbrev entry : ℕ → ℕ → ℕ → Entry
-entry l w k = record { place = l; width = w; number = k }
 
 -- the parts of the loop, with location 0 for its variable
 abbrev test : Term
@@ -43,10 +40,10 @@ chosen m = Scope 0 (choice m)
 
 -- the store before the assignment, and after it
 abbrev first : Store
-first = entry 0 1 0 ∷ []
+first = variable_at 0 1 0 ∷ []
 
 abbrev again : Store
-again = entry 0 1 1 ∷ []
+again = variable_at 0 1 1 ∷ []
 
 pub either_way : ParEitherWay
 either_way = (
@@ -127,7 +124,7 @@ loop_runs = (
         (0, (Scope 0 loop), refl, inr ((choice test), refl, inl (refl, refl))),
         (
           Running (chosen (Bin Eq (Lit 0 1) (Lit 0 1))) first,
-          (0, (chosen test), refl, inr ((choice (Bin Eq (Lit 0 1) (Lit 0 1))), refl, inr ((Bin Eq (Lit 0 1) (Lit 0 1)), refl, inr ((Lit 0 1), refl, inl (entry 0 1 0, refl, refl, refl, refl))))),
+          (0, (chosen test), refl, inr ((choice (Bin Eq (Lit 0 1) (Lit 0 1))), refl, inr ((Bin Eq (Lit 0 1) (Lit 0 1)), refl, inr ((Lit 0 1), refl, inl (variable_at 0 1 0, 0, refl, refl, refl, refl, refl))))),
           (
             Running (chosen (Held 0 Eq (Lit 0 1))) first,
             (0, (chosen (Bin Eq (Lit 0 1) (Lit 0 1))), refl, inr ((choice (Held 0 Eq (Lit 0 1))), refl, inr ((Held 0 Eq (Lit 0 1)), refl, inl (0, 1, refl, refl, refl)))),
@@ -142,7 +139,7 @@ loop_runs = (
                   (0, (Scope 0 body_then_loop), refl, inr ((then_loop (Seq (Put (Loc 0) 1) (Import c))), refl, inr ((Seq (Put (Loc 0) 1) (Import c)), refl, inr ((Put (Loc 0) 1), refl, inl (1, 1, refl, refl, refl))))),
                   (
                     Running (running (Seq Skip (Import c))) again,
-                    (0, (running (Seq (Put (Loc 0) 1) (Import c))), refl, inr ((then_loop (Seq Skip (Import c))), refl, inr ((Seq Skip (Import c)), refl, inr (Skip, refl, inl (entry 0 1 0, refl, refl, refl, refl))))),
+                    (0, (running (Seq (Put (Loc 0) 1) (Import c))), refl, inr ((then_loop (Seq Skip (Import c))), refl, inr ((Seq Skip (Import c)), refl, inr (Skip, refl, inl (variable_at 0 1 0, 0, refl, refl, refl, refl, refl))))),
                     (
                       Running (running (Import c)) again,
                       (0, (running (Seq Skip (Import c))), refl, inr ((then_loop (Import c)), refl, inr ((Import c), refl, inl (refl, refl, refl)))),
@@ -160,7 +157,7 @@ loop_runs = (
                               (0, (Scope 0 loop), refl, inr ((choice test), refl, inl (refl, refl))),
                               (
                                 Running (chosen (Bin Eq (Lit 1 1) (Lit 0 1))) again,
-                                (0, (chosen test), refl, inr ((choice (Bin Eq (Lit 1 1) (Lit 0 1))), refl, inr ((Bin Eq (Lit 1 1) (Lit 0 1)), refl, inr ((Lit 1 1), refl, inl (entry 0 1 1, refl, refl, refl, refl))))),
+                                (0, (chosen test), refl, inr ((choice (Bin Eq (Lit 1 1) (Lit 0 1))), refl, inr ((Bin Eq (Lit 1 1) (Lit 0 1)), refl, inr ((Lit 1 1), refl, inl (variable_at 0 1 1, 1, refl, refl, refl, refl, refl))))),
                                 (
                                   Running (chosen (Held 1 Eq (Lit 0 1))) again,
                                   (0, (chosen (Bin Eq (Lit 1 1) (Lit 0 1))), refl, inr ((choice (Held 1 Eq (Lit 0 1))), refl, inr ((Held 1 Eq (Lit 0 1)), refl, inl (1, 1, refl, refl, refl)))),
@@ -203,7 +200,7 @@ no_unfolding : (n w : ℕ) (m u : Term) → Unfoldings n (New w m) u → New w m
 no_unfolding zero w m u h = h
 no_unfolding (suc n) w m u h = absurd (unfolds_none w m h.0 h.1)
 
-starts : (w : ℕ) (m t : Term) (s : Store) → ActsTo [] Computing [] (New w m) (Running t s) → (l : ℕ) × (t ≡ Scope l (instantiate m (Loc l))) × (s ≡ entry l w 0 ∷ [])
+starts : (w : ℕ) (m t : Term) (s : Store) → ActsTo [] Computing [] (New w m) (Running t s) → (l : ℕ) × (t ≡ Scope l (instantiate m (Loc l))) × (s ≡ variable_at l w 0 ∷ [])
 starts w m t s (inl (l, _, e, f)) = (l, e, f)
 starts w m t s (inr h) = absurd h
 

@@ -1,12 +1,12 @@
 -- Laws of the definitions.
 --
 -- Read first: Weight, Paths, Moves.
-use Rattle.std.specs.Prelude.{◌≡◌, ◌↔◌, ◌⊎◌, ℕ, List, Some, None}
+use Rattle.std.specs.Prelude.{◌≡◌, ◌↔◌, ◌⊎◌, ℕ, List, set, Some, None}
 use Rattle.gos_types.specs.Types.{Type'}
-use Rattle.gos_model.specs.Terms.{Term, Loc, Put}
+use Rattle.gos_model.specs.Terms.{Term, Lit, Deref, Loc, Put}
 use Rattle.gos_model.specs.Typing.{Imports, Typed}
 use Rattle.gos_model.specs.Weight.{node_type}
-use Rattle.gos_model.specs.Stores.{Entry, Store, entry_at}
+use Rattle.gos_model.specs.Stores.{Entry, Store, entry_at, number_at}
 use Rattle.gos_model.specs.Reach.{Under, Aside, Rewrites, Unfolds}
 use Rattle.gos_model.specs.Paths.{AtSomePath}
 use Rattle.gos_model.specs.Steps.{Steps, Computes}
@@ -35,12 +35,22 @@ abbrev pub UnfoldingsHavePaths : Type 0
 UnfoldingsHavePaths =
     (m t : Term) → Unfolds m t ↔ AtSomePath (λ a b. (Rewrites a b ⊎ Under Rewrites a b) ⊎ Aside Rewrites a b) m t
 
--- after a write the location has its width and the number that was written
+-- after a write the location has its width, and at index 0 the number that was written
 abbrev pub WritesStore : Type 0
 WritesStore =
     (s s' : Store) (m t : Term) (k : ℕ) → Computes s s' (Put m k) t
-    → (e : Entry) × (entry_at s e.place ≡ Some e) × (entry_at s' e.place ≡ Some record e { number = k })
+    → (e : Entry) × (entry_at s e.place ≡ Some e) × (entry_at s' e.place ≡ Some record e { numbers = set e.numbers 0 k })
+    × (number_at s' e.place 0 ≡ Some k)
 
--- a location that the store doesn't have is not written
+-- and a read behind it gives that number
+abbrev pub ReadsBehindWrite : Type 0
+ReadsBehindWrite =
+    (s s' s'' : Store) (l k : ℕ) (t v : Term)
+    → Computes s s' (Put (Loc l) k) t → Computes s' s'' (Deref (Loc l)) v → (w : ℕ) × (v ≡ Lit k w)
+
+-- a location that the store doesn't have is neither written nor read, nor is one without a number
 abbrev pub AbsentIsNotWritten : Type 0
-AbsentIsNotWritten = (s s' : Store) (l k : ℕ) (t : Term) → entry_at s l ≡ None → Computes s s' (Put (Loc l) k) t → ⊥
+AbsentIsNotWritten = (s s' : Store) (l k : ℕ) (t : Term) → number_at s l 0 ≡ None → Computes s s' (Put (Loc l) k) t → ⊥
+
+abbrev pub AbsentIsNotRead : Type 0
+AbsentIsNotRead = (s s' : Store) (l : ℕ) (t : Term) → number_at s l 0 ≡ None → Computes s s' (Deref (Loc l)) t → ⊥

@@ -3,6 +3,7 @@ pub mod Substitution
 pub mod Typing
 pub mod Weight
 pub mod Stores
+pub mod SmallStores
 pub mod Reach
 pub mod Paths
 pub mod Steps

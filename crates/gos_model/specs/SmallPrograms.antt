@@ -7,7 +7,7 @@ use Rattle.gos_model.specs.Terms.{Name, Term, Import, Lam, App, Seq, Par, New, W
 use Rattle.gos_model.specs.Substitution.{instantiate}
 use Rattle.gos_model.specs.Typing.{Imports}
 use Rattle.gos_model.specs.Weight.{weight}
-use Rattle.gos_model.specs.Stores.{Store}
+use Rattle.gos_model.specs.Stores.{variable_at, Store}
 use Rattle.gos_model.specs.Labels.{given, taken}
 use Rattle.gos_model.specs.Moves.{Program, Trace, Computing, Running, Move, Stalled}
 
@@ -72,7 +72,7 @@ LoopRuns = Trace loop_once (given 0 0 ∷ taken c 0 0 ∷ taken c 1 0 ∷ given 
 abbrev pub NewIsZero : Type 0
 NewIsZero =
     (w : ℕ) (m t : Term) (s : Store) → Move (record { imports = []; body = New w m }) Computing (Running (New w m) []) (Running t s)
-    → (l : ℕ) × (t ≡ Scope l (instantiate m (Loc l))) × (s ≡ record { place = l; width = w; number = 0 } ∷ [])
+    → (l : ℕ) × (t ≡ Scope l (instantiate m (Loc l))) × (s ≡ variable_at l w 0 ∷ [])
 
 -- the name of an expression
 abbrev pub e : Name

@@ -1,10 +1,10 @@
 -- Computation steps of a running program.
 --
 -- Read first: Stores, Reach. What the parts must be stands in equations, so that a row is used by projection.
-use Rattle.std.specs.Prelude.{◌≡◌, ℕ, ◌⊎◌, ◌∷◌, Some, None}
+use Rattle.std.specs.Prelude.{◌≡◌, ℕ, ◌⊎◌, ◌∷◌, slice_get, Some, None}
 use Rattle.gos_model.specs.Terms.{Term, Skip, Lit, Seq, Par, If, While, Assign, Deref, New, Not, Bin, Loc, Scope, Held, Put, result_of, result_width, complement}
 use Rattle.gos_model.specs.Substitution.{instantiate}
-use Rattle.gos_model.specs.Stores.{Entry, Store, entry_at, store_put, without}
+use Rattle.gos_model.specs.Stores.{Entry, variable_at, Store, entry_at, store_put, without}
 use Rattle.gos_model.specs.Reach.{Rel, Reached}
 
 -- the values: `skip` and literals
@@ -13,7 +13,7 @@ IsValue m = (m ≡ Skip) ⊎ ((k : ℕ) × (w : ℕ) × (m ≡ Lit k w))
 
 -- One row for each form: a term with store s becomes t with store s', at the place itself. A loop becomes a choice,
 -- an operator holds its left operand, and a new variable gets a location that the store doesn't have, with number 0. Only
--- a location that the store has is read or written.
+-- a number that the store has is read or written, and a variable's is the one at index 0.
 abbrev pub Computes : Store → Store → Rel
 Computes s s' (Seq m n) t = (m ≡ Skip) × (t ≡ n) × (s' ≡ s)
 Computes s s' (Par m n) t = (m ≡ Skip) × (n ≡ Skip) × (t ≡ Skip) × (s' ≡ s)
@@ -25,11 +25,13 @@ Computes s s' (Held k op n) t =
 Computes s s' (Not m) t = (k : ℕ) × (w : ℕ) × (m ≡ Lit k w) × (t ≡ Lit (complement w k) w) × (s' ≡ s)
 Computes s s' (Assign m n) t = (k : ℕ) × (w : ℕ) × (n ≡ Lit k w) × (t ≡ Put m k) × (s' ≡ s)
 Computes s s' (Put m k) t =
-    (e : Entry) × (m ≡ Loc e.place) × (entry_at s e.place ≡ Some e) × (t ≡ Skip) × (s' ≡ store_put s e.place k)
+    (e : Entry) × (j : ℕ) × (m ≡ Loc e.place) × (entry_at s e.place ≡ Some e) × (slice_get e.numbers 0 ≡ Some j)
+    × (t ≡ Skip) × (s' ≡ store_put s e.place 0 k)
 Computes s s' (Deref m) t =
-    (e : Entry) × (m ≡ Loc e.place) × (entry_at s e.place ≡ Some e) × (t ≡ Lit e.number e.width) × (s' ≡ s)
+    (e : Entry) × (j : ℕ) × (m ≡ Loc e.place) × (entry_at s e.place ≡ Some e) × (slice_get e.numbers 0 ≡ Some j)
+    × (t ≡ Lit j e.width) × (s' ≡ s)
 Computes s s' (New w m) t =
-    (l : ℕ) × (entry_at s l ≡ None) × (t ≡ Scope l (instantiate m (Loc l))) × (s' ≡ record { place = l; width = w; number = 0 } ∷ s)
+    (l : ℕ) × (entry_at s l ≡ None) × (t ≡ Scope l (instantiate m (Loc l))) × (s' ≡ variable_at l w 0 ∷ s)
 Computes s s' (Scope l m) t = IsValue m × (t ≡ m) × (s' ≡ without s l)
 Computes s s' m t = ⊥
 

@@ -6,9 +6,21 @@ ghost use Rattle.gos_model.specs.Laws.{
   LabelsHavePaths,
   UnfoldingsHavePaths,
   WritesStore,
+  ReadsBehindWrite,
   AbsentIsNotWritten,
+  AbsentIsNotRead,
 };
 ghost use Rattle.gos_model.specs.ArrayPorts.{GroundPortsKeep, GroundLabels, AccessesRun, IndexWaits, IndexIsNotFirst, ArrayAnswers};
+ghost use Rattle.gos_model.specs.SmallStores.{
+  ReadsWhatIsWritten,
+  OtherIndexStays,
+  OutsideChangesNothing,
+  OtherLocationStays,
+  LengthsStay,
+  ThreeNumbers,
+  VariableHasOne,
+  FirstCounts,
+};
 ghost use Rattle.gos_model.specs.SmallModules.{Weights, Types, Shared, Links, LinkWeighs};
 ghost use Rattle.gos_model.specs.SmallPrograms.{
   SeqRuns,
@@ -62,10 +74,26 @@ pub fn reached_places()
     ensures unfolding { UnfoldingsHavePaths }
 {}
 
-/// A write leaves its number in the store, at a location that the store has.
+/// A write leaves its number in the store, at a location that the store has, and a read behind it gives that number. A number that
+/// isn't there is neither written nor read.
 pub fn writes()
     ensures left { WritesStore }
+    ensures read { ReadsBehindWrite }
     ensures absent { AbsentIsNotWritten }
+    ensures unread { AbsentIsNotRead }
+{}
+
+/// In a store a number that was put is read behind it; another index and another location stay as they were, and so does all
+/// where there is no number. A location keeps how many numbers it has. Of two entries of one location the first counts.
+pub fn stores()
+    ensures written { ReadsWhatIsWritten }
+    ensures index { OtherIndexStays }
+    ensures outside { OutsideChangesNothing }
+    ensures location { OtherLocationStays }
+    ensures lengths { LengthsStay }
+    ensures three { ThreeNumbers }
+    ensures one { VariableHasOne }
+    ensures first { FirstCounts }
 {}
 
 /// At ports that are ground, inputs that keep the protocol of ports keep the protocol, and the other way round; and each label there is

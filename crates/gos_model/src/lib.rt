@@ -10,6 +10,6 @@
 mod laws;
 
 pub use laws::{
-    accesses, ground_ports, reached_places, sequences, small_modules, small_traces, types_of_terms,
-    writes,
+    accesses, ground_ports, reached_places, sequences, small_modules, small_traces, stores,
+    types_of_terms, writes,
 };

@@ -19,3 +19,4 @@ pub mod LocalLemmas
 pub mod SmallLemmas
 pub mod EndedLemmas
 pub mod InnerLemmas
+pub mod SilentLemmas

@@ -185,8 +185,8 @@ scoped_row s s' (Bin op m n) b (j, w, em, et, es) ls (h, k) = subst (InScope ls)
 scoped_row s s' (Held k op n) b (j, w, en, et, es) ls h = subst (InScope ls) (sym et) tt
 scoped_row s s' (Not m) b (k, w, em, et, es) ls h = subst (InScope ls) (sym et) tt
 scoped_row s s' (Assign m n) b (j, w, en, et, es) ls (h, k) = subst (InScope ls) (sym et) h
-scoped_row s s' (Put m k) b (e, em, here, et, es) ls h = subst (InScope ls) (sym et) tt
-scoped_row s s' (Deref m) b (e, em, here, et, es) ls h = subst (InScope ls) (sym et) tt
+scoped_row s s' (Put m k) b (e, old, em, here, has, et, es) ls h = subst (InScope ls) (sym et) tt
+scoped_row s s' (Deref m) b (e, old, em, here, has, et, es) ls h = subst (InScope ls) (sym et) tt
 scoped_row s s' (New w m) b (l, absent, et, es) ls h =
     subst (InScope ls) (sym et) (scoped_put m (l ∷ ls) 0 (Loc l) (inl refl) (widened m ls (l ∷ ls) (λ x y. inr y) h))
 scoped_row s s' (Scope l m) b (is, et, es) ls h = subst (InScope ls) (sym et) (scoped_value m is ls)

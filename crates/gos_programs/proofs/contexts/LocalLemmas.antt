@@ -5,7 +5,7 @@ use Rattle.std.proofs.Common.{arith, refl, sym, ap, subst, inl, inr, ◌∙◌}
 use Rattle.gos_types.specs.Types.{Type', Com, Exp, Var, Fun}
 use Rattle.gos_model.specs.Terms.{Name, Term, Import, Seq, Par, If, Assign, Deref, Not, Bin, Loc, Scope, Wait, Held, Put, App, Both}
 use Rattle.gos_model.specs.Typing.{Imports, import_type}
-use Rattle.gos_model.specs.Stores.{Store, entry_at, store_put}
+use Rattle.gos_model.specs.Stores.{variable_at, Store, entry_at, store_put}
 use Rattle.gos_model.specs.Reach.{Rel}
 use Rattle.gos_model.specs.Steps.{Computes, Steps}
 use Rattle.gos_model.specs.Labels.{Label, Taken, taken, IsAnswer}
@@ -216,17 +216,17 @@ unfoldings_before q a n m v s d hs (j, t, gs, h) = let k = unfoldings_then n j m
 
 -- the store at the location
 at_home : (r : ℕ → ℕ) (f : Store) (z w k : ℕ) → IsHome r f z w k → (s : Store)
-    → entry_at (beside r s f) z ≡ Some (record { place = z; width = w; number = k })
+    → entry_at (beside r s f) z ≡ Some (variable_at z w k)
 at_home r f z w k home [] = home.entry
 at_home r f z w k home (e ∷ s) =
     later_at (record e { place = r e.place }) (beside r s f) z (λ h. home.apart e.place (sym h)) ∙ at_home r f z w k home s
 
-put_home : (r : ℕ → ℕ) (f : Store) (z j : ℕ) → ((l : ℕ) → z ≡ r l → ⊥) → (s : Store)
-    → beside r s (store_put f z j) ≡ store_put (beside r s f) z j
-put_home r f z j apart [] = refl
-put_home r f z j apart (e ∷ s) =
+put_home : (r : ℕ → ℕ) (f : Store) (z j k : ℕ) → ((l : ℕ) → z ≡ r l → ⊥) → (s : Store)
+    → beside r s (store_put f z j k) ≡ store_put (beside r s f) z j k
+put_home r f z j k apart [] = refl
+put_home r f z j k apart (e ∷ s) =
     let g = ne_eqb (r e.place) z (λ h. apart e.place (sym h)) in
-    rw g (λ i. record e { place = r e.place } ∷ put_home r f z j apart s i)
+    rw g (λ i. record e { place = r e.place } ∷ put_home r f z j k apart s i)
 
 read_row : (r : ℕ → ℕ) (y : Name) (z w k : ℕ) (i : Imports) (f : Store) → import_type i y ≡ Some (Var w) → IsHome r f z w k → (s : Store) (a b : Term)
     → OneLabel i (taken y 1 k) a b → Computes (beside r s f) (beside r s f) (placed r y z a) (placed r y z b)
@@ -239,7 +239,7 @@ read_row r y z w k i f typed home s (Wait x n) b (inr (p, e, h)) =
     let g = answer_there i y w typed x 1 n k b same e h in
     let is : placed r y z (Wait x n) ≡ Deref (Loc z) = wait_there r y z x n same ∙ ap (λ (v : ℕ). wait_for true z x v) (sym e) in
     subst (λ (v : Term). Computes (beside r s f) (beside r s f) v (placed r y z b)) (sym is)
-    (record { place = z; width = w; number = k }, refl, at_home r f z w k home s, ap (placed r y z) g.1, refl)
+    (variable_at z w k, k, refl, at_home r f z w k home s, refl, ap (placed r y z) g.1, refl)
 read_row r y z w k i f typed home s (Deref m) b (inl (inr (x, p, (c, v, n', array, rest)))) = absurd (no_array_there i x y w c v typed p array)
 read_row r y z w k i f typed home s (Deref m) b (inr (x, p, (c, v, n', q', array, em, rest))) = absurd (no_array_there i x y w c v typed p array)
 read_row r y z w k i f typed home s (Put m n) b (inl (inr (x, p, (c, v, n', array, rest)))) = absurd (no_array_there i x y w c v typed p array)
@@ -249,17 +249,19 @@ read_row r y z w k i f typed home s a b (inr h) = absurd h
 
 write_row : (r : ℕ → ℕ) (y : Name) (z w k j : ℕ) (i : Imports) (f : Store) → import_type i y ≡ Some (Var w) → IsHome r f z w k
     → (s : Store) (a b : Term) → OneLabel i (taken y 2 j) a b
-    → Computes (beside r s f) (beside r s (store_put f z j)) (placed r y z a) (placed r y z b)
+    → Computes (beside r s f) (beside r s (store_put f z 0 j)) (placed r y z a) (placed r y z b)
 write_row r y z w k j i f typed home s (Import x) b (inl (inl (h, e, et))) = let bad : 2 ≡ 0 = event_of x y 2 0 j 0 e in absurd (omega (arith, bad))
 write_row r y z w k j i f typed home s (Import x) b (inl (inr (v, h, e, et))) = let bad : 2 ≡ 0 = event_of x y 2 0 j 0 e in absurd (omega (arith, bad))
 write_row r y z w k j i f typed home s (Deref m) b (inl (inl (x, v, em, h, e, et))) = let bad : 2 ≡ 0 = event_of x y 2 0 j 0 e in absurd (omega (arith, bad))
 write_row r y z w k j i f typed home s (Put m n) b (inl (inl (x, v, em, h, e, et))) =
     let same = name_of x y 2 2 j n e in (
-      record { place = z; width = w; number = k },
+      variable_at z w k,
+      k,
       ap (placed r y z) em ∙ loc_placed r y z x same,
       at_home r f z w k home s,
+      refl,
       ap (placed r y z) et ∙ wait_there r y z x 3 same,
-      put_home r f z j home.apart s ∙ ap (store_put (beside r s f) z) (value_of x y 2 2 j n e),
+      put_home r f z 0 j home.apart s ∙ ap (store_put (beside r s f) z 0) (value_of x y 2 2 j n e),
     )
 write_row r y z w k j i f typed home s (Wait x n) b (inr (p, e, h)) = absurd (answer_there i y w typed x 2 n j b (port_there x y p) e h)
 write_row r y z w k j i f typed home s (Deref m) b (inl (inr (x, p, (c, v, n', array, rest)))) = absurd (no_array_there i x y w c v typed p array)
@@ -282,11 +284,11 @@ read_answered p q y r z w k f s u m t typed home (n, v, hs, (h, e)) =
 
 pub write_asked : WriteAsked
 write_asked p q y r z w k j f s u m t typed home (n, v, hs, (h, e)) =
-    let step : Steps (beside r s f) (beside r s (store_put f z j)) (placed r y z v) (placed r y z t) =
-    reached_placed r y z (OneLabel p.imports (taken y 2 j)) (Computes (beside r s f) (beside r s (store_put f z j)))
+    let step : Steps (beside r s f) (beside r s (store_put f z 0 j)) (placed r y z v) (placed r y z t) =
+    reached_placed r y z (OneLabel p.imports (taken y 2 j)) (Computes (beside r s f) (beside r s (store_put f z 0 j)))
     (write_row r y z w k j p.imports f typed home s) v t h in (
       n,
       placed r y z v,
       unfoldings_placed r y z n m v hs,
-      subst (λ (x : Store). Steps (beside r s f) (beside r x (store_put f z j)) (placed r y z v) (placed r y z t)) (sym e) step,
+      subst (λ (x : Store). Steps (beside r s f) (beside r x (store_put f z 0 j)) (placed r y z v) (placed r y z t)) (sym e) step,
     )

@@ -155,17 +155,21 @@ placed_row r y z f inj free s s' (Not m) b (k, w, em, et, es) =
     (k, w, ap (placed r y z) em, ap (placed r y z) et, ap (λ (x : Store). beside r x f) es)
 placed_row r y z f inj free s s' (Assign m n) b (k, w, en, et, es) =
     (k, w, ap (placed r y z) en, ap (placed r y z) et, ap (λ (x : Store). beside r x f) es)
-placed_row r y z f inj free s s' (Put m k) b (e, em, here, et, es) = (
+placed_row r y z f inj free s s' (Put m k) b (e, old, em, here, has, et, es) = (
   record e { place = r e.place },
+  old,
   ap (placed r y z) em,
   entry_beside r inj s f e.place (free e.place) ∙ ap (moved r) here,
+  has,
   ap (placed r y z) et,
-  ap (λ (x : Store). beside r x f) es ∙ put_beside r inj s f e.place k (free e.place),
+  ap (λ (x : Store). beside r x f) es ∙ put_beside r inj s f e.place 0 k (free e.place),
 )
-placed_row r y z f inj free s s' (Deref m) b (e, em, here, et, es) = (
+placed_row r y z f inj free s s' (Deref m) b (e, old, em, here, has, et, es) = (
   record e { place = r e.place },
+  old,
   ap (placed r y z) em,
   entry_beside r inj s f e.place (free e.place) ∙ ap (moved r) here,
+  has,
   ap (placed r y z) et,
   ap (λ (x : Store). beside r x f) es,
 )

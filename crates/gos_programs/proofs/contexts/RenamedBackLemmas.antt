@@ -1,11 +1,11 @@
 -- What a renamed term does comes from the term.
-use Rattle.std.specs.Prelude.{◌≡◌, ℕ, zero, suc, ◌∷◌, Option, Some, None}
+use Rattle.std.specs.Prelude.{◌≡◌, ℕ, zero, suc, ◌∷◌, Option, Some, None, slice_get, List}
 use Rattle.std.proofs.Common.{arith, refl, sym, ap, subst, inl, inr, ◌∙◌}
 use Rattle.gos_types.specs.Types.{Type'}
 use Rattle.gos_model.specs.Terms.{Name, Term, Skip, Lit, Import, Lam, App, Both, Fst, Snd, Seq, Par, If, While, Assign, Deref, New, Not, Bin, Loc, Scope, Wait, Held, Put, result_of, result_width, complement}
 use Rattle.gos_model.specs.Substitution.{instantiate}
 use Rattle.gos_model.specs.Typing.{Imports}
-use Rattle.gos_model.specs.Stores.{Entry, Store, entry_at, store_put, without}
+use Rattle.gos_model.specs.Stores.{Entry, variable_at, Store, entry_at, store_put, without}
 use Rattle.gos_model.specs.Reach.{Rel, Reached, Below, InIndex, Rewrites, Under, Aside}
 use Rattle.gos_model.specs.Steps.{Computes, IsValue, Steps}
 use Rattle.gos_model.specs.Labels.{Label}
@@ -18,6 +18,7 @@ use Rattle.gos_programs.proofs.contexts.ReachedLemmas.{reached_lifted}
 use Rattle.gos_programs.proofs.contexts.RenamedStoreLemmas.{entry_beside, moved, entry_place, above, above_absent}
 use Rattle.gos_programs.proofs.contexts.RenamedLemmas.{renamed_put}
 use Rattle.gos_programs.proofs.contexts.PluggedLemmas.{reached_plugged}
+use Rattle.std.proofs.lemmas.Option.{same_Some}
 
 -- which terms are renamed to a form
 is_skip : (r : ℕ → ℕ) (m : Term) → renamed r m ≡ Skip → m ≡ Skip
@@ -223,20 +224,23 @@ label_some r i o a v (inr h) = absurd h
 abbrev pub Somehow : Store → Rel
 Somehow s a t = (s' : Store) × Computes s s' a t
 
--- the entry of a location whose renamed one has an entry
+-- the entry, with the same numbers, of a location whose renamed one has an entry
 entry_back : (r : ℕ → ℕ) (f : Store) → IsInjective r → IsFreeOf r f → (s : Store) (m : Term) (e : Entry)
     → renamed r m ≡ Loc e.place → entry_at (beside r s f) e.place ≡ Some e
-    → (d : Entry) × (m ≡ Loc d.place) × (entry_at s d.place ≡ Some d)
+    → (d : Entry) × (m ≡ Loc d.place) × (entry_at s d.place ≡ Some d) × (d.numbers ≡ e.numbers)
 entry_back r f inj free s m e em here =
     let b = is_loc r m e.place em in
     found b.0 b.1 (subst (λ (x : ℕ). entry_at (beside r s f) x ≡ Some e) (sym b.2) here) (entry_at s b.0) refl
   where
     found : (k : ℕ) → m ≡ Loc k → entry_at (beside r s f) (r k) ≡ Some e → (o : Option Entry) → entry_at s k ≡ o
-        → (d : Entry) × (m ≡ Loc d.place) × (entry_at s d.place ≡ Some d)
+        → (d : Entry) × (m ≡ Loc d.place) × (entry_at s d.place ≡ Some d) × (d.numbers ≡ e.numbers)
     found k is there None q =
         let bad : None ≡ Some e = sym (entry_beside r inj s f k (free k) ∙ ap (moved r) q) ∙ there in absurd cc
     found k is there (Some d) q =
-        let place = entry_place s k d q in (d, is ∙ ap (λ (x : ℕ). Loc x) (sym place), ap (entry_at s) place ∙ q)
+        let place = entry_place s k d q in
+        let renamed_one : record d { place = r d.place } ≡ e =
+        same_Some (record d { place = r d.place }) e (sym (entry_beside r inj s f k (free k) ∙ ap (moved r) q) ∙ there) in
+        (d, is ∙ ap (λ (x : ℕ). Loc x) (sym place), ap (entry_at s) place ∙ q, ap (λ (x : Entry). x.numbers) renamed_one)
 
 row_some : (r : ℕ → ℕ) (f : Store) → IsInjective r → IsFreeOf r f → (s u : Store) (a v : Term) → Computes (beside r s f) u (renamed r a) v
     → (t : Term) × Somehow s a t
@@ -249,12 +253,14 @@ row_some r f inj free s u (Bin op m n) v (k, w, em, et, es) = (Held k op n, (s, 
 row_some r f inj free s u (Held k op n) v (j, w, en, et, es) = (Lit (result_of op w k j) (result_width op w), (s, (j, w, is_lit r n j w en, refl, refl)))
 row_some r f inj free s u (Not m) v (k, w, em, et, es) = (Lit (complement w k) w, (s, (k, w, is_lit r m k w em, refl, refl)))
 row_some r f inj free s u (Assign m n) v (k, w, en, et, es) = (Put m k, (s, (k, w, is_lit r n k w en, refl, refl)))
-row_some r f inj free s u (Put m k) v (e, em, here, et, es) =
-    let g = entry_back r f inj free s m e em here in (Skip, (store_put s g.0.place k, (g.0, g.1, g.2, refl, refl)))
-row_some r f inj free s u (Deref m) v (e, em, here, et, es) =
-    let g = entry_back r f inj free s m e em here in (Lit g.0.number g.0.width, (s, (g.0, g.1, g.2, refl, refl)))
+row_some r f inj free s u (Put m k) v (e, old, em, here, has, et, es) =
+    let g = entry_back r f inj free s m e em here in
+    (Skip, (store_put s g.0.place 0 k, (g.0, old, g.1, g.2, ap (λ (ks : List ℕ). slice_get ks 0) g.3 ∙ has, refl, refl)))
+row_some r f inj free s u (Deref m) v (e, old, em, here, has, et, es) =
+    let g = entry_back r f inj free s m e em here in
+    (Lit old g.0.width, (s, (g.0, old, g.1, g.2, ap (λ (ks : List ℕ). slice_get ks 0) g.3 ∙ has, refl, refl)))
 row_some r f inj free s u (New w m) v h =
-    let l = above s in (Scope l (instantiate m (Loc l)), (record { place = l; width = w; number = 0 } ∷ s, (l, above_absent s l (omega arith), refl, refl)))
+    let l = above s in (Scope l (instantiate m (Loc l)), (variable_at l w 0 ∷ s, (l, above_absent s l (omega arith), refl, refl)))
 row_some r f inj free s u (Scope l m) v (is, et, es) = (m, (without s l, (is_value r m is, refl, refl)))
 row_some r f inj free s u m v h = absurd h
 

@@ -176,17 +176,21 @@ row_beside r f inj free s s' (Not m) b (k, w, em, et, es) =
     (k, w, ap (renamed r) em, ap (renamed r) et, ap (λ (x : Store). beside r x f) es)
 row_beside r f inj free s s' (Assign m n) b (k, w, en, et, es) =
     (k, w, ap (renamed r) en, ap (renamed r) et, ap (λ (x : Store). beside r x f) es)
-row_beside r f inj free s s' (Put m k) b (e, em, here, et, es) = (
+row_beside r f inj free s s' (Put m k) b (e, old, em, here, has, et, es) = (
   record e { place = r e.place },
+  old,
   ap (renamed r) em,
   entry_beside r inj s f e.place (free e.place) ∙ ap (moved r) here,
+  has,
   ap (renamed r) et,
-  ap (λ (x : Store). beside r x f) es ∙ put_beside r inj s f e.place k (free e.place),
+  ap (λ (x : Store). beside r x f) es ∙ put_beside r inj s f e.place 0 k (free e.place),
 )
-row_beside r f inj free s s' (Deref m) b (e, em, here, et, es) = (
+row_beside r f inj free s s' (Deref m) b (e, old, em, here, has, et, es) = (
   record e { place = r e.place },
+  old,
   ap (renamed r) em,
   entry_beside r inj s f e.place (free e.place) ∙ ap (moved r) here,
+  has,
   ap (renamed r) et,
   ap (λ (x : Store). beside r x f) es,
 )

@@ -2,8 +2,9 @@
 use Rattle.std.specs.Prelude.{◌≡◌, ◌≤◌, ℕ, suc, ◌+◌, [], ◌∷◌, Option, Some, None}
 use Rattle.std.proofs.Common.{arith, refl, sym, ap, ◌∙◌}
 use Rattle.std.proofs.lemmas.Bool.{eq-eqb, ne_eqb}
-use Rattle.gos_model.specs.Stores.{Entry, Store, entry_at, store_put, without}
+use Rattle.gos_model.specs.Stores.{Entry, Store, entry_at, number_in, store_put, without}
 use Rattle.gos_model.proofs.NumberLemmas.{number_cases}
+use Rattle.gos_model.proofs.StoreLemmas.{outside_changes_nothing}
 use Rattle.gos_programs.specs.contexts.Renaming.{renamed_store, IsInjective, beside}
 use Rattle.gos_programs.proofs.contexts.StoreLemmas.{first_at, later_at}
 
@@ -21,12 +22,8 @@ entry_beside r inj (e ∷ s) f l h =
     (λ other g. let u = ne_eqb (r e.place) (r l) (λ q. other (inj e.place l q)) in rw (g, u) (entry_beside r inj s f l h))
 
 -- nothing changes where nothing is
-put_nowhere : (f : Store) (l k : ℕ) → entry_at f l ≡ None → store_put f l k ≡ f
-put_nowhere [] l k h = refl
-put_nowhere (e ∷ f) l k h =
-    number_cases e.place l
-    (λ same t. let bad : Some e ≡ None = sym (first_at e f l same) ∙ h in absurd cc)
-    (λ other g. let rest : entry_at f l ≡ None = sym (later_at e f l other) ∙ h in rw g (λ i. e ∷ put_nowhere f l k rest i))
+put_nowhere : (f : Store) (l j k : ℕ) → entry_at f l ≡ None → store_put f l j k ≡ f
+put_nowhere f l j k h = outside_changes_nothing f l j k (ap (λ (o : Option Entry). number_in o j) h)
 
 without_nowhere : (f : Store) (l : ℕ) → entry_at f l ≡ None → without f l ≡ f
 without_nowhere [] l h = refl
@@ -35,15 +32,15 @@ without_nowhere (e ∷ f) l h =
     (λ same t. let bad : Some e ≡ None = sym (first_at e f l same) ∙ h in absurd cc)
     (λ other g. let rest : entry_at f l ≡ None = sym (later_at e f l other) ∙ h in rw g (λ i. e ∷ without_nowhere f l rest i))
 
-pub put_beside : (r : ℕ → ℕ) → IsInjective r → (s f : Store) (l k : ℕ) → entry_at f (r l) ≡ None
-    → beside r (store_put s l k) f ≡ store_put (beside r s f) (r l) k
-put_beside r inj [] f l k h = sym (put_nowhere f (r l) k h)
-put_beside r inj (e ∷ s) f l k h =
+pub put_beside : (r : ℕ → ℕ) → IsInjective r → (s f : Store) (l j k : ℕ) → entry_at f (r l) ≡ None
+    → beside r (store_put s l j k) f ≡ store_put (beside r s f) (r l) j k
+put_beside r inj [] f l j k h = sym (put_nowhere f (r l) j k h)
+put_beside r inj (e ∷ s) f l j k h =
     number_cases e.place l
     (λ same t. let u = eq-eqb (r e.place) (r l) (ap r same) in rw (t, u) refl)
     (λ other g.
     let u = ne_eqb (r e.place) (r l) (λ q. other (inj e.place l q)) in
-    rw (g, u) (λ i. record e { place = r e.place } ∷ put_beside r inj s f l k h i))
+    rw (g, u) (λ i. record e { place = r e.place } ∷ put_beside r inj s f l j k h i))
 
 pub without_beside : (r : ℕ → ℕ) → IsInjective r → (s f : Store) (l : ℕ) → entry_at f (r l) ≡ None
     → beside r (without s l) f ≡ without (beside r s f) (r l)

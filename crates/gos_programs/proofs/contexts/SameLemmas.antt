@@ -2,7 +2,7 @@
 use Rattle.std.specs.Prelude.{◌≡◌, ◌⊎◌, ℕ, IsTrue, [], ◌∷◌, ◌++◌, Option, Some, None, nat_eq, if◌then◌else◌}
 use Rattle.std.proofs.Common.{refl, sym, ap, subst, inl, inr, ◌∙◌}
 use Rattle.gos_model.specs.Terms.{Term, Seq, Par, If, While, Assign, Deref, New, Not, Bin, Scope, Held, Put}
-use Rattle.gos_model.specs.Stores.{Entry, Store, entry_at, store_put, without}
+use Rattle.gos_model.specs.Stores.{Entry, variable_at, Store, entry_at, store_put, without}
 use Rattle.gos_model.specs.Reach.{Rel}
 use Rattle.gos_model.specs.Steps.{Computes, Steps}
 use Rattle.gos_model.specs.Labels.{Label, is_output}
@@ -48,12 +48,12 @@ same_without s t k h l =
     (λ e y. subst (λ (x : ℕ). entry_at (without s k) x ≡ entry_at (without t k) x) e (without_same s k ∙ sym (without_same t k)))
     (λ other n. without_other s k l other ∙ (h l ∙ sym (without_other t k l other)))
 
-same_put : (s t : Store) (k n : ℕ) → SameEntries s t → SameEntries (store_put s k n) (store_put t k n)
-same_put s t k n h l =
+same_put : (s t : Store) (k j n : ℕ) → SameEntries s t → SameEntries (store_put s k j n) (store_put t k j n)
+same_put s t k j n h l =
     number_cases k l
-    (λ e y. subst (λ (x : ℕ). entry_at (store_put s k n) x ≡ entry_at (store_put t k n) x) e
-    (put_same s k n ∙ (ap (numbered n) (h k) ∙ sym (put_same t k n))))
-    (λ other f. put_other s k n l other ∙ (h l ∙ sym (put_other t k n l other)))
+    (λ e y. subst (λ (x : ℕ). entry_at (store_put s k j n) x ≡ entry_at (store_put t k j n) x) e
+    (put_same s k j n ∙ (ap (numbered j n) (h k) ∙ sym (put_same t k j n))))
+    (λ other f. put_other s k j n l other ∙ (h l ∙ sym (put_other t k j n l other)))
 
 -- a change from store t, to a store that has what s' has
 abbrev From : Store → Store → Rel
@@ -74,14 +74,14 @@ same_row s s' t h (Bin op m n) b (k, w, em, et, es) = from_row s' t t (Bin op m 
 same_row s s' t h (Held k op n) b (j, w, en, et, es) = from_row s' t t (Held k op n) b (after s s' t t es h) (j, w, en, et, refl)
 same_row s s' t h (Not m) b (k, w, em, et, es) = from_row s' t t (Not m) b (after s s' t t es h) (k, w, em, et, refl)
 same_row s s' t h (Assign m n) b (k, w, en, et, es) = from_row s' t t (Assign m n) b (after s s' t t es h) (k, w, en, et, refl)
-same_row s s' t h (Put m k) b (e, em, here, et, es) =
+same_row s s' t h (Put m k) b (e, old, em, here, has, et, es) =
     let l : ℕ = e.place in
-    from_row s' t (store_put t l k) (Put m k) b (after (store_put s l k) s' t (store_put t l k) es (same_put s t l k h))
-    (e, em, sym (h l) ∙ here, et, refl)
-same_row s s' t h (Deref m) b (e, em, here, et, es) =
-    from_row s' t t (Deref m) b (after s s' t t es h) (e, em, sym (h e.place) ∙ here, et, refl)
+    from_row s' t (store_put t l 0 k) (Put m k) b (after (store_put s l 0 k) s' t (store_put t l 0 k) es (same_put s t l 0 k h))
+    (e, old, em, sym (h l) ∙ here, has, et, refl)
+same_row s s' t h (Deref m) b (e, old, em, here, has, et, es) =
+    from_row s' t t (Deref m) b (after s s' t t es h) (e, old, em, sym (h e.place) ∙ here, has, et, refl)
 same_row s s' t h (New w m) b (l, absent, et, es) =
-    let e : Entry = record { place = l; width = w; number = 0 } in
+    let e : Entry = variable_at l w 0 in
     from_row s' t (e ∷ t) (New w m) b (after (e ∷ s) s' t (e ∷ t) es (same_more e s t h)) (l, sym (h l) ∙ absent, et, refl)
 same_row s s' t h (Scope l m) b (is, et, es) =
     from_row s' t (without t l) (Scope l m) b (after (without s l) s' t (without t l) es (same_without s t l h)) (is, et, refl)

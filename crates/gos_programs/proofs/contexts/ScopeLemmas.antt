@@ -5,7 +5,7 @@ use Rattle.gos_types.specs.Types.{Type', Com, Exp, Var}
 use Rattle.gos_model.specs.Terms.{Name, Term, Lit, Import, App, Fst, Snd, Seq, Par, If, While, Assign, Deref, New, Not, Bin, Loc, Scope, Wait, Held, Put, Both}
 use Rattle.gos_model.specs.Substitution.{instantiate}
 use Rattle.gos_model.specs.Typing.{Imports, import_type}
-use Rattle.gos_model.specs.Stores.{Entry, Store, entry_at, without}
+use Rattle.gos_model.specs.Stores.{Entry, variable_at, Store, entry_at, without}
 use Rattle.gos_model.specs.Reach.{Rel, InIndex}
 use Rattle.gos_model.specs.Steps.{Computes, IsValue}
 use Rattle.gos_model.specs.Labels.{Label, IsAnswer}
@@ -95,7 +95,7 @@ shrinks s s' a b less shut i = (i, λ l p h. elim h [ inl o ↦ absurd (shut l p
 
 -- a block that opens
 opens : (s s' : Store) (w : ℕ) (m b : Term) (x : ℕ) → IsShut m → b ≡ Scope x (instantiate m (Loc x))
-    → s' ≡ record { place = x; width = w; number = 0 } ∷ s → Kept s s' (New w m) b
+    → s' ≡ variable_at x w 0 ∷ s → Kept s s' (New w m) b
 opens s s' w m b x shut eb es =
     subst (λ (y : Term). Kept s s' (New w m) y) (sym eb) (
       shut_in_place (instantiate m (Loc x)) (shut_put m 0 (Loc x) tt shut),
@@ -104,7 +104,7 @@ opens s s' w m b x shut eb es =
   where
     new : (l : ℕ) → Present s' l → Absent s l → (x ≡ l → ⊥) → ⊥
     new l (d, h) g other =
-        let first : Entry = record { place = x; width = w; number = 0 } in
+        let first : Entry = variable_at x w 0 in
         not_both (entry_at s' l) d (ap (λ (y : Store). entry_at y l) es ∙ (later_at first s l other ∙ g)) h
 
 -- a block that closes
@@ -198,9 +198,9 @@ rows_keep s s' (Not m) b (k, w, em, et, es) i =
     stays s s' (Not m) b es (lit_shut k w m em) (subst OpensInPlace (sym et) tt)
 rows_keep s s' (Assign m n) b (k, w, en, et, es) (i, j) =
     stays s s' (Assign m n) b es (lit_shut k w n en) (subst OpensInPlace (sym et) (inl i))
-rows_keep s s' (Put m k) b (e, em, here, et, es) i =
-    shrinks s s' (Put m k) b (λ x g. ap (λ (y : Store). entry_at y x) es ∙ put_absent s e.place k x g) (λ x p o. loc_not_open m e.place em x o) (subst OpensInPlace (sym et) tt)
-rows_keep s s' (Deref m) b (e, em, at, et, es) i =
+rows_keep s s' (Put m k) b (e, old, em, here, has, et, es) i =
+    shrinks s s' (Put m k) b (λ x g. ap (λ (y : Store). entry_at y x) es ∙ put_absent s e.place 0 k x g) (λ x p o. loc_not_open m e.place em x o) (subst OpensInPlace (sym et) tt)
+rows_keep s s' (Deref m) b (e, old, em, at, has, et, es) i =
     stays s s' (Deref m) b es (loc_not_open m e.place em) (subst OpensInPlace (sym et) tt)
 rows_keep s s' (New w m) b (l, absent, et, es) i = opens s s' w m b l i et es
 rows_keep s s' (Scope k m) b (is, et, es) i = closes s s' k m b i is et es

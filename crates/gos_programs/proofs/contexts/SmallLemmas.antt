@@ -5,7 +5,7 @@ use Rattle.std.proofs.Common.{arith, refl, sym, ap, subst, inl, inr, ◌∙◌}
 use Rattle.std.proofs.lemmas.Option.{none-some}
 use Rattle.gos_types.specs.Types.{Com, Var}
 use Rattle.gos_types.proofs.BytesLemmas.{same_bytes_eq}
-use Rattle.gos_model.specs.Stores.{Entry, entry_at}
+use Rattle.gos_model.specs.Stores.{Entry, variable_at, entry_at}
 use Rattle.gos_model.specs.Terms.{Name}
 use Rattle.gos_model.specs.Typing.{import_type}
 use Rattle.gos_model.specs.Labels.{Port, Given, Taken}
@@ -39,7 +39,7 @@ index_is_not_alone h = h
 
 -- what a store of one entry has
 only_at : (k l : ℕ) → (k ≡ l → ⊥) → entry_at (one_at k) l ≡ None
-only_at k l other = later_at (record { place = k; width = 1; number = 0 }) [] l other
+only_at k l other = later_at (variable_at k 1 0) [] l other
 
 none_next : (l : ℕ) → entry_at (one_at 0) (suc l) ≡ None
 none_next l = only_at 0 (suc l) (λ h. omega (arith, h))
@@ -49,10 +49,10 @@ at_home zero e h = refl
 at_home (suc l) e h = absurd (none-some e (sym (none_next l) ∙ h))
 
 pub stores_keep_scopes : StoresKeepScopes
-stores_keep_scopes = ((inl tt, λ l e h. inl (at_home l e h)), λ h. h.1 0 (record { place = 0; width = 1; number = 0 }) refl)
+stores_keep_scopes = ((inl tt, λ l e h. inl (at_home l e h)), λ h. h.1 0 (variable_at 0 1 0) refl)
 
 pub locations_stand : LocationsStand
-locations_stand = (((record { place = 0; width = 1; number = 0 }, refl), (record { place = 0; width = 1; number = 0 }, refl)), λ h. none-some h.0.0 h.0.1)
+locations_stand = (((variable_at 0 1 0, refl), (variable_at 0 1 0, refl)), λ h. none-some h.0.0 h.0.1)
 
 pub locations_are_scoped : LocationsAreScoped
 locations_are_scoped = (inl refl, λ h. h.1)
@@ -73,7 +73,7 @@ pub renamings_tell_apart : RenamingsTellApart
 renamings_tell_apart = (next_apart, λ h. let e : 0 ≡ 1 = h 0 1 refl in omega (arith, e))
 
 pub zero_is_free : ZeroIsFree
-zero_is_free = (none_next, λ h. there_some (record { place = 1; width = 1; number = 0 }) (h 0))
+zero_is_free = (none_next, λ h. there_some (variable_at 1 1 0) (h 0))
 
 pub none_are_among_some : NoneAreAmongSome
 none_are_among_some = (λ x t h. absurd (none-some t h), λ h. none-some Com (h c Com refl))
@@ -81,21 +81,21 @@ none_are_among_some = (λ x t h. absurd (none-some t h), λ h. none-some Com (h 
 pub names_are_known : NamesAreKnown
 names_are_known = ((Com, refl), λ h. none-some h.0 h.1)
 
-zero_first : (l : ℕ) → entry_at (record { place = 0; width = 1; number = 0 } ∷ one_at 1) l
-    ≡ entry_at (record { place = 1; width = 1; number = 0 } ∷ one_at 0) l
+zero_first : (l : ℕ) → entry_at (variable_at 0 1 0 ∷ one_at 1) l
+    ≡ entry_at (variable_at 1 1 0 ∷ one_at 0) l
 zero_first l =
     number_cases 0 l
-    (λ here t. subst (λ (k : ℕ). entry_at (record { place = 0; width = 1; number = 0 } ∷ one_at 1) k
-    ≡ entry_at (record { place = 1; width = 1; number = 0 } ∷ one_at 0) k) here refl)
+    (λ here t. subst (λ (k : ℕ). entry_at (variable_at 0 1 0 ∷ one_at 1) k
+    ≡ entry_at (variable_at 1 1 0 ∷ one_at 0) k) here refl)
     (λ other f.
-    later_at (record { place = 0; width = 1; number = 0 }) (one_at 1) l other
+    later_at (variable_at 0 1 0) (one_at 1) l other
     ∙ sym (number_cases 1 l
-    (λ here t. first_at (record { place = 1; width = 1; number = 0 }) (one_at 0) l here
-    ∙ sym (first_at (record { place = 1; width = 1; number = 0 }) [] l here))
-    (λ apart g. later_at (record { place = 1; width = 1; number = 0 }) (one_at 0) l apart ∙ (only_at 0 l other ∙ sym (only_at 1 l apart)))))
+    (λ here t. first_at (variable_at 1 1 0) (one_at 0) l here
+    ∙ sym (first_at (variable_at 1 1 0) [] l here))
+    (λ apart g. later_at (variable_at 1 1 0) (one_at 0) l apart ∙ (only_at 0 l other ∙ sym (only_at 1 l apart)))))
 
 pub entries_in_any_order : EntriesInAnyOrder
-entries_in_any_order = (zero_first, λ h. there_some (record { place = 0; width = 1; number = 0 }) (h 0))
+entries_in_any_order = (zero_first, λ h. there_some (variable_at 0 1 0) (h 0))
 
 apart : (l : ℕ) → (entry_at (one_at 0) l ≡ None) ⊎ (entry_at (one_at 1) l ≡ None)
 apart zero = inr refl
@@ -105,11 +105,11 @@ pub stores_are_apart : StoresAreApart
 stores_are_apart = (apart, λ h. both (h 0))
   where
     both : (entry_at (one_at 0) 0 ≡ None) ⊎ (entry_at (one_at 0) 0 ≡ None) → ⊥
-    both (inl e) = there_some (record { place = 0; width = 1; number = 0 }) e
-    both (inr e) = there_some (record { place = 0; width = 1; number = 0 }) e
+    both (inl e) = there_some (variable_at 0 1 0) e
+    both (inr e) = there_some (variable_at 0 1 0) e
 
 pub store_is_held : StoreIsHeld
-store_is_held = ((next_apart, (λ l. refl), λ l. refl), λ h. there_some (record { place = 0; width = 1; number = 0 }) (h.2 0))
+store_is_held = ((next_apart, (λ l. refl), λ l. refl), λ h. there_some (variable_at 0 1 0) (h.2 0))
 
 pub location_is_placed : LocationIsPlaced
 location_is_placed = (refl, refl)

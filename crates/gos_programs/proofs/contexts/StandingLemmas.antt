@@ -1,11 +1,11 @@
 -- In a run of a source each location has its entry.
-use Rattle.std.specs.Prelude.{◌≡◌, ◌⊎◌, ℕ, zero, suc, List, [], ◌∷◌, Option, Some, None}
+use Rattle.std.specs.Prelude.{◌≡◌, ◌⊎◌, ℕ, zero, suc, List, [], ◌∷◌, Option, Some, None, set}
 use Rattle.std.proofs.Common.{refl, sym, ap, subst, inl, inr, ◌∙◌}
 use Rattle.gos_types.specs.Types.{Type', Com, Exp, Var}
 use Rattle.gos_model.specs.Terms.{Name, Term, Skip, Lit, Bound, Import, Lam, App, Both, Fst, Snd, Seq, Par, If, While, Assign, Deref, New, Not, Bin, Loc, Scope, Wait, Held, Put}
 use Rattle.gos_model.specs.Substitution.{instantiate}
 use Rattle.gos_model.specs.Typing.{Imports, import_type}
-use Rattle.gos_model.specs.Stores.{Entry, Store, entry_at, store_put}
+use Rattle.gos_model.specs.Stores.{Entry, variable_at, Store, entry_at, store_put}
 use Rattle.gos_model.specs.Reach.{Rel}
 use Rattle.gos_model.specs.Steps.{Computes, IsValue}
 use Rattle.gos_model.specs.Labels.{Label, IsAnswer}
@@ -139,14 +139,14 @@ ends s s' a b shut rest =
 same : (s s' : Store) (a b : Term) → s' ≡ s → IsShut b → Follows s s' a b
 same s s' a b e shut = ends s s' a b shut (λ l p not. subst (λ (x : Store). Present x l) (sym e) p)
 
-put_present : (s : Store) (x k l : ℕ) → Present s l → Present (store_put s x k) l
-put_present s x k l (e, h) =
+put_present : (s : Store) (x j k l : ℕ) → Present s l → Present (store_put s x j k) l
+put_present s x j k l (e, h) =
     number_cases x l
     (λ is y.
-    let here : entry_at (store_put s x k) x ≡ Some (record e { number = k }) =
-    put_same s x k ∙ ap (numbered k) (ap (entry_at s) is ∙ h) in
-    subst (Present (store_put s x k)) is (record e { number = k }, here))
-    (λ other f. (e, put_other s x k l other ∙ h))
+    let here : entry_at (store_put s x j k) x ≡ Some (record e { numbers = set e.numbers j k }) =
+    put_same s x j k ∙ ap (numbered j k) (ap (entry_at s) is ∙ h) in
+    subst (Present (store_put s x j k)) is (record e { numbers = set e.numbers j k }, here))
+    (λ other f. (e, put_other s x j k l other ∙ h))
 
 value_is_shut : (v : Term) → IsValue v → IsShut v
 value_is_shut v (inl e) = subst IsShut (sym e) tt
@@ -162,11 +162,11 @@ row_stay s s' (Bin op m n) b (k, w, em, et, es) (i, j) d t = same s s' (Bin op m
 row_stay s s' (Held k op n) b (j, w, en, et, es) i d t = same s s' (Held k op n) b es (subst IsShut (sym et) tt)
 row_stay s s' (Not m) b (k, w, em, et, es) i d t = same s s' (Not m) b es (subst IsShut (sym et) tt)
 row_stay s s' (Assign m n) b (k, w, en, et, es) (i, j) d t = same s s' (Assign m n) b es (subst IsShut (sym et) i)
-row_stay s s' (Put m k) b (e, em, here, et, es) i d t =
-    ends s s' (Put m k) b (subst IsShut (sym et) tt) (λ x p not. subst (λ (y : Store). Present y x) (sym es) (put_present s e.place k x p))
-row_stay s s' (Deref m) b (e, em, here, et, es) i d t = same s s' (Deref m) b es (subst IsShut (sym et) tt)
+row_stay s s' (Put m k) b (e, old, em, here, has, et, es) i d t =
+    ends s s' (Put m k) b (subst IsShut (sym et) tt) (λ x p not. subst (λ (y : Store). Present y x) (sym es) (put_present s e.place 0 k x p))
+row_stay s s' (Deref m) b (e, old, em, here, has, et, es) i d t = same s s' (Deref m) b es (subst IsShut (sym et) tt)
 row_stay s s' (New w m) b (x, absent, et, es) i d t =
-    let e : Entry = record { place = x; width = w; number = 0 } in
+    let e : Entry = variable_at x w 0 in
     let body = instantiate m (Loc x) in
     let shut : IsShut body = shut_put m 0 (Loc x) tt i in
     let stores = λ (y : Store) (l : ℕ). Present y l in

@@ -1,15 +1,16 @@
 -- Steps and labels keep types, and a step keeps the widths of the locations that stay.
 use Rattle.gos_model.specs.Accesses.{IsArrayImport}
-use Rattle.std.specs.Prelude.{◌≡◌, ℕ, zero, suc, ◌+◌, ◌-◌, ◌^◌, ◌<◌, List, [], ◌∷◌, ◌⊎◌, Bool, true, false, Option, Some, None, nat_eq, nat_lt, if◌then◌else◌}
+use Rattle.std.specs.Prelude.{◌≡◌, ℕ, zero, suc, ◌+◌, ◌-◌, ◌^◌, ◌<◌, List, [], ◌∷◌, set, ◌⊎◌, Bool, true, false, Option, Some, None, nat_eq, nat_lt, if◌then◌else◌}
 use Rattle.std.proofs.Common.{arith, refl, sym, ap, subst, inl, inr, ◌∙◌}
 use Rattle.std.proofs.lemmas.Nat.{pow_pos, mod_below, and_le_l, or_lt, xor_lt}
-use Rattle.std.proofs.lemmas.Option.{same_Some}
+use Rattle.std.proofs.lemmas.List.{length-set}
+use Rattle.std.proofs.lemmas.Option.{none-some, same_Some}
 use Rattle.gos_types.specs.Types.{Type', Com, Exp, Var, Fun, Pair}
 use Rattle.gos_types.proofs.TypeLemmas.{same_expression_width, same_variable_width}
 use Rattle.gos_model.specs.Terms.{Op, Add, Sub, And, Or, Xor, Eq, Less, Term, Skip, Lit, Import, Seq, Par, If, While, Assign, Deref, New, Not, Bin, Loc, Scope, Wait, Held, Put, result_of, result_width, complement, Name, App, Both}
 use Rattle.gos_model.specs.Substitution.{instantiate}
 use Rattle.gos_model.specs.Typing.{Imports, import_type}
-use Rattle.gos_model.specs.Stores.{Entry, Store, entry_at, store_put, without}
+use Rattle.gos_model.specs.Stores.{Entry, variable_at, Store, entry_at, store_put, without}
 use Rattle.gos_model.specs.Reach.{Rel}
 use Rattle.gos_model.specs.Steps.{Computes}
 use Rattle.gos_model.specs.Labels.{Label, IsAnswer}
@@ -18,7 +19,7 @@ use Rattle.gos_programs.specs.contexts.Contexts.{Context, SeqFirst, ParLeft, Par
 use Rattle.gos_programs.specs.contexts.Standing.{Present}
 use Rattle.gos_programs.proofs.contexts.StoreLemmas.{not_both, first_at, later_at, without_same, without_other, numbered, put_same, put_other}
 use Rattle.gos_programs.proofs.contexts.BackwardLemmas.{OneLabel}
-use Rattle.gos_programs.specs.results.HasTypes.{Widths, widths_of, NumbersFit, AnswersWith, HasType}
+use Rattle.gos_programs.specs.results.HasTypes.{Widths, widths_of, FitIn, EntryFits, NumbersFit, AnswersWith, HasType}
 use Rattle.gos_programs.proofs.results.TypeLemmas.{widened}
 use Rattle.gos_programs.proofs.results.PutLemmas.{instantiate_typed, KeepsType}
 
@@ -99,41 +100,59 @@ location i s m l w e is here h =
     same_variable_width w at.0 at.1 ∙ (sym at.2.2 ∙ ap (λ x. x.width) (same_Some at.2.0 e (sym at.2.1 ∙ here)))
 
 -- a write
-put_fits : (s : Store) (x k w : ℕ) (e : Entry) → entry_at s x ≡ Some e → k < 2 ^ e.width → NumbersFit s → NumbersFit (store_put s x k)
-put_fits s x k w e here fits f l d at =
+set_fits : (w : ℕ) (ks : List ℕ) (j k : ℕ) → k < 2 ^ w → FitIn w ks → FitIn w (set ks j k)
+set_fits w [] j k fits f i n at = f i n at
+set_fits w (m ∷ ks) zero k fits f zero n at = subst (λ (x : ℕ). x < 2 ^ w) (same_Some k n at) fits
+set_fits w (m ∷ ks) zero k fits f (suc i) n at = f (suc i) n at
+set_fits w (m ∷ ks) (suc j) k fits f zero n at = f zero n at
+set_fits w (m ∷ ks) (suc j) k fits f (suc i) n at = set_fits w ks j k fits (λ a b h. f (suc a) b h) i n at
+
+put_fits : (s : Store) (x j k : ℕ) (e : Entry) → entry_at s x ≡ Some e → k < 2 ^ e.width → NumbersFit s → NumbersFit (store_put s x j k)
+put_fits s x j k e here fits f l d at =
+    let was : EntryFits e = f x e here in
     number_cases x l
     (λ same yes.
-    let there : entry_at (store_put s x k) l ≡ Some (record e { number = k }) =
-    subst (λ (y : ℕ). entry_at (store_put s x k) y ≡ Some (record e { number = k })) same (put_same s x k ∙ ap (numbered k) here) in
-    subst (λ (y : Entry). y.number < 2 ^ y.width) (same_Some (record e { number = k }) d (sym there ∙ at)) fits)
-    (λ other no. f l d (sym (put_other s x k l other) ∙ at))
+    let o : Entry = record e { numbers = set e.numbers j k } in
+    let there : entry_at (store_put s x j k) l ≡ Some o =
+    subst (λ (y : ℕ). entry_at (store_put s x j k) y ≡ Some o) same (put_same s x j k ∙ ap (numbered j k) here) in
+    subst EntryFits (same_Some o d (sym there ∙ at))
+    (subst (λ (n : ℕ). 0 < n) (sym (length-set e.numbers j k)) was.0, set_fits e.width e.numbers j k fits was.1))
+    (λ other no. f l d (sym (put_other s x j k l other) ∙ at))
 
-put_stays : (s : Store) (x k : ℕ) → WidthsStay s (store_put s x k)
-put_stays s x k l w (e, at, wide) here =
+put_stays : (s : Store) (x j k : ℕ) → WidthsStay s (store_put s x j k)
+put_stays s x j k l w (e, at, wide, one) here =
     number_cases x l
-    (λ same yes. (
-      record e { number = k },
-      subst (λ (y : ℕ). entry_at (store_put s x k) y ≡ Some (record e { number = k })) same
-          (put_same s x k ∙ ap (numbered k) (subst (λ (y : ℕ). entry_at s y ≡ Some e) (sym same) at)),
+    (λ same yes.
+    let o : Entry = record e { numbers = set e.numbers j k } in (
+      o,
+      subst (λ (y : ℕ). entry_at (store_put s x j k) y ≡ Some o) same
+          (put_same s x j k ∙ ap (numbered j k) (subst (λ (y : ℕ). entry_at s y ≡ Some e) (sym same) at)),
       wide,
+      length-set e.numbers j k ∙ one,
     ))
-    (λ other no. (e, put_other s x k l other ∙ at, wide))
+    (λ other no. (e, put_other s x j k l other ∙ at, wide, one))
 
 -- a new variable
+alone_fits : (w k : ℕ) → k < 2 ^ w → FitIn w (k ∷ [])
+alone_fits w k fits zero n at = subst (λ (x : ℕ). x < 2 ^ w) (same_Some k n at) fits
+alone_fits w k fits (suc i) n at = absurd (none-some n at)
 
-new_fits : (s : Store) (x w : ℕ) → NumbersFit s → NumbersFit (record { place = x; width = w; number = 0 } ∷ s)
+pub variable_fits : (l w k : ℕ) → k < 2 ^ w → EntryFits (variable_at l w k)
+variable_fits l w k fits = (omega arith, alone_fits w k fits)
+
+new_fits : (s : Store) (x w : ℕ) → NumbersFit s → NumbersFit (variable_at x w 0 ∷ s)
 new_fits s x w f l d at =
-    let e : Entry = record { place = x; width = w; number = 0 } in
+    let e : Entry = variable_at x w 0 in
     number_cases x l
-    (λ same yes. subst (λ (y : Entry). y.number < 2 ^ y.width) (same_Some e d (sym (first_at e s l same) ∙ at)) (pow_pos w))
+    (λ same yes. subst EntryFits (same_Some e d (sym (first_at e s l same) ∙ at)) (variable_fits x w 0 (pow_pos w)))
     (λ other no. f l d (sym (later_at e s l other) ∙ at))
 
-new_stays : (s : Store) (x w : ℕ) → entry_at s x ≡ None → WidthsStay s (record { place = x; width = w; number = 0 } ∷ s)
-new_stays s x w absent l v (e, at, wide) here =
-    let o : Entry = record { place = x; width = w; number = 0 } in
+new_stays : (s : Store) (x w : ℕ) → entry_at s x ≡ None → WidthsStay s (variable_at x w 0 ∷ s)
+new_stays s x w absent l v (e, at, wide, one) here =
+    let o : Entry = variable_at x w 0 in
     number_cases x l
     (λ same yes. absurd (not_both (entry_at s l) e (subst (λ (y : ℕ). entry_at s y ≡ None) same absent) at))
-    (λ other no. (e, later_at o s l other ∙ at, wide))
+    (λ other no. (e, later_at o s l other ∙ at, wide, one))
 
 -- the end of a block
 end_fits : (s : Store) (x : ℕ) → NumbersFit s → NumbersFit (without s x)
@@ -143,10 +162,10 @@ end_fits s x f l d at =
     (λ other no. f l d (sym (without_other s x l other) ∙ at))
 
 end_stays : (s : Store) (x : ℕ) → WidthsStay s (without s x)
-end_stays s x l w (e, at, wide) (d, here) =
+end_stays s x l w (e, at, wide, one) (d, here) =
     number_cases x l
     (λ same yes. absurd (not_both (entry_at (without s x) l) d (subst (λ (y : ℕ). entry_at (without s x) y ≡ None) same (without_same s x)) here))
-    (λ other no. (e, without_other s x l other ∙ at, wide))
+    (λ other no. (e, without_other s x l other ∙ at, wide, one))
 
 after : (i : Imports) (s u v : Store) (b : Term) (t : Type') → u ≡ v → HasType (either s v) i [] b t × NumbersFit v × WidthsStay s v
     → HasType (either s u) i [] b t × NumbersFit u × WidthsStay s u
@@ -177,21 +196,21 @@ row_kept i s u (Not m) b (k, v, em, et, es) t (w, e, h) f =
 row_kept i s u (Assign m n) b (k, v, en, et, es) t (w, e, h, l) f =
     let fits = literal (widths_of s) i n k v w en l in
     same_store i s u b t es f (to_term (widths_of s) i t (Put m k) b et (w, e, subst (λ (x : ℕ). k < 2 ^ x) (sym fits.0) fits.1, h))
-row_kept i s u (Put m k) b (d, em, here, et, es) t (w, e, small, h) f =
+row_kept i s u (Put m k) b (d, old, em, here, has, et, es) t (w, e, small, h) f =
     let wide = location i s m d.place w d em here h in
-    after i s u (store_put s d.place k) b t es (
-      to_term (either s (store_put s d.place k)) i t Skip b et e,
-      put_fits s d.place k w d here (subst (λ (x : ℕ). k < 2 ^ x) wide small) f,
-      put_stays s d.place k,
+    after i s u (store_put s d.place 0 k) b t es (
+      to_term (either s (store_put s d.place 0 k)) i t Skip b et e,
+      put_fits s d.place 0 k d here (subst (λ (x : ℕ). k < 2 ^ x) wide small) f,
+      put_stays s d.place 0 k,
     )
-row_kept i s u (Deref m) b (d, em, here, et, es) t (w, e, h) f =
+row_kept i s u (Deref m) b (d, old, em, here, has, et, es) t (w, e, h) f =
     let wide = location i s m d.place w d em here h in
-    same_store i s u b t es f (to_term (widths_of s) i t (Lit d.number d.width) b et (e ∙ ap (λ x. Exp x) wide, f d.place d here))
+    same_store i s u b t es f (to_term (widths_of s) i t (Lit old d.width) b et (e ∙ ap (λ x. Exp x) wide, (f d.place d here).1 0 old has))
 row_kept i s u (New w m) b (l, absent, et, es) t (d, h) f =
-    let o : Entry = record { place = l; width = w; number = 0 } in
+    let o : Entry = variable_at l w 0 in
     after i s u (o ∷ s) b t es (
       to_term (either s (o ∷ s)) i t (Scope l (instantiate m (Loc l))) b et
-          (d, instantiate_typed (either s (o ∷ s)) i m (Loc l) (Var w) t (over_both i s (o ∷ s) m (Var w ∷ []) t h) (w, refl, inr (o, first_at o s l refl, refl))),
+          (d, instantiate_typed (either s (o ∷ s)) i m (Loc l) (Var w) t (over_both i s (o ∷ s) m (Var w ∷ []) t h) (w, refl, inr (o, first_at o s l refl, refl, refl))),
       new_fits s l w f,
       new_stays s l w absent,
     )

@@ -1,12 +1,12 @@
 -- A term with a location in the place of an import can only wait where the term with the import can only wait.
-use Rattle.std.specs.Prelude.{◌≡◌, ◌⊎◌, ℕ, Bool, true, false, if◌then◌else◌, ◌∷◌, Option, Some, None, IsTrue}
+use Rattle.std.specs.Prelude.{◌≡◌, ◌⊎◌, ℕ, Bool, true, false, if◌then◌else◌, ◌∷◌, Option, Some, None, IsTrue, slice_get, List}
 use Rattle.std.proofs.Common.{arith, refl, sym, ap, subst, inl, inr, ◌∙◌}
 use Rattle.std.specs.Str.{bytes_eq}
 use Rattle.gos_types.specs.Types.{Type', Var}
 use Rattle.gos_model.specs.Terms.{Name, Term, Skip, Lit, Import, Seq, Par, If, While, Assign, Deref, New, Not, Bin, Loc, Scope, Wait, Held, Put, result_of, result_width, complement, Both}
 use Rattle.gos_model.specs.Substitution.{instantiate}
 use Rattle.gos_model.specs.Typing.{Imports, import_type}
-use Rattle.gos_model.specs.Stores.{Entry, Store, entry_at, store_put, without}
+use Rattle.gos_model.specs.Stores.{Entry, variable_at, Store, entry_at, store_put, without}
 use Rattle.gos_model.specs.Reach.{Rel, Reached}
 use Rattle.gos_model.specs.Steps.{Computes, Steps}
 use Rattle.gos_model.specs.Labels.{Label, taken, is_output, IsAnswer}
@@ -23,6 +23,7 @@ use Rattle.gos_programs.proofs.contexts.PlacedLemmas.{name_cases}
 use Rattle.gos_programs.specs.variables.Waits.{HasNoWaitAt}
 use Rattle.gos_programs.specs.variables.PlacedBack.{IsActive, PlacedMovesBack, PlacedWaits}
 use Rattle.gos_programs.proofs.variables.PlacedBackLemmas.{wait_at, import_at, is_skip, is_lit, is_import, is_wait, is_app, is_pair, is_loc, value_back, reached_some, unfoldings_back}
+use Rattle.std.proofs.lemmas.Option.{same_Some}
 
 -- a computation step to any store, or an output
 abbrev Active : Imports → Store → Rel
@@ -95,16 +96,20 @@ module _ (y : Name) (r : ℕ → ℕ) (z w k : ℕ) (f s : Store) (i j : Imports
   label_some o a v free (inl h) = absurd h
   label_some o a v free (inr h) = absurd h
 
-  -- the entry of a location of the term
+  -- the entry, with the same numbers, of a location of the term
   entry_back : (l : ℕ) (e : Entry) → r l ≡ e.place → entry_at (beside r s f) e.place ≡ Some e
-      → (d : Entry) × (l ≡ d.place) × (entry_at s d.place ≡ Some d)
+      → (d : Entry) × (l ≡ d.place) × (entry_at s d.place ≡ Some d) × (d.numbers ≡ e.numbers)
   entry_back l e place here = found (subst (λ (x : ℕ). entry_at (beside r s f) x ≡ Some e) (sym place) here) (entry_at s l) refl
     where
       found : entry_at (beside r s f) (r l) ≡ Some e → (o : Option Entry) → entry_at s l ≡ o
-          → (d : Entry) × (l ≡ d.place) × (entry_at s d.place ≡ Some d)
+          → (d : Entry) × (l ≡ d.place) × (entry_at s d.place ≡ Some d) × (d.numbers ≡ e.numbers)
       found there None q =
           let bad : None ≡ Some e = sym (entry_beside r home.injective s f l (home.free l) ∙ ap (moved r) q) ∙ there in absurd (cc bad)
-      found there (Some d) q = let one = entry_place s l d q in (d, sym one, ap (entry_at s) one ∙ q)
+      found there (Some d) q =
+          let one = entry_place s l d q in
+          let renamed_one : record d { place = r d.place } ≡ e =
+          same_Some (record d { place = r d.place }) e (sym (entry_beside r home.injective s f l (home.free l) ∙ ap (moved r) q) ∙ there) in
+          (d, sym one, ap (entry_at s) one ∙ q, ap (λ (x : Entry). x.numbers) renamed_one)
 
   import_there : (m : Term) (k : ℕ) → m ≡ Import y → (t : Term) × Active i s (Put m k) t
   import_there m k is = (Wait y 3, inr (taken y 2 k, refl, inl (inl (y, w, is, typed, refl, refl))))
@@ -124,23 +129,25 @@ module _ (y : Name) (r : ℕ → ℕ) (z w k : ℕ) (f s : Store) (i j : Imports
       (Lit (result_of op w k j) (result_width op w), inl (s, (j, w, is_lit r y z n j w free en, refl, refl)))
   row_some u (Not m) v free (k, w, em, et, es) = (Lit (complement w k) w, inl (s, (k, w, is_lit r y z m k w free em, refl, refl)))
   row_some u (Assign m n) v free (k, w, en, et, es) = (Put m k, inl (s, (k, w, is_lit r y z n k w free.1 en, refl, refl)))
-  row_some u (Put m k) v free (e, em, here, et, es) = by_place (is_loc r y z m e.place free em)
+  row_some u (Put m k) v free (e, old, em, here, has, et, es) = by_place (is_loc r y z m e.place free em)
     where
       by_place : ((l : ℕ) × (m ≡ Loc l) × (r l ≡ e.place)) ⊎ ((m ≡ Import y) × (z ≡ e.place)) → (t : Term) × Active i s (Put m k) t
       by_place (inl (l, is, place)) =
           let d = entry_back l e place here in
-          (Skip, inl (store_put s d.0.place k, (d.0, is ∙ ap (λ (x : ℕ). Loc x) d.1, d.2, refl, refl)))
+          let number = ap (λ (ks : List ℕ). slice_get ks 0) d.3 ∙ has in
+          (Skip, inl (store_put s d.0.place 0 k, (d.0, old, is ∙ ap (λ (x : ℕ). Loc x) d.1, d.2, number, refl, refl)))
       by_place (inr (is, place)) = import_there m k is
-  row_some u (Deref m) v free (e, em, here, et, es) = by_place (is_loc r y z m e.place free em)
+  row_some u (Deref m) v free (e, old, em, here, has, et, es) = by_place (is_loc r y z m e.place free em)
     where
       by_place : ((l : ℕ) × (m ≡ Loc l) × (r l ≡ e.place)) ⊎ ((m ≡ Import y) × (z ≡ e.place)) → (t : Term) × Active i s (Deref m) t
       by_place (inl (l, is, place)) =
           let d = entry_back l e place here in
-          (Lit d.0.number d.0.width, inl (s, (d.0, is ∙ ap (λ (x : ℕ). Loc x) d.1, d.2, refl, refl)))
+          let number = ap (λ (ks : List ℕ). slice_get ks 0) d.3 ∙ has in
+          (Lit old d.0.width, inl (s, (d.0, old, is ∙ ap (λ (x : ℕ). Loc x) d.1, d.2, number, refl, refl)))
       by_place (inr (is, place)) = import_read m is
   row_some u (New n m) v free h =
       let l = above s in
-      (Scope l (instantiate m (Loc l)), inl (record { place = l; width = n; number = 0 } ∷ s, (l, above_absent s l (omega arith), refl, refl)))
+      (Scope l (instantiate m (Loc l)), inl (variable_at l n 0 ∷ s, (l, above_absent s l (omega arith), refl, refl)))
   row_some u (Scope l m) v free (is, et, es) = (m, inl (without s l, (value_back r y z m free is, refl, refl)))
   row_some u (Import x) v free h = absurd (never (bytes_eq x y) h)
     where

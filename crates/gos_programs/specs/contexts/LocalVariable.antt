@@ -10,7 +10,7 @@ use Rattle.gos_types.specs.Types.{Type', Var}
 use Rattle.gos_model.specs.Terms.{Name, Term, Skip, Lit, Bound, Import, Lam, App, Both, Fst, Snd, Seq, Par, If, While, Assign, Deref, New, Not, Bin, Loc, Scope, Wait, Held, Put}
 use Rattle.gos_model.specs.Typing.{Imports, Typed, import_type}
 use Rattle.gos_model.specs.Substitution.{instantiate}
-use Rattle.gos_model.specs.Stores.{Store, entry_at, store_put}
+use Rattle.gos_model.specs.Stores.{variable_at, Store, entry_at, store_put}
 use Rattle.gos_model.specs.Labels.{Taken, taken}
 use Rattle.gos_model.specs.Moves.{Program, Config, Running, Act, Computing, Showing, Unfoldings, Move}
 use Rattle.gos_programs.specs.contexts.Renaming.{IsInjective, IsFreeOf, beside}
@@ -58,7 +58,7 @@ pub record IsHome (r : ℕ → ℕ) (f : Store) (z w k : ℕ) : Type 0 where
   pub injective : IsInjective r
   pub free : IsFreeOf r f
   pub apart : (l : ℕ) → z ≢ r l
-  pub entry : entry_at f z ≡ Some (record { place = z; width = w; number = k })
+  pub entry : entry_at f z ≡ Some (variable_at z w k)
 
 -- it shows nothing at the import
 abbrev pub IsElsewhere : Name → Act → Type 0
@@ -109,4 +109,4 @@ abbrev pub WriteAsked : Type 0
 WriteAsked =
     (p q : Program) (y : Name) (r : ℕ → ℕ) (z w k j : ℕ) (f s u : Store) (m t : Term)
     → import_type p.imports y ≡ Some (Var w) → IsHome r f z w k → Move p (Showing (taken y 2 j)) (Running m s) (Running t u)
-    → Move q Computing (Running (placed r y z m) (beside r s f)) (Running (placed r y z t) (beside r u (store_put f z j)))
+    → Move q Computing (Running (placed r y z m) (beside r s f)) (Running (placed r y z t) (beside r u (store_put f z 0 j)))

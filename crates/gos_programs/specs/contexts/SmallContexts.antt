@@ -5,7 +5,7 @@ use Rattle.std.specs.Prelude.{◌≡◌, ℕ, suc, [], ◌∷◌}
 use Rattle.gos_types.specs.Types.{Com, Var}
 use Rattle.gos_model.specs.Terms.{Term, Skip, Lit, Import, App, Seq, Par, Assign, Deref, Loc, Scope, Wait, Put, Both}
 use Rattle.gos_model.specs.Typing.{Imports}
-use Rattle.gos_model.specs.Stores.{Store}
+use Rattle.gos_model.specs.Stores.{variable_at, Store}
 use Rattle.gos_model.specs.Labels.{given, taken}
 use Rattle.gos_model.specs.Moves.{Computing, Showing}
 use Rattle.gos_model.specs.SmallPrograms.{c}
@@ -24,7 +24,7 @@ abbrev pub block : Term
 block = Scope 0 (Put (Loc 0) 1)
 
 abbrev pub one_at : ℕ → Store
-one_at l = record { place = l; width = 1; number = 0 } ∷ []
+one_at l = variable_at l 1 0 ∷ []
 
 abbrev pub one_command : Imports
 one_command = record { name = c; ty = Com } ∷ []
@@ -89,7 +89,7 @@ NamesAreKnown = Knows one_command (Import c) × (Knows [] (Import c) → ⊥)
 -- in which order entries stand doesn't matter, and whether there are any does
 abbrev pub EntriesInAnyOrder : Type 0
 EntriesInAnyOrder =
-    SameEntries (record { place = 0; width = 1; number = 0 } ∷ one_at 1) (record { place = 1; width = 1; number = 0 } ∷ one_at 0)
+    SameEntries (variable_at 0 1 0 ∷ one_at 1) (variable_at 1 1 0 ∷ one_at 0)
     × (SameEntries (one_at 0) [] → ⊥)
 
 abbrev pub StoresAreApart : Type 0

@@ -1,25 +1,33 @@
 -- The types of running terms.
 --
 -- Read first: Typing, Stores, Labels of gos_model. `Typed` has rows for sources; here are rows for the running forms too, over
--- the widths of the locations that a store has (Wright and Felleisen 1994). What parts share is not asked: it has no bearing
+-- the widths of the variables that a store has (Wright and Felleisen 1994). What parts share is not asked: it has no bearing
 -- on the type of a result.
-use Rattle.std.specs.Prelude.{◌≡◌, ℕ, zero, suc, ◌^◌, ◌<◌, List, [], ◌∷◌, Option, Some, slice_get}
+use Rattle.std.specs.Prelude.{◌≡◌, ℕ, zero, suc, ◌^◌, ◌<◌, List, [], ◌∷◌, length, Option, Some, slice_get}
 use Rattle.gos_types.specs.Types.{Type', Com, Exp, Var, Pair, Fun, IsDone}
 use Rattle.gos_model.specs.Terms.{Term, Skip, Lit, Bound, Import, Lam, App, Both, Fst, Snd, Seq, Par, If, While, Assign, Deref, New, Not, Bin, Loc, Scope, Wait, Held, Put, result_width}
 use Rattle.gos_model.specs.Typing.{Imports, import_type}
 use Rattle.gos_model.specs.Stores.{Entry, Store, entry_at}
 
--- which width a location has
+-- which width a variable's location has
 abbrev pub Widths : Type 1
 Widths = ℕ → ℕ → Type 0
 
--- the widths of the locations of a store
+-- the widths of the variables of a store: of the locations with one number
 abbrev pub widths_of : Store → Widths
-widths_of s l w = (e : Entry) × (entry_at s l ≡ Some e) × (e.width ≡ w)
+widths_of s l w = (e : Entry) × (entry_at s l ≡ Some e) × (e.width ≡ w) × (length e.numbers ≡ 1)
 
--- each number of a store has at most the bits of its location
+-- each of these numbers has at most w bits
+abbrev pub FitIn : ℕ → List ℕ → Type 0
+FitIn w ks = (j k : ℕ) → slice_get ks j ≡ Some k → k < 2 ^ w
+
+-- a location has a number, and each of its numbers has at most its bits
+abbrev pub EntryFits : Entry → Type 0
+EntryFits e = (0 < length e.numbers) × FitIn e.width e.numbers
+
+-- so it is at each location of a store
 abbrev pub NumbersFit : Store → Type 0
-NumbersFit s = (l : ℕ) (e : Entry) → entry_at s l ≡ Some e → e.number < 2 ^ e.width
+NumbersFit s = (l : ℕ) (e : Entry) → entry_at s l ≡ Some e → EntryFits e
 
 -- The type of what the answer with this event number leaves, at a port of this type. In the access of an array what
 -- waits takes a pair, of the index as it was written and as it is now.

@@ -215,8 +215,8 @@ row_value s s' (HeldRight k op) z t (j, w, en, et, es) = inr (j, w, en)
 row_value s s' NotOf z t (k, w, em, et, es) = inr (k, w, em)
 row_value s s' (AssignRight n) z t (k, w, en, et, es) = inr (k, w, en)
 row_value s s' (ScopeBody l) z t (is, et, es) = is
-row_value s s' (ReadIndex x n) z t (e, em, here, et, es) = absurd (cc em)
-row_value s s' (WriteIndex x n k) z t (e, em, here, et, es) = absurd (cc em)
+row_value s s' (ReadIndex x n) z t (e, old, em, here, has, et, es) = absurd (cc em)
+row_value s s' (WriteIndex x n k) z t (e, old, em, here, has, et, es) = absurd (cc em)
 
 context_value : (i : Imports) (a : Doing) (s s' : Store) (rest : List ℕ) (c : Context) (z t : Term) → Here i a s s' rest (plug c z) t → IsValue z
 context_value i Unfolding s s' rest c z t (h, e) = absurd (no_head c z t (one_of rest (plug c z) t h))
@@ -283,8 +283,8 @@ no_lower_import : (m : Term) (x : Name) (v : Term) → m ≡ Import x → Lower 
 no_lower_import m x v e h = neither (subst (λ (z : Term). Lower z v) e h)
 
 head_no_row : (s s' : Store) (m t v : Term) → OneHead m v → Computes s s' m t → ⊥
-head_no_row s s' (Put m k) t v (inr (c, e, h)) (d, em, here, et, es) = no_lower_loc m d.place c em h
-head_no_row s s' (Deref m) t v (inr (c, e, h)) (d, em, here, et, es) = no_lower_loc m d.place c em h
+head_no_row s s' (Put m k) t v (inr (c, e, h)) (d, old, em, here, has, et, es) = no_lower_loc m d.place c em h
+head_no_row s s' (Deref m) t v (inr (c, e, h)) (d, old, em, here, has, et, es) = no_lower_loc m d.place c em h
 head_no_row s s' (App m n) t v h g = g
 head_no_row s s' (Fst m) t v h g = g
 head_no_row s s' (Snd m) t v h g = g
@@ -329,8 +329,8 @@ loc_not_shown i o m l em (x, port, inl ex) = loc_no_import m l x em ex
 loc_not_shown i o m l em (x, port, inr ((h, n, ea, is), array)) = let bad : Loc l ≡ App h n = sym em ∙ ea in absurd (cc bad)
 
 row_no_label : (s s' : Store) (i : Imports) (o : Label) (m t v : Term) → Computes s s' m t → OneLabel i o m v → ⊥
-row_no_label s s' i o (Put m k) t v (d, em, here, et, es) h = loc_not_shown i o m d.place em (shown_write i o m v k h)
-row_no_label s s' i o (Deref m) t v (d, em, here, et, es) h = loc_not_shown i o m d.place em (shown_read i o m v h)
+row_no_label s s' i o (Put m k) t v (d, old, em, here, has, et, es) h = loc_not_shown i o m d.place em (shown_write i o m v k h)
+row_no_label s s' i o (Deref m) t v (d, old, em, here, has, et, es) h = loc_not_shown i o m d.place em (shown_read i o m v h)
 row_no_label s s' i o (Import x) t v h g = h
 row_no_label s s' i o (Wait x n) t v h g = h
 row_no_label s s' i o m t v h (inl g) = absurd g

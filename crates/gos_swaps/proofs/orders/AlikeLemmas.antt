@@ -3,7 +3,7 @@ use Rattle.std.specs.Prelude.{◌≡◌, ℕ, [], ◌∷◌, Option, Some, None}
 use Rattle.std.proofs.Common.{refl, sym, ap, subst, ◌∙◌}
 use Rattle.std.proofs.lemmas.Bool.{eq-eqb, ne_eqb}
 use Rattle.gos_model.specs.Terms.{Term}
-use Rattle.gos_model.specs.Stores.{Entry, Store, entry_at, store_put, without}
+use Rattle.gos_model.specs.Stores.{Entry, variable_at, Store, entry_at, store_put, without}
 use Rattle.gos_model.specs.Moves.{Idle, Running}
 use Rattle.gos_model.proofs.NumberLemmas.{number_cases}
 use Rattle.gos_programs.specs.contexts.Renaming.{renamed, renamed_store, IsInjective}
@@ -97,21 +97,21 @@ alike_on (Running m s) (Running t u) (Running x w) (r, et, h) (q, ex, k) =
     (λ l. corresponds q u w k (r.to l) ∙ (ap (carried q.to) (corresponds r s u h l) ∙ carried_on q.to r.to (entry_at s l)))
 
 -- an effect on stores that correspond
-numbered_carried : (r : ℕ → ℕ) (k : ℕ) (o : Option Entry) → numbered k (carried r o) ≡ carried r (numbered k o)
-numbered_carried r k None = refl
-numbered_carried r k (Some e) = refl
+numbered_carried : (r : ℕ → ℕ) (j k : ℕ) (o : Option Entry) → numbered j k (carried r o) ≡ carried r (numbered j k o)
+numbered_carried r j k None = refl
+numbered_carried r j k (Some e) = refl
 
 applied_corresponds : (e : Effect) (r : ℕ → ℕ) → IsInjective r → (s s' : Store) → Corresponds r s s'
     → Corresponds r (applied e s) (applied (renamed_effect r e) s')
 applied_corresponds Stays r inj s s' h x = h x
-applied_corresponds (Writes l k) r inj s s' h x =
+applied_corresponds (Writes l j k) r inj s s' h x =
     number_cases l x
-    (λ same b. subst (λ (z : ℕ). entry_at (store_put s' (r l) k) (r z) ≡ carried r (entry_at (store_put s l k) z)) same
-    (put_same s' (r l) k ∙ (ap (numbered k) (h l) ∙ (numbered_carried r k (entry_at s l) ∙ ap (carried r) (sym (put_same s l k))))))
-    (λ other b. put_other s' (r l) k (r x) (λ q. other (inj l x q)) ∙ (h x ∙ ap (carried r) (sym (put_other s l k x other))))
+    (λ same b. subst (λ (z : ℕ). entry_at (store_put s' (r l) j k) (r z) ≡ carried r (entry_at (store_put s l j k) z)) same
+    (put_same s' (r l) j k ∙ (ap (numbered j k) (h l) ∙ (numbered_carried r j k (entry_at s l) ∙ ap (carried r) (sym (put_same s l j k))))))
+    (λ other b. put_other s' (r l) j k (r x) (λ q. other (inj l x q)) ∙ (h x ∙ ap (carried r) (sym (put_other s l j k x other))))
 applied_corresponds (Opens l w) r inj s s' h x =
-    let e : Entry = record { place = l; width = w; number = 0 } in
-    let e' : Entry = record { place = r l; width = w; number = 0 } in
+    let e : Entry = variable_at l w 0 in
+    let e' : Entry = variable_at (r l) w 0 in
     number_cases l x
     (λ same b. first_at e' s' (r x) (ap r same) ∙ ap (carried r) (sym (first_at e s x same)))
     (λ other b. later_at e' s' (r x) (λ q. other (inj l x q)) ∙ (h x ∙ ap (carried r) (sym (later_at e s x other))))
@@ -123,7 +123,7 @@ applied_corresponds (Closes l) r inj s s' h x =
 
 free_there : (e : Effect) (r : ℕ → ℕ) (s s' : Store) → Corresponds r s s' → IsFree e s → IsFree (renamed_effect r e) s'
 free_there Stays r s s' h g = tt
-free_there (Writes l k) r s s' h g = tt
+free_there (Writes l j k) r s s' h g = tt
 free_there (Opens l w) r s s' h g = h l ∙ ap (carried r) g
 free_there (Closes l) r s s' h g = tt
 

@@ -3,7 +3,7 @@ use Rattle.std.specs.Prelude.{◌≡◌, ℕ, List, [], ◌∷◌, ◌++◌, Con
 use Rattle.std.proofs.Common.{refl, sym, ap, subst, inl, inr, ◌∙◌}
 use Rattle.gos_model.specs.Terms.{Term, Seq, Par, If, While, Assign, Deref, New, Not, Bin, Loc, Scope, Held, Put}
 use Rattle.gos_model.specs.Typing.{Imports, Place, things}
-use Rattle.gos_model.specs.Stores.{Entry, Store, entry_at, store_put, without}
+use Rattle.gos_model.specs.Stores.{Entry, variable_at, Store, entry_at, store_put, without}
 use Rattle.gos_model.specs.Paths.{ReachedAt}
 use Rattle.gos_model.specs.Steps.{Computes, IsValue}
 use Rattle.gos_model.proofs.NumberLemmas.{number_cases}
@@ -36,21 +36,21 @@ row_effect s u (Bin op m n) b (k, w, em, et, es) = (Stays, es, tt, tt, λ r s' f
 row_effect s u (Held k op n) b (j, w, en, et, es) = (Stays, es, tt, tt, λ r s' f g. (j, w, ap (renamed r) en, ap (renamed r) et, refl))
 row_effect s u (Not m) b (k, w, em, et, es) = (Stays, es, tt, tt, λ r s' f g. (k, w, ap (renamed r) em, ap (renamed r) et, refl))
 row_effect s u (Assign m n) b (k, w, en, et, es) = (Stays, es, tt, tt, λ r s' f g. (k, w, ap (renamed r) en, ap (renamed r) et, refl))
-row_effect s u (Put m k) b (e, em, here, et, es) =
+row_effect s u (Put m k) b (e, old, em, here, has, et, es) =
     let own : Contains (things 0 m) (Place e.place) = subst (λ (z : Term). Contains (things 0 z) (Place e.place)) (sym em) (there (Place e.place)) in (
-      Writes e.place k,
+      Writes e.place 0 k,
       es,
       tt,
       own,
-      λ r s' f g. (record e { place = r e.place }, ap (renamed r) em, f e.place own ∙ ap (carried r) here, ap (renamed r) et, refl),
+      λ r s' f g. (record e { place = r e.place }, old, ap (renamed r) em, f e.place own ∙ ap (carried r) here, has, ap (renamed r) et, refl),
     )
-row_effect s u (Deref m) b (e, em, here, et, es) =
+row_effect s u (Deref m) b (e, old, em, here, has, et, es) =
     let own : Contains (things 0 m) (Place e.place) = subst (λ (z : Term). Contains (things 0 z) (Place e.place)) (sym em) (there (Place e.place)) in (
       Stays,
       es,
       tt,
       tt,
-      λ r s' f g. (record e { place = r e.place }, ap (renamed r) em, f e.place own ∙ ap (carried r) here, ap (renamed r) et, refl),
+      λ r s' f g. (record e { place = r e.place }, old, ap (renamed r) em, f e.place own ∙ ap (carried r) here, has, ap (renamed r) et, refl),
     )
 row_effect s u (New w m) b (l, absent, et, es) = (
   Opens l w,
@@ -70,7 +70,7 @@ row_effect s u m b h = absurd h
 
 own_within : (e : Effect) (c : Context) (a : Term) → IsOwn e a → IsOwn e (plug c a)
 own_within Stays c a h = tt
-own_within (Writes l k) c a h = within c a (Place l) h
+own_within (Writes l j k) c a h = within c a (Place l) h
 own_within (Opens l w) c a h = tt
 own_within (Closes l) c a h = within c a (Place l) h
 
@@ -100,7 +100,7 @@ carried_same (Some e) = refl
 
 effect_same : (e : Effect) → renamed_effect (λ l. l) e ≡ e
 effect_same Stays = refl
-effect_same (Writes l k) = refl
+effect_same (Writes l j k) = refl
 effect_same (Opens l w) = refl
 effect_same (Closes l) = refl
 
@@ -121,33 +121,33 @@ again_there i path a s u s' m t e same free =
 -- the locations that an effect changes
 abbrev pub Touches : Effect → ℕ → Type 0
 Touches Stays x = ⊥
-Touches (Writes l k) x = l ≡ x
+Touches (Writes l j k) x = l ≡ x
 Touches (Opens l w) x = l ≡ x
 Touches (Closes l) x = l ≡ x
 
 pub touch_cases : {P : Type 0} (e : Effect) (x : ℕ) → (Touches e x → P) → ((Touches e x → ⊥) → P) → P
 touch_cases Stays x f g = g (λ h. h)
-touch_cases (Writes l k) x f g = number_cases l x (λ h b. f h) (λ h b. g h)
+touch_cases (Writes l j k) x f g = number_cases l x (λ h b. f h) (λ h b. g h)
 touch_cases (Opens l w) x f g = number_cases l x (λ h b. f h) (λ h b. g h)
 touch_cases (Closes l) x f g = number_cases l x (λ h b. f h) (λ h b. g h)
 
 -- elsewhere the store stays
 pub untouched : (e : Effect) (s : Store) (x : ℕ) → (Touches e x → ⊥) → entry_at (applied e s) x ≡ entry_at s x
 untouched Stays s x h = refl
-untouched (Writes l k) s x h = put_other s l k x h
-untouched (Opens l w) s x h = later_at (record { place = l; width = w; number = 0 }) s x h
+untouched (Writes l j k) s x h = put_other s l j k x h
+untouched (Opens l w) s x h = later_at (variable_at l w 0) s x h
 untouched (Closes l) s x h = without_other s l x h
 
 -- what has the same at a location has the same there after the effect
 pub still_same : (e : Effect) (s s' : Store) (x : ℕ) → entry_at s' x ≡ entry_at s x → entry_at (applied e s') x ≡ entry_at (applied e s) x
 still_same Stays s s' x h = h
-still_same (Writes l k) s s' x h =
+still_same (Writes l j k) s s' x h =
     number_cases l x
-    (λ same b. subst (λ (z : ℕ). entry_at (store_put s' l k) z ≡ entry_at (store_put s l k) z) same
-    (put_same s' l k ∙ (ap (numbered k) (ap (entry_at s') same ∙ (h ∙ sym (ap (entry_at s) same))) ∙ sym (put_same s l k))))
-    (λ other b. put_other s' l k x other ∙ (h ∙ sym (put_other s l k x other)))
+    (λ same b. subst (λ (z : ℕ). entry_at (store_put s' l j k) z ≡ entry_at (store_put s l j k) z) same
+    (put_same s' l j k ∙ (ap (numbered j k) (ap (entry_at s') same ∙ (h ∙ sym (ap (entry_at s) same))) ∙ sym (put_same s l j k))))
+    (λ other b. put_other s' l j k x other ∙ (h ∙ sym (put_other s l j k x other)))
 still_same (Opens l w) s s' x h =
-    let e : Entry = record { place = l; width = w; number = 0 } in
+    let e : Entry = variable_at l w 0 in
     number_cases l x
     (λ same b. first_at e s' x same ∙ sym (first_at e s x same)) (λ other b. later_at e s' x other ∙ (h ∙ sym (later_at e s x other)))
 still_same (Closes l) s s' x h =

@@ -1,5 +1,5 @@
 -- At one place one thing happens, but for the location that a new variable takes. So the order of two doings doesn't tell.
-use Rattle.std.specs.Prelude.{◌≡◌, ◌≢◌, ◌⊎◌, ℕ, zero, suc, List, [], ◌∷◌, Option, Some, None, nat_eq, if◌then◌else◌}
+use Rattle.std.specs.Prelude.{◌≡◌, ◌≢◌, ◌⊎◌, ℕ, zero, suc, List, [], ◌∷◌, Option, Some, None, nat_eq, if◌then◌else◌, slice_get}
 use Rattle.std.proofs.Common.{arith, refl, sym, ap, subst, inl, inr, ◌∙◌}
 use Rattle.gos_types.specs.Types.{Type', Com, Exp, Var, Fun}
 use Rattle.std.proofs.lemmas.Bool.{eq-eqb, ne_eqb}
@@ -31,6 +31,7 @@ use Rattle.gos_swaps.proofs.proper.KeptLemmas.{doings_stay_proper}
 use Rattle.gos_swaps.proofs.orders.RenameLemmas.{Fixes, fixed, around_one}
 use Rattle.gos_swaps.proofs.orders.AlikeLemmas.{Corresponds, alike_by, alike_same, alike_on}
 use Rattle.gos_swaps.proofs.orders.OrderLemmas.{fresh, swapped, swapped_first, swapped_second, swapped_other, swapping, carried_fixed, stands_fixed, either_order}
+use Rattle.std.proofs.lemmas.Option.{same_Some}
 
 -- what holds of two changes of one term, and in each context, holds of two changes at one path
 both_in : (Q : Term → Term → Term → Type 0) → ((c : Context) (a t r : Term) → Q a t r → Q (plug c a) (plug c t) (plug c r))
@@ -279,10 +280,13 @@ row_fate s u v (Not m) t r (k, w, em, et, es) (j, x, fm, er, ev) =
     inl (et ∙ ((λ i. Lit (complement (widths i) (numbers i)) (widths i)) ∙ sym er), es ∙ sym ev)
 row_fate s u v (Assign m n) t r (k, w, en, et, es) (j, x, fn, er, ev) =
     inl (et ∙ (ap (λ (z : ℕ). Put m z) (same_number n k w j x en fn) ∙ sym er), es ∙ sym ev)
-row_fate s u v (Put m k) t r (e, em, here, et, es) (d, dm, there, er, ev) =
-    inl (et ∙ sym er, es ∙ (ap (λ (z : ℕ). store_put s z k) (same_place m e.place d.place em dm) ∙ sym ev))
-row_fate s u v (Deref m) t r (e, em, here, et, es) (d, dm, there, er, ev) =
-    inl (et ∙ (ap (λ (z : Entry). Lit z.number z.width) (same_entry s m e d em dm here there) ∙ sym er), es ∙ sym ev)
+row_fate s u v (Put m k) t r (e, old, em, here, has, et, es) (d, new, dm, there, have, er, ev) =
+    inl (et ∙ sym er, es ∙ (ap (λ (z : ℕ). store_put s z 0 k) (same_place m e.place d.place em dm) ∙ sym ev))
+row_fate s u v (Deref m) t r (e, old, em, here, has, et, es) (d, new, dm, there, have, er, ev) =
+    let entries = same_entry s m e d em dm here there in
+    let number : old ≡ new = same_Some old new (sym has ∙ (ap (λ (z : Entry). slice_get z.numbers 0) entries ∙ have)) in
+    let width : e.width ≡ d.width = ap (λ (z : Entry). z.width) entries in
+    inl (et ∙ ((λ i. Lit (number i) (width i)) ∙ sym er), es ∙ sym ev)
 row_fate s u v (New w m) t r (l, lacks_l, et, es) (k, lacks_k, er, ev) =
     inr (
       l,

@@ -4,7 +4,7 @@ use Rattle.std.proofs.Common.{arith, refl, sym, ap, subst, inl, inr, ◌∙◌}
 use Rattle.std.proofs.lemmas.Bool.{eq-eqb, ne_eqb}
 use Rattle.gos_model.specs.Terms.{Term, Par}
 use Rattle.gos_model.specs.Typing.{Imports, Place, things, Apart}
-use Rattle.gos_model.specs.Stores.{Entry, Store, entry_at}
+use Rattle.gos_model.specs.Stores.{Entry, variable_at, Store, entry_at}
 use Rattle.gos_model.specs.Moves.{Running}
 use Rattle.gos_model.proofs.NumberLemmas.{number_cases}
 use Rattle.gos_programs.specs.contexts.Contexts.{Context, SeqFirst, ParLeft, ParRight, IfTest, BinLeft, HeldRight, NotOf, AssignRight, ScopeBody, ReadIndex, WriteIndex, plug, plug_all}
@@ -68,7 +68,7 @@ Opened e x = ⊥
 
 origin : (e : Effect) (m : Term) (x : ℕ) → IsOwn e m → Touches e x → Contains (things 0 m) (Place x) ⊎ Opened e x
 origin Stays m x own h = absurd h
-origin (Writes l k) m x own h = inl (subst (λ (z : ℕ). Contains (things 0 m) (Place z)) h own)
+origin (Writes l j k) m x own h = inl (subst (λ (z : ℕ). Contains (things 0 m) (Place z)) h own)
 origin (Opens l w) m x own h = inr h
 origin (Closes l) m x own h = inl (subst (λ (z : ℕ). Contains (things 0 m) (Place z)) h own)
 
@@ -104,10 +104,10 @@ clash_cases : {P : Type 0} (e f : Effect) → ((l w v : ℕ) → e ≡ Opens l w
 clash_cases (Opens l w) (Opens k v) one none =
     number_cases l k (λ same b. one l w v refl (ap (λ (z : ℕ). Opens z v) (sym same))) (λ other b. none other)
 clash_cases (Opens l w) Stays one none = none (λ h. h)
-clash_cases (Opens l w) (Writes k n) one none = none (λ h. h)
+clash_cases (Opens l w) (Writes k j n) one none = none (λ h. h)
 clash_cases (Opens l w) (Closes k) one none = none (λ h. h)
 clash_cases Stays f one none = none (λ h. h)
-clash_cases (Writes l k) f one none = none (λ h. h)
+clash_cases (Writes l j k) f one none = none (λ h. h)
 clash_cases (Closes l) f one none = none (λ h. h)
 
 -- effects that touch no location in common
@@ -135,7 +135,7 @@ effects_commute e f s apart x =
 
 free_by : (f : Effect) (s s' : Store) → ((x : ℕ) → Opened f x → entry_at s' x ≡ entry_at s x) → IsFree f s → IsFree f s'
 free_by Stays s s' h free = tt
-free_by (Writes l k) s s' h free = tt
+free_by (Writes l j k) s s' h free = tt
 free_by (Opens l w) s s' h free = h l refl ∙ free
 free_by (Closes l) s s' h free = tt
 
@@ -185,7 +185,7 @@ carried_fixed r s x fix = found (entry_at s x) refl
         let place = entry_place s x e h in ap (λ (l : ℕ). Some (record e { place = l })) (ap r place ∙ (fix ∙ sym place))
 
 abbrev pub fresh : ℕ → ℕ → Entry
-fresh l w = record { place = l; width = w; number = 0 }
+fresh l w = variable_at l w 0
 
 -- two locations that a store lacks
 module _ (s : Store) (l k : ℕ) (lacks_l : entry_at s l ≡ None) (lacks_k : entry_at s k ≡ None) where

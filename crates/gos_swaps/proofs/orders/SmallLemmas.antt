@@ -1,9 +1,9 @@
 -- Small configurations in either order.
-use Rattle.std.specs.Prelude.{◌≡◌, ℕ, zero, suc, Option, Some, None}
+use Rattle.std.specs.Prelude.{◌≡◌, ℕ, zero, suc, Option, Some, None, get_or}
 use Rattle.std.proofs.Common.{arith, refl, sym, ap, inl, ◌∙◌}
 use Rattle.gos_model.specs.Terms.{Term, Skip, Loc, Par, Scope, Seq, Put, New}
 use Rattle.gos_model.specs.Typing.{Place}
-use Rattle.gos_model.specs.Stores.{Entry, entry_at}
+use Rattle.gos_model.specs.Stores.{Entry, variable_at, entry_at}
 use Rattle.gos_model.specs.Moves.{Running}
 use Rattle.gos_programs.specs.contexts.SmallContexts.{one_at}
 use Rattle.gos_programs.proofs.contexts.SmallLemmas.{entries_in_any_order}
@@ -77,7 +77,7 @@ stale_names_tell_order = (
 -- the number that a store has
 abbrev number_of : Option Entry → ℕ
 number_of None = 0
-number_of (Some e) = e.number
+number_of (Some e) = get_or e.numbers 0 0
 
 shared_apart : Alike (Running (shared Skip Skip) (has_number 1)) (Running (shared Skip Skip) (has_number 0)) → ⊥
 shared_apart (r, e, h) =
@@ -87,10 +87,10 @@ shared_apart (r, e, h) =
 
 pub shared_names_tell_order : SharedNamesTellOrder
 shared_names_tell_order = (
-  (Par Skip (Put (Loc 0) 1), refl, (Skip, refl, (record { place = 0; width = 1; number = 0 }, refl, refl, refl, refl))),
-  (Par Skip Skip, refl, (Skip, refl, (record { place = 0; width = 1; number = 0 }, refl, refl, refl, refl))),
-  (Par (Put (Loc 0) 0) Skip, refl, (Skip, refl, (record { place = 0; width = 1; number = 0 }, refl, refl, refl, refl))),
-  (Par Skip Skip, refl, (Skip, refl, (record { place = 0; width = 1; number = 1 }, refl, refl, refl, refl))),
+  (Par Skip (Put (Loc 0) 1), refl, (Skip, refl, (variable_at 0 1 0, 0, refl, refl, refl, refl, refl))),
+  (Par Skip Skip, refl, (Skip, refl, (variable_at 0 1 0, 0, refl, refl, refl, refl, refl))),
+  (Par (Put (Loc 0) 0) Skip, refl, (Skip, refl, (variable_at 0 1 0, 0, refl, refl, refl, refl, refl))),
+  (Par Skip Skip, refl, (Skip, refl, (variable_at 0 1 1, 1, refl, refl, refl, refl, refl))),
   shared_apart,
   λ p. p.0 (Place 0) (there (Place 0)) (there (Place 0)),
 )

@@ -236,9 +236,9 @@ row_keeps s s' (Held k op n) b (j, w, en, et, es) = to_row (IsNew s) (Held k op 
 row_keeps s s' (Not m) b (k, w, em, et, es) = to_row (IsNew s) (Not m) b _ et (λ c. ((λ x h. nothing x h), (λ p l. tt)))
 row_keeps s s' (Assign m n) b (k, w, en, et, es) =
     to_row (IsNew s) (Assign m n) b (Put m k) et (λ c. ((λ x h. inl (left_part (things 0 m) (things 0 n) x h)), (λ p l. p.0)))
-row_keeps s s' (Put m k) b (e, em, here, et, es) = to_row (IsNew s) (Put m k) b Skip et (λ c. ((λ x h. nothing x h), (λ p l. tt)))
-row_keeps s s' (Deref m) b (e, em, here, et, es) =
-    to_row (IsNew s) (Deref m) b (Lit e.number e.width) et (λ c. ((λ x h. nothing x h), (λ p l. tt)))
+row_keeps s s' (Put m k) b (e, old, em, here, has, et, es) = to_row (IsNew s) (Put m k) b Skip et (λ c. ((λ x h. nothing x h), (λ p l. tt)))
+row_keeps s s' (Deref m) b (e, old, em, here, has, et, es) =
+    to_row (IsNew s) (Deref m) b (Lit old e.width) et (λ c. ((λ x h. nothing x h), (λ p l. tt)))
 row_keeps s s' (New w m) b (l, absent, et, es) = to_row (IsNew s) (New w m) b (Scope l (instantiate m (Loc l))) et (opens s w l m absent)
 row_keeps s s' (Scope l m) b (is, et, es) =
     to_row (IsNew s) (Scope l m) b m et (λ c. ((λ x h. inl (right_part (Place l ∷ []) (things 0 m) x h)), (λ p k. p)))

@@ -5,26 +5,26 @@
 use Rattle.std.specs.Prelude.{◌≡◌, ℕ, List, ◌∷◌, Contains, Option, Some, None}
 use Rattle.gos_model.specs.Terms.{Term}
 use Rattle.gos_model.specs.Typing.{Imports, Place, things}
-use Rattle.gos_model.specs.Stores.{Entry, Store, entry_at, store_put, without}
+use Rattle.gos_model.specs.Stores.{Entry, variable_at, Store, entry_at, store_put, without}
 use Rattle.gos_programs.specs.contexts.Renaming.{renamed}
 use Rattle.gos_swaps.specs.doings.Doings.{Doing, DoesAt}
 
--- The store stays; a location gets a number; a new variable of w bits takes a location; a block drops its location.
+-- The store stays; a location gets a number at an index; a new variable of w bits takes a location; a block drops its location.
 pub data Effect : Type 0 where
   Stays : Effect
-  Writes : (l k : ℕ) → Effect
+  Writes : (l j k : ℕ) → Effect
   Opens : (l w : ℕ) → Effect
   Closes : (l : ℕ) → Effect
 
 abbrev pub applied : Effect → Store → Store
 applied Stays s = s
-applied (Writes l k) s = store_put s l k
-applied (Opens l w) s = record { place = l; width = w; number = 0 } ∷ s
+applied (Writes l j k) s = store_put s l j k
+applied (Opens l w) s = variable_at l w 0 ∷ s
 applied (Closes l) s = without s l
 
 abbrev pub renamed_effect : (ℕ → ℕ) → Effect → Effect
 renamed_effect r Stays = Stays
-renamed_effect r (Writes l k) = Writes (r l) k
+renamed_effect r (Writes l j k) = Writes (r l) j k
 renamed_effect r (Opens l w) = Opens (r l) w
 renamed_effect r (Closes l) = Closes (r l)
 
@@ -35,7 +35,7 @@ IsFree e s = Unit {0}
 
 -- a location that is written or dropped stands in the term
 abbrev pub IsOwn : Effect → Term → Type 0
-IsOwn (Writes l k) m = Contains (things 0 m) (Place l)
+IsOwn (Writes l j k) m = Contains (things 0 m) (Place l)
 IsOwn (Closes l) m = Contains (things 0 m) (Place l)
 IsOwn e m = Unit {0}
 

@@ -3,7 +3,7 @@
 -- Read first: Orders.
 use Rattle.std.specs.Prelude.{◌≡◌, ℕ, [], ◌∷◌}
 use Rattle.gos_model.specs.Terms.{Term, Skip, Import, Seq, Par, New, Loc, Scope, Wait, Put}
-use Rattle.gos_model.specs.Stores.{Store}
+use Rattle.gos_model.specs.Stores.{variable_at, Store}
 use Rattle.gos_model.specs.Labels.{taken}
 use Rattle.gos_model.specs.Moves.{Running}
 use Rattle.gos_model.specs.SmallPrograms.{c, d, two_commands}
@@ -26,7 +26,7 @@ abbrev pub two_blocks : ℕ → ℕ → Term
 two_blocks k l = Par (Scope k Skip) (Scope l Skip)
 
 abbrev pub both_at : ℕ → ℕ → Store
-both_at k l = record { place = k; width = 1; number = 0 } ∷ one_at l
+both_at k l = variable_at k 1 0 ∷ one_at l
 
 -- Of two blocks the one that opens first may take location 0: that is one configuration under two names, and not one term.
 -- Two blocks at one location are another configuration.
@@ -57,7 +57,7 @@ abbrev pub shared : Term → Term → Term
 shared m n = Scope 0 (Par m n)
 
 abbrev pub has_number : ℕ → Store
-has_number k = record { place = 0; width = 1; number = k } ∷ []
+has_number k = variable_at 0 1 k ∷ []
 
 -- Where both sides name one location, the later write stays, and the parts aren't apart.
 abbrev pub SharedNamesTellOrder : Type 0
@@ -72,10 +72,11 @@ SharedNamesTellOrder =
 -- each effect on a store of one location
 abbrev pub EffectsChangeStores : Type 0
 EffectsChangeStores =
-    (applied Stays (one_at 0) ≡ one_at 0) × (applied (Writes 0 1) (one_at 0) ≡ has_number 1) × (applied (Writes 1 1) (one_at 0) ≡ one_at 0)
+    (applied Stays (one_at 0) ≡ one_at 0) × (applied (Writes 0 0 1) (one_at 0) ≡ has_number 1) × (applied (Writes 1 0 1) (one_at 0) ≡ one_at 0)
+    × (applied (Writes 0 1 1) (one_at 0) ≡ one_at 0)
     × (applied (Opens 1 1) (one_at 0) ≡ both_at 1 0) × (applied (Closes 0) (one_at 0) ≡ []) × (applied (Closes 1) (one_at 0) ≡ one_at 0)
 
 -- only a location that is new is free, and only one of the term is its own
 abbrev pub EffectsAreAllowed : Type 0
 EffectsAreAllowed =
-    IsFree (Opens 1 1) (one_at 0) × (IsFree (Opens 0 1) (one_at 0) → ⊥) × IsOwn (Writes 0 1) (Loc 0) × (IsOwn (Writes 1 1) (Loc 0) → ⊥)
+    IsFree (Opens 1 1) (one_at 0) × (IsFree (Opens 0 1) (one_at 0) → ⊥) × IsOwn (Writes 0 0 1) (Loc 0) × (IsOwn (Writes 1 0 1) (Loc 0) → ⊥)
