@@ -1,4 +1,5 @@
 pub mod RegionLemmas
+pub mod EndLemmas
 pub mod ServerLemmas
 pub mod DriverLemmas
 pub mod SmallServerLemmas
@@ -6,13 +7,12 @@ pub mod StepLemmas
 pub mod LinkedLemmas
 pub mod SharedLemmas
 pub mod OutputLemmas
-pub mod OpenLemmas
 pub mod OrderLemmas
 pub mod LooseLemmas
 pub mod RegularLemmas
+pub mod WalkLemmas
 pub mod InsideLemmas
 pub mod QuietLemmas
-pub mod IdleLemmas
 pub mod ImportLemmas
 pub mod MatchLemmas
 pub mod RealisesLemmas

@@ -20,7 +20,6 @@ pub mod NodeLemmas
 pub mod WindowLemmas
 pub mod RestLemmas
 pub mod KeepingLemmas
-pub mod GroundLemmas
 pub mod OutputLemmas
 pub mod WaitLemmas
 pub mod ClosingLemmas

@@ -10,9 +10,10 @@ use Rattle.gos_types.specs.Types.{Type'}
 use Rattle.gos_types.specs.Handshakes.{turned}
 use Rattle.gos_types.proofs.ListLemmas.{found_in_front}
 use Rattle.gos_plan.specs.Kinds.{Part, Share, Contact, contacts_of, other_side, turned_contact, part_contacts}
-use Rattle.gos_plan.specs.Firing.{Phase, Rest, State, at, Slot, Req, Ans, Token, Row, rows, shared_rows, share_rows, firing}
+use Rattle.gos_plan.specs.Firing.{Phase, State, at, Slot, Req, Ans, Token, Row, rows, shared_rows, firing}
 use Rattle.gos_plan.specs.Tokens.{shake_of}
 use Rattle.gos_plan.specs.Turns.{IsUnshared}
+use Rattle.gos_plan.proofs.ShareTableLemmas.{share_table}
 use Rattle.gos_plan.proofs.RowLemmas.{HasRole, role_taking, role_putting, Turns, RowKeeps, EachRow, row_with, table}
 
 -- the part doesn't serve at this handshake
@@ -61,10 +62,6 @@ putting k (t ∷ ts) engaged after turns = (having k (shake_of t.slot) (role_put
 each_is : (P Q : Row → Type 0) (rs : List Row) → ((r : Row) → P r → Q r) → EachRow P rs → EachRow Q rs
 each_is P Q [] f h = tt
 each_is P Q (r ∷ rs) f h = (f r h.0, each_is P Q rs f h.1)
-
-pub each_append : (P : Row → Type 0) (rs qs : List Row) → EachRow P rs → EachRow P qs → EachRow P (rs ++ qs)
-each_append P [] qs h g = g
-each_append P (r ∷ rs) qs h g = (h.0, each_append P rs qs h.1 g)
 
 unshared_rows : (k : Part) (p : Phase) (n v : ℕ) → IsUnshared k → EachRow (RowInRole k v) (rows k p n)
 unshared_rows k p n v u =
@@ -129,20 +126,12 @@ caller_role t b j c role there is =
       | inr past ↦ λ d other. let none : None ≡ Some d = sym past ∙ other in absurd (cc none)
     ]
 
-share_table : (t : Type') (b v : ℕ) (cs : List Contact) (j : ℕ)
-    → ((m : ℕ) (c : Contact) → slice_get cs m ≡ Some c → slice_get (contacts_of t) (j + m) ≡ Some c)
-    → EachRow (RowInRole (Share t) v) (share_rows cs (length (contacts_of t)) j b)
-share_table t b v [] j there = tt
-share_table t b v (c ∷ cs) j there =
-    each_append (RowInRole (Share t) v) (shared_rows c.role size j b) (share_rows cs size (suc j) b) (of_role c.role refl)
-    (share_table t b v cs (suc j) (λ m d e. let next : j + suc m ≡ suc j + m = omega arith in
-    subst (λ (n : ℕ). slice_get (contacts_of t) n ≡ Some d) next (there (suc m) d e)))
+share_roles : (t : Type') (b v j : ℕ) (c : Contact) → slice_get (contacts_of t) j ≡ Some c
+    → EachRow (RowInRole (Share t) v) (shared_rows c.role (length (contacts_of t)) j b)
+share_roles t b v j c here = of_role c.role refl
   where
     size : ℕ
     size = length (contacts_of t)
-
-    here : slice_get (contacts_of t) j ≡ Some c
-    here = let same : j + 0 ≡ j = omega arith in subst (λ (n : ℕ). slice_get (contacts_of t) n ≡ Some c) same (there 0 c refl)
 
     of_role : (role : Role) → c.role ≡ role → EachRow (RowInRole (Share t) v) (shared_rows role size j b)
     of_role Serve is =
@@ -156,9 +145,7 @@ share_table t b v (c ∷ cs) j there =
         ((source, (caller, tt)), ((caller, (source, tt)), tt))
 
 all_rows : (k : Part) (p : Phase) (n v : ℕ) → EachRow (RowInRole k v) (rows k p n)
-all_rows (Share t) Rest n v = share_table t n v (contacts_of t) 0
-    (λ m c e. let same : m ≡ 0 + m = omega arith in subst (λ (j : ℕ). slice_get (contacts_of t) j ≡ Some c) same e)
-all_rows (Share t) p n v = tt
+all_rows (Share t) p n v = share_table (RowInRole (Share t) v) t n (share_roles t n v) p
 all_rows k p n v = unshared_rows k p n v (λ t e. cc e)
 
 -- each firing of a part takes and puts in its roles

@@ -1,7 +1,9 @@
 pub mod JointLemmas
+pub mod MovedJointLemmas
 pub mod BalanceLemmas
 pub mod SlotLemmas
 pub mod RowLemmas
+pub mod ShareTableLemmas
 pub mod TurnLemmas
 pub mod HeldLemmas
 pub mod DecidedLemmas

@@ -1,17 +1,18 @@
 -- The table of the firing rules, by bits: where what a row takes has at most its bits, so has what it puts.
 use Rattle.std.specs.Prelude.{None, ◌^◌, ◌<◌, ◌-◌, nat_lt}
-use Rattle.std.proofs.Common.{◌≡◌, inl, inr, ℕ, suc, ◌+◌, ◌*◌, Bool, true, false, List, [], ◌∷◌, length, Some, slice_get, refl, sym, ◌∙◌, ap, subst, arith, nat_eq, if◌then◌else◌}
+use Rattle.std.proofs.Common.{◌≡◌, inl, inr, ℕ, ◌+◌, ◌*◌, Bool, true, false, List, [], ◌∷◌, length, Some, slice_get, refl, sym, ◌∙◌, ap, subst, arith, nat_eq, if◌then◌else◌}
 use Rattle.std.proofs.lemmas.Nat.{pow_pos, mod_below, and_le_l, or_lt, xor_lt}
 use Rattle.gos_types.specs.declared.shakes.Role.{Role}
 use Rattle.gos_types.specs.declared.shakes.Role.TheVariants.{Serve, Ask}
 use Rattle.gos_types.specs.Types.{Type'}
 use Rattle.gos_plan.specs.Kinds.{Part, Skip, Lit, Seq, Par, If, While, Op, Not, Assign, Deref, Local, Share, Contact, asks, serves, turned_contact, contacts_of, part_contacts}
 use Rattle.gos_model.specs.Terms.{Op as Operation, Add, Sub, And, Or, Xor, Eq, Less, result_of, result_width, complement}
-use Rattle.gos_plan.specs.Firing.{Phase, Rest, First, Second, Both, LeftOnly, RightOnly, Test, Branch, Body, Left, Right, Waiting, Value, Writing, Active, State, at, Slot, Req, Ans, Token, put, Row, chosen, shared_rows, share_rows, rows, firing}
+use Rattle.gos_plan.specs.Firing.{Phase, Rest, First, Second, Both, LeftOnly, RightOnly, Test, Branch, Body, Left, Right, Waiting, Value, Writing, Active, State, at, Slot, Req, Ans, Token, put, Row, chosen, shared_rows, rows, firing}
 use Rattle.gos_plan.specs.Tokens.{shake_of, way_of, bits_of}
 use Rattle.gos_plan.specs.TokenBits.{LiteralFits, NumberFits}
 use Rattle.gos_plan.proofs.RowLemmas.{EachRow, row_with}
-use Rattle.gos_plan.proofs.AskingLemmas.{source_at, first_caller_at, second_caller_at, caller_at, each_append}
+use Rattle.gos_plan.proofs.AskingLemmas.{source_at, first_caller_at, second_caller_at, caller_at}
+use Rattle.gos_plan.proofs.ShareTableLemmas.{share_table}
 use Rattle.gos_plan.proofs.ContactLemmas.{turned_bits}
 
 -- what an operator computes has its bits
@@ -137,20 +138,12 @@ to_caller : (t : Type') (s r : Slot) (v : ℕ) (c : Contact) → slice_get (part
 to_caller t s r v c from to ways takes =
     passed_on (Share t) s r v (turned_contact c) c from to (turned_bits c (way_of s) ∙ ap (bits_of c) ways) takes
 
-share_table : (t : Type') (b v : ℕ) (cs : List Contact) (j : ℕ)
-    → ((m : ℕ) (c : Contact) → slice_get cs m ≡ Some c → slice_get (contacts_of t) (j + m) ≡ Some c)
-    → EachRow (RowFits (Share t) v) (share_rows cs (length (contacts_of t)) j b)
-share_table t b v [] j there = tt
-share_table t b v (c ∷ cs) j there =
-    each_append (RowFits (Share t) v) (shared_rows c.role size j b) (share_rows cs size (suc j) b) (of_role c.role)
-    (share_table t b v cs (suc j) (λ m d e. let next : j + suc m ≡ suc j + m = omega arith in
-    subst (λ (n : ℕ). slice_get (contacts_of t) n ≡ Some d) next (there (suc m) d e)))
+share_fits : (t : Type') (b v j : ℕ) (c : Contact) → slice_get (contacts_of t) j ≡ Some c
+    → EachRow (RowFits (Share t) v) (shared_rows c.role (length (contacts_of t)) j b)
+share_fits t b v j c here = of_role c.role
   where
     size : ℕ
     size = length (contacts_of t)
-
-    here : slice_get (contacts_of t) j ≡ Some c
-    here = let same : j + 0 ≡ j = omega arith in subst (λ (n : ℕ). slice_get (contacts_of t) n ≡ Some c) same (there 0 c refl)
 
     source : slice_get (part_contacts (Share t)) j ≡ Some (turned_contact c)
     source = source_at t j c here
@@ -192,9 +185,7 @@ share_table t b v (c ∷ cs) j there =
     )
 
 all_rows : (k : Part) (p : Phase) (n v : ℕ) → LiteralFits k → NumberFits k (at p n) → EachRow (RowFits k v) (rows k p n)
-all_rows (Share t) Rest n v l f = share_table t n v (contacts_of t) 0
-    (λ m c e. let same : m ≡ 0 + m = omega arith in subst (λ (j : ℕ). slice_get (contacts_of t) j ≡ Some c) same e)
-all_rows (Share t) p n v l f = tt
+all_rows (Share t) p n v l f = share_table (RowFits (Share t) v) t n (share_fits t n v) p
 all_rows k p n v l f = table k p n v (λ t e. cc e) l f
 
 pub row_fits : (k : Part) (q : State) (t : Slot) (r : Row) (v : ℕ) → LiteralFits k → NumberFits k q → firing k q t ≡ Some r → (r.takes ≡ t) × RowFits k v r

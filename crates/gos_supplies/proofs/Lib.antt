@@ -8,3 +8,4 @@ pub mod literals
 pub mod instances
 pub mod turns
 pub mod unjoined
+pub mod arrays

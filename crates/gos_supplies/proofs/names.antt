@@ -12,4 +12,6 @@ pub mod WriteLemmas
 pub mod GroundLemmas
 pub mod SmallNameLemmas
 pub mod ArrayReadLemmas
+pub mod ArrayWriteLemmas
 pub mod SmallArrayLemmas
+pub mod SmallWriteLemmas

@@ -1,5 +1,6 @@
 // In reading order.
 pub mod applications;
+pub mod arrays;
 pub mod instances;
 pub mod literals;
 pub mod names;

@@ -11,6 +11,7 @@ pub mod RegionLemmas
 pub mod ParallelLemmas
 pub mod BodyLemmas
 pub mod BlockLemmas
+pub mod HeardLemmas
 pub mod FreshLemmas
 pub mod NamedLemmas
 pub mod SmallFrameLemmas

@@ -1,7 +1,6 @@
 pub mod RestLemmas
 pub mod SideLemmas
 pub mod AssignmentLemmas
-pub mod HeardLemmas
 pub mod ParallelLemmas
 pub mod BlockLemmas
 pub mod ChildLemmas

@@ -21,7 +21,7 @@ use Rattle.gos_joining.proofs.webs.MovedLemmas.{back_and_there}
 use Rattle.gos_joining.specs.renumbered.Rewired.{rewired, IsRewired}
 use Rattle.gos_joining.specs.renumbered.SmallRewirings.{unchanged}
 use Rattle.gos_joining.specs.renumbered.Renumbered.{RenumberedIsRegular, RenumberedIsDone, RenumberedIsRealised}
-use Rattle.gos_joining.proofs.renumbered.ImportLemmas.{AreReordered, typed_same, ground_same, names_same, other_names_same, reordered_same}
+use Rattle.gos_joining.proofs.renumbered.ImportLemmas.{AreReordered, typed_same, ports_same, names_same, other_names_same, reordered_same}
 use Rattle.gos_joining.proofs.renumbered.OrderLemmas.{regular_back, reordered, realises_back}
 use Rattle.gos_joining.proofs.renumbered.RewireLemmas.{rewired_is_renumbered}
 
@@ -177,7 +177,7 @@ module _ (f : Renumber) (p q : Plan) (is : IsRenumbered f p q) where
         right = is.right;
         literals = literals_among f.part p.parts q.parts (λ i k at. is.parts i ∙ at) suits.literals;
         outcome = sym is.outcome ∙ suits.outcome;
-        all_ground = ground_same f.import_back f.import q.imports p.imports back_reordered suits.all_ground;
+        all_ports = ports_same f.import_back f.import q.imports p.imports back_reordered suits.all_ports;
         names = names_same f.import_back f.import q.imports p.imports back_reordered suits.names;
         typed = typed_same q.imports p.imports (reordered_same f.import_back f.import q.imports p.imports back_reordered suits.names) [] m t suits.typed;
         regular = regular_back f p q is suits.regular;

@@ -11,8 +11,8 @@ use Rattle.gos_model.specs.Labels.{Label, Emits, Takes, IsAnswer}
 use Rattle.gos_model.specs.Moves.{Program, Config, Idle, Running, Act, Computing, Showing, ActsTo, Move, Moves, Stalled}
 use Rattle.gos_model.proofs.ReachLemmas.{reached_map}
 use Rattle.gos_model.proofs.AccessMapLemmas.{puts_as, reads_as, writes_as}
-use Rattle.gos_realises.specs.realises.Realises.{AllGround, NamesDiffer, HaveOtherNames}
-use Rattle.gos_realises.proofs.realises.PlaceLemmas.{contains_at, place_of, ground_at, ground_by, differ_at, at_differ}
+use Rattle.gos_realises.specs.realises.Realises.{AllPorts, NamesDiffer, HaveOtherNames}
+use Rattle.gos_realises.proofs.realises.PlaceLemmas.{contains_at, place_of, port_among, ports_by, differ_at, at_differ}
 
 -- each name has one type in both
 abbrev pub SameImports : Imports → Imports → Type 0
@@ -146,8 +146,8 @@ contains_back to from is js same i has = let (n, at) = place_of is i has in cont
 pub other_names_same : (to from : ℕ → ℕ) (is js ks : List Imported) → AreReordered to from is js → HaveOtherNames is ks → HaveOtherNames js ks
 other_names_same to from is js ks same apart i k in_j in_k = apart i k (contains_same to from is js same i in_j) in_k
 
-pub ground_same : (to from : ℕ → ℕ) (is js : List Imported) → AreReordered to from is js → AllGround is → AllGround js
-ground_same to from is js same all = ground_by js (λ i has. ground_at is all i (contains_same to from is js same i has))
+pub ports_same : (to from : ℕ → ℕ) (is js : List Imported) → AreReordered to from is js → AllPorts is → AllPorts js
+ports_same to from is js same all = ports_by js (λ i has. port_among is all i (contains_same to from is js same i has))
 
 pub names_same : (to from : ℕ → ℕ) (is js : List Imported) → AreReordered to from is js → NamesDiffer is → NamesDiffer js
 names_same to from is js same differ =

@@ -3,19 +3,20 @@
 -- The ends of the region are apart in the whole, so its token states commute with what is taken and put there. What lies
 -- in no place of the region is lost on it.
 use Rattle.std.specs.Prelude.{None, ◌^◌, ◌<◌, ◌&&◌, ◌++◌, nat_lt, nat_eq, slice_get, All}
-use Rattle.std.proofs.Common.{◌≡◌, ℕ, suc, Bool, true, false, List, [], ◌∷◌, ◌⊎◌, Option, Some, get_or, length, pow_pos, inl, inr, refl, sym, ◌∙◌, ap, subst, arith, if◌then◌else◌}
+use Rattle.std.proofs.Common.{◌≡◌, ℕ, Bool, true, false, List, [], ◌∷◌, ◌⊎◌, Option, Some, get_or, length, pow_pos, inl, inr, refl, sym, ◌∙◌, ap, subst, arith, if◌then◌else◌}
 use Rattle.std.proofs.lemmas.Option.{slice_get_within, slice_get-get_or}
 use Rattle.gos_types.specs.declared.shakes.Role.{Role}
 use Rattle.gos_types.specs.declared.shakes.Role.TheVariants.{Serve, Ask}
 use Rattle.gos_types.specs.Events.{Direction}
 use Rattle.gos_types.proofs.BoolLemmas.{same_tests}
 use Rattle.gos_plan.specs.Kinds.{Part, Skip, Lit, Seq, Par, If, While, Op, Not, Assign, Deref, Local, Share, Contact, contacts_of, part_contacts}
-use Rattle.gos_plan.specs.Firing.{Phase, Rest, First, Second, Both, LeftOnly, RightOnly, Test, Branch, Body, Left, Right, Waiting, Value, Writing, Active, State, Slot, Token, Row, at, shared_rows, share_rows, rows, firing}
+use Rattle.gos_plan.specs.Firing.{Phase, Rest, First, Second, Both, LeftOnly, RightOnly, Test, Branch, Body, Left, Right, Waiting, Value, Writing, Active, State, Slot, Token, Row, at, shared_rows, rows, firing}
 use Rattle.gos_plan.specs.Plans.{End, PartEnd, ImportEnd, ResultEnd, Joint, Plan, IsRight, contacts_of_part, contact_at, same_end, stands_in}
 use Rattle.gos_plan.specs.Tokens.{Tokens, Element, Fire, Out, In, IsPortEnd, places_of, same_way, with_place, with_state, held_at, with_held, token_at, with_token, with_puts, end_of, way_of, shake_of, way_taken, way_put, bits_of, fired, firing_of, Passes, Does, Runs}
 use Rattle.gos_plan.specs.TokenBits.{LiteralFits, TokensFit, AllFit}
 use Rattle.gos_plan.proofs.JointLemmas.{IsIn, same_itself, same_is, found, has_place, one_joint, stands_there, joined, contained, asking_stands, serving_stands, which_end}
-use Rattle.gos_plan.proofs.AskingLemmas.{RoleIs, PutsInRole, each_append, row_roles}
+use Rattle.gos_plan.proofs.AskingLemmas.{RoleIs, PutsInRole, row_roles}
+use Rattle.gos_plan.proofs.ShareTableLemmas.{share_table}
 use Rattle.gos_plan.proofs.RowLemmas.{EachRow, row_with, role_taking, role_putting}
 use Rattle.gos_plan.proofs.TurnLemmas.{way_to_take, way_to_put}
 use Rattle.gos_plan.proofs.TokenBitsLemmas.{all_stay_fit, same_way_itself}
@@ -449,11 +450,6 @@ few_shared : (role : Role) (h j b v : ℕ) → EachRow (λ (r : Row). PutsFew (r
 few_shared Serve h j b v = (tt, (tt, (tt, tt)))
 few_shared Ask h j b v = (tt, (tt, tt))
 
-few_share : (cs : List Contact) (h j b v : ℕ) → EachRow (λ (r : Row). PutsFew (r.puts v)) (share_rows cs h j b)
-few_share [] h j b v = tt
-few_share (c ∷ cs) h j b v =
-    each_append (λ (r : Row). PutsFew (r.puts v)) (shared_rows c.role h j b) (share_rows cs h (suc j) b) (few_shared c.role h j b v) (few_share cs h (suc j) b v)
-
 few : (k : Part) (p : Phase) (n v : ℕ) → EachRow (λ (r : Row). PutsFew (r.puts v)) (rows k p n)
 few Skip Rest n v = (tt, tt)
 few (Lit w m) Rest n v = (tt, tt)
@@ -482,7 +478,7 @@ few (Deref w) Rest n v = (tt, tt)
 few (Deref w) Waiting n v = (tt, tt)
 few (Local w u) Rest n v = (tt, tt)
 few (Local w u) Active n v = (tt, (tt, (tt, tt)))
-few (Share t) Rest n v = few_share (contacts_of t) (length (contacts_of t)) 0 n v
+few (Share t) p n v = share_table (λ (r : Row). PutsFew (r.puts v)) t n (λ j c at. few_shared c.role (length (contacts_of t)) j n v) p
 few k p n v = tt
 
 puts_few : (k : Part) (q : State) (t : Slot) (r : Row) (v : ℕ) → firing k q t ≡ Some r → PutsFew (r.puts v)

@@ -1,12 +1,12 @@
 -- The whole law, from the parts: stages that are laid so are stages of a write, where their plans realise the two sides.
 use Rattle.std.specs.Prelude.{◌^◌, ◌<◌, Contains}
 use Rattle.std.proofs.Common.{◌≡◌, ℕ, [], refl, sym, ◌∙◌, subst}
-use Rattle.gos_types.specs.Types.{Type', Com, Exp, Var, IsGround}
+use Rattle.gos_types.specs.Types.{Type', Com, Exp, Var}
 use Rattle.gos_model.specs.Terms.{Term, Assign, Lit}
 use Rattle.gos_model.specs.Typing.{Typed}
 use Rattle.gos_plan.specs.Plans.{Plan}
 use Rattle.gos_realises.specs.realises.Matched.{RealisesInTurn}
-use Rattle.gos_realises.specs.realises.Realises.{AllGround, Realises, NamesDiffer}
+use Rattle.gos_realises.specs.realises.Realises.{Realises, NamesDiffer}
 use Rattle.gos_nodes.specs.windows.Regions.{IsLoyal}
 use Rattle.gos_nodes.specs.windows.Nodes.{Stage, IsRestful}
 use Rattle.gos_nodes.specs.windows.OneSession.{IsRegularAt, IsRestfulAt, IsLoyalAt}
@@ -14,7 +14,6 @@ use Rattle.gos_nodes.specs.assignments.Writes.{IsWrite, AreRestful}
 use Rattle.gos_nodes.specs.assignments.Realised.{SessionIsRealised, AreWritten}
 use Rattle.gos_nodes.specs.assignments.Written.{unread}
 use Rattle.gos_nodes.specs.assignments.Assignments.{IsAssignment, IsOpenAssignment, AssignmentIsRealised}
-use Rattle.gos_nodes.proofs.windows.AskedLemmas.{ground_heard}
 use Rattle.gos_nodes.proofs.assignments.AssignLemmas.{write_is_regular}
 use Rattle.gos_nodes.proofs.assignments.MatchedLemmas.{write_realises_by_type}
 use Rattle.gos_nodes.proofs.assignments.SideLemmas.{sides, zero_one, of_two, is_write, are_restful}
@@ -30,7 +29,6 @@ module _
       × ((k : ℕ) → k < 2 ^ w → Typed p.imports [] (Assign m (Lit k w)) Com × SessionIsRealised (unread p) 1 k (Assign m (Lit k w)))
   written = variable_is_written w p m writes whole.own_literals
 
-  -- with ground imports no stage is asked where they ask
   opened : IsOpenAssignment r d w number variable p
   opened =
       record {
@@ -46,10 +44,8 @@ module _
         laid_variable = whole.laid_variable;
         number_names = asks.suits.names;
         variable_names = subst (λ (x : Plan). NamesDiffer x.imports) (sym whole.plan) writes.suits.names;
-        number_heard = ground_heard number.cut r number.plan asks.suits.all_ground (subst IsGround (sym asks.suits.outcome) tt);
-        variable_heard =
-            ground_heard variable.cut r variable.plan (subst (λ (x : Plan). AllGround x.imports) (sym whole.plan) writes.suits.all_ground)
-            (subst (λ (x : Plan). IsGround x.outcome) (sym whole.plan) (subst IsGround (sym writes.suits.outcome) tt));
+        number_heard = whole.number_heard;
+        variable_heard = whole.variable_heard;
         result = whole.result;
         joints = whole.joints;
       }
@@ -82,7 +78,7 @@ module _
       }
 
   pub realised : Typed r.imports [] (Assign m n) Com → Realises Com r (Assign m n) × IsRestful r
-  realised typed = (write_realises_by_type r d w (sides number variable) m n write whole.ground restful are_written typed, (write_is_regular r d w (sides number variable) write restful).1)
+  realised typed = (write_realises_by_type r d w (sides number variable) m n write whole.open_imports restful are_written typed, (write_is_regular r d w (sides number variable) write restful).1)
 
 pub assignment_is_realised : AssignmentIsRealised
 assignment_is_realised r d w number variable p m n whole asks writes typed = realised r d w number variable p m n whole asks writes typed

@@ -1,29 +1,29 @@
 -- The session of a variable's plan within a lone write: each element of it is one of the lone write, and is matched as this is.
 use Rattle.std.specs.Prelude.{None, slice_get, Contains}
-use Rattle.std.proofs.Common.{◌≡◌, ℕ, true, List, [], ◌∷◌, ◌++◌, Option, Some, inl, inr, refl, sym, ◌∙◌, ap, subst, arith, map}
+use Rattle.std.proofs.Common.{◌≡◌, ℕ, List, [], ◌∷◌, ◌++◌, Option, Some, inl, inr, refl, sym, ◌∙◌, ap, subst, arith, map}
 use Rattle.std.proofs.lemmas.Option.{same_Some}
 use Rattle.gos_types.specs.Types.{Com, IsDone}
 use Rattle.gos_types.specs.Events.{Direction, Answer}
+use Rattle.gos_model.specs.Typing.{Imported}
 use Rattle.gos_model.specs.Terms.{Term}
 use Rattle.gos_model.specs.Stores.{Store}
 use Rattle.gos_model.specs.Moves.{Program, Config, Idle, Running, Act}
 use Rattle.gos_plan.specs.Kinds.{Part, Assign}
 use Rattle.gos_plan.specs.Firing.{Slot, Ans, Row, State, firing}
-use Rattle.gos_plan.specs.Plans.{End, PartEnd, ImportEnd, ResultEnd, Plan, contact_at}
-use Rattle.gos_plan.specs.Tokens.{Tokens, Element, Fire, Out, In, token_at, end_of, way_of, shake_of, way_put, firing_of, Does, Runs, IsIdle, IsQuiet}
+use Rattle.gos_plan.specs.Plans.{End, PartEnd, ImportEnd, ResultEnd, Plan, contact_at, contacts_of_import}
+use Rattle.gos_plan.specs.Tokens.{Tokens, Element, Fire, Out, In, token_at, end_of, way_of, shake_of, firing_of, Does, Runs, IsIdle, IsQuiet}
 use Rattle.gos_plan.specs.TokenBits.{AllFit}
 use Rattle.gos_plan.proofs.TokenBitsLemmas.{all_stay_fit}
-use Rattle.gos_realises.specs.realises.Regular.{Pass, pass, way_in, way_out, is_open, KeepsTurns, InputsKeepTurns, IsRegular}
+use Rattle.gos_realises.specs.realises.Regular.{Pass, pass, way_in, way_out, ComesInTurn, KeepsTurns, InputsKeepTurns, IsRegular}
 use Rattle.gos_realises.specs.realises.Matched.{shows, GoesOn, Agrees, IsMatched}
 use Rattle.gos_realises.proofs.realises.InputLemmas.{passed, passed_then, inputs_then, first_turns, later_turns, outputs_last, runs_then, in_there}
 use Rattle.gos_realises.proofs.realises.RingLemmas.{after}
 use Rattle.gos_joining.specs.webs.Cutting.{Cut, StandsIn}
-use Rattle.gos_nodes.proofs.nodes.SilentLemmas.{inner_stays}
+use Rattle.gos_programs.proofs.contexts.SilentLemmas.{inner_stays}
 use Rattle.gos_nodes.specs.windows.Regions.{whole_element}
 use Rattle.gos_nodes.specs.windows.Nodes.{Stage}
-use Rattle.gos_nodes.specs.windows.Windows.{seen, StirsOnly}
-use Rattle.gos_nodes.proofs.windows.GroundLemmas.{answer_turned}
-use Rattle.gos_nodes.proofs.windows.TurnLemmas.{Turned, turns_before, way_in_of}
+use Rattle.gos_nodes.specs.windows.Windows.{seen, StirsOnly, PassesPort}
+use Rattle.gos_nodes.proofs.windows.TurnLemmas.{Turned, turns_before, open_before}
 use Rattle.gos_nodes.specs.windows.OneSession.{Stays, AllStay}
 use Rattle.gos_nodes.specs.assignments.Writes.{waits_at, IsWriteStage, HasStages}
 use Rattle.gos_nodes.proofs.windows.RunnerLemmas as runners
@@ -31,19 +31,18 @@ use Rattle.gos_nodes.specs.assignments.Windows.{assign_runner}
 use Rattle.gos_nodes.specs.assignments.Realised.{session_shows, IsSessionMatched}
 use Rattle.gos_nodes.specs.assignments.Variables.{lone_stage}
 use Rattle.gos_nodes.proofs.windows.OneSessionLemmas.{open_then}
-use Rattle.gos_nodes.proofs.windows.AskedLemmas.{ground_role}
-use Rattle.gos_nodes.proofs.assignments.AskedLemmas.{asked_by}
 use Rattle.gos_nodes.proofs.assignments.AssignLemmas.{has_stages}
 use Rattle.gos_nodes.proofs.assignments.OwnLemmas as table
-use Rattle.gos_nodes.proofs.windows.StageLemmas.{ground_stage, Ran, OnStage, lies, end_is, fires_in, out_in, answers}
-use Rattle.gos_nodes.proofs.windows.LiftLemmas.{Lifted, fire_up, out_up, in_up, goes_down}
-use Rattle.gos_nodes.proofs.windows.FollowLemmas.{Follows, standing, follows_step, goes_as}
+use Rattle.gos_nodes.proofs.windows.StageLemmas.{Ran, OnStage, lies, end_is, fires_in, out_in, answers}
+use Rattle.gos_nodes.proofs.windows.LiftLemmas.{Lifted, fire_up, out_up, met_up, goes_down}
+use Rattle.gos_nodes.proofs.windows.FollowLemmas.{Follows, has_ports, standing, follows_step, whole_turned, goes_as}
+use Rattle.gos_nodes.proofs.windows.MeetLemmas.{Meets, HasPorts, met_at, met_contacts, heard_meets}
 use Rattle.gos_nodes.proofs.nodes.RegionLemmas.{outside_stays, out_shown, in_shown}
-use Rattle.gos_nodes.proofs.assignments.SessionLemmas.{Stirred, stirred, in_stage_stands}
-use Rattle.gos_realises.specs.realises.Realises.{AllGround}
+use Rattle.gos_nodes.proofs.nodes.ChildLemmas.{Stirred, stirred}
+use Rattle.gos_nodes.proofs.assignments.SessionLemmas.{stay_shows}
 
 module _
-    (q : Plan) (d w : ℕ) (f : Cut) (p : Plan) (base : HasStages q d w (lone_stage f p ∷ [])) (ground : AllGround q.imports) (outcome : q.outcome ≡ Com) (regular : IsRegular q)
+    (q : Plan) (d w : ℕ) (f : Cut) (p : Plan) (base : HasStages q d w (lone_stage f p ∷ [])) (outcome : q.outcome ≡ Com) (regular : IsRegular q)
     (before first : Tokens) (idle_first : IsIdle q first) where
   abbrev pub g : Stage
   g = lone_stage f p
@@ -78,12 +77,13 @@ module _
     pub does : Does q (whole_element f y) s to
     pub same : seen g to ≡ u
     pub at : At (hs ++ y ∷ []) (ks ++ whole_element f y ∷ []) to
+    pub port : PassesPort q g y
     pub turn : InputsKeepTurns q (passed q [] ks) (whole_element f y ∷ [])
 
-  make : (hs ks : List Element) (y : Element) (s u : Tokens) → At hs ks s → Stays p y → InputsKeepTurns p (passed p [] hs) (y ∷ []) → Does p y (seen g s) u
+  make : (hs ks : List Element) (y : Element) (s u : Tokens) → At hs ks s → Stays p y → PassesPort q g y → InputsKeepTurns p (passed p [] hs) (y ∷ []) → Does p y (seen g s) u
       → Lifted q d (assign_runner w) gs asking g has (whole_element f y) s u → InputsKeepTurns q (passed q [] ks) (whole_element f y ∷ []) → Turned q (after q (whole_element f y) (passed q [] ks))
       → Follows q (assign_runner w) g (after p y (passed p [] hs)) (after q (whole_element f y) (passed q [] ks)) → Up hs ks y s u
-  make hs ks y s u at stays own_turn own_does lifted turn turned follows =
+  make hs ks y s u at stays port own_turn own_does lifted turn turned follows =
       record {
         to = lifted.to;
         does = lifted.does;
@@ -114,6 +114,7 @@ module _
                   (subst (λ (x : List Pass). Follows q (assign_runner w) g (after p y (passed p [] hs)) x) (sym (passed_then q [] ks (whole_element f y))) follows);
               fit = all_stay_fit q (whole_element f y ∷ []) s lifted.to base.right base.literals at.fit (lifted.to, lifted.does, refl);
             };
+        port = port;
         turn = turn;
       }
     where
@@ -123,23 +124,20 @@ module _
   ways_out : (i h : ℕ) → StandsIn p (ImportEnd i h) → way_out (contact_at q (f.outer (ImportEnd i h))) ≡ way_out (contact_at p (ImportEnd i h))
   ways_out i h stands = ap way_out (there.region.contacts (ImportEnd i h) tt stands)
 
-  ways_in : (i h : ℕ) → StandsIn p (ImportEnd i h) → way_in (contact_at q (f.outer (ImportEnd i h))) ≡ way_in (contact_at p (ImportEnd i h))
-  ways_in i h stands = ap way_in (there.region.contacts (ImportEnd i h) tt stands)
-
-  follows_at : (own past : List Pass) → Follows q (assign_runner w) g own past → (i h : ℕ) → StandsIn p (ImportEnd i h) → (way other : Direction) → other ≡ way
+  follows_at : (own past : List Pass) → Follows q (assign_runner w) g own past → (i h : ℕ) → Meets q f p i h → (way other : Direction) → other ≡ way
       → Follows q (assign_runner w) g (pass (ImportEnd i h) way ∷ own) (pass (f.outer (ImportEnd i h)) other ∷ past)
-  follows_at own past follows i h stands way other same =
+  follows_at own past follows i h meets way other same =
       subst (λ (x : Direction). Follows q (assign_runner w) g (pass (ImportEnd i h) way ∷ own) (pass (f.outer (ImportEnd i h)) x ∷ past)) (sym same)
-      (follows_step q d (assign_runner w) gs asking g has own past follows i h (f.outer (ImportEnd i h)) (standing q d (assign_runner w) gs asking g has i h stands) refl way)
+      (follows_step q d (assign_runner w) gs asking g has own past follows i h (f.outer (ImportEnd i h)) meets refl way)
 
   pub up : (hs ks : List Element) (y : Element) (s u : Tokens) → At hs ks s → Stays p y → InputsKeepTurns p (passed p [] hs) (y ∷ []) → Does p y (seen g s) u → Up hs ks y s u
   up hs ks (Fire j slot) s u at stays own_turn does =
-      make hs ks (Fire j slot) s u at stays own_turn does (fire_up q d (assign_runner w) gs asking g has before s hs at.ran at.stirs.places j slot u does) tt at.turned at.follows
+      make hs ks (Fire j slot) s u at stays tt own_turn does (fire_up q d (assign_runner w) gs asking g has before s hs at.ran at.stirs.places j slot u does) tt at.turned at.follows
   up hs ks (Out (PartEnd i h) v) s u at stays own_turn does = absurd stays
   up hs ks (Out (ResultEnd h) v) s u at stays own_turn does = absurd stays
   up hs ks (Out (ImportEnd i h) v) s u at stays own_turn does =
-      make hs ks (Out (ImportEnd i h) v) s u at stays own_turn does lifted tt kept.1
-      (follows_at (passed p [] hs) (passed q [] ks) at.follows i h stays (way_out (contact_at p (ImportEnd i h))) (way_out (contact_at q b)) (ways_out i h stays))
+      make hs ks (Out (ImportEnd i h) v) s u at stays (there.ports i h stays) own_turn does lifted tt kept.1
+      (follows_at (passed p [] hs) (passed q [] ks) at.follows i h (standing q d (assign_runner w) gs asking g has i h stays) (way_out (contact_at p (ImportEnd i h))) (way_out (contact_at q b)) (ways_out i h stays))
     where
       b : End
       b = f.outer (ImportEnd i h)
@@ -154,33 +152,43 @@ module _
   up hs ks (In (PartEnd i h) v) s u at stays own_turn does = absurd stays
   up hs ks (In (ResultEnd h) v) s u at stays own_turn does = absurd stays
   up hs ks (In (ImportEnd i h) v) s u at stays own_turn does =
-      make hs ks (In (ImportEnd i h) v) s u at stays own_turn does (in_up q d (assign_runner w) gs asking g has s at.stirs.places i h v u stands does) (turn, tt) turn.1
-      (follows_at (passed p [] hs) (passed q [] ks) at.follows i h stands (way_in (contact_at p (ImportEnd i h))) (way_in (contact_at q b)) (ways_in i h stands))
+      make hs ks (In (ImportEnd i h) v) s u at stays (met_at q f p ports i h meets) own_turn does
+      (met_up q d (assign_runner w) gs asking g has s at.stirs.places i h v u meets does) (turn, tt) turn.1 follows
     where
       b : End
       b = f.outer (ImportEnd i h)
 
-      stands : StandsIn p (ImportEnd i h)
-      stands = in_stage_stands q d w g ground there i h v stays
+      ports : HasPorts q f p
+      ports = has_ports q d (assign_runner w) gs asking g has
 
-      comes : way_in (contact_at p (ImportEnd i h)) ≡ Answer
-      comes =
+      -- it is an import of which something is open
+      meets : Meets q f p i h
+      meets =
           let (c, at_end) = in_there p (ImportEnd i h) v (seen g s) u does in
-          elim (ground_role p (ground_stage q d (assign_runner w) gs asking g has ground) (asked_by p 1 w there.low there.outcome).ground (ImportEnd i h) c tt at_end) [
-            | inl result ↦ (let clash : ImportEnd i h ≡ ResultEnd result.0 = result.1 in absurd (cc clash))
-            | inr import ↦ way_in_of p (ImportEnd i h) c at_end ∙ ap way_put import.3
+          let (n, up, which) = open_before p (passed p [] hs) i h c at_end own_turn.0 in
+          let beside = at.follows.imports.met i n up in
+          let (k, at_n, same) = met_at q f p ports i n beside in
+          elim which [
+            | inl one ↦ subst (λ (m : ℕ). Meets q f p i m) one beside
+            | inr asks ↦
+                (heard_meets q f p ports i n k h c beside at_n (ap (λ (o : Option Imported). slice_get (contacts_of_import o) h) same ∙ at_end) asks).0
           ]
 
-      own_open : is_open (passed p [] hs) (ImportEnd i h) ≡ true
-      own_open = (subst (λ (x : Direction). KeepsTurns p (passed p [] hs) (pass (ImportEnd i h) x)) comes own_turn.0).0
+      way : Direction
+      way = way_in (contact_at p (ImportEnd i h))
+
+      ways_in : way_in (contact_at q b) ≡ way
+      ways_in = ap way_in (met_contacts q f p ports i h b meets refl)
+
+      follows : Follows q (assign_runner w) g (after p (In (ImportEnd i h) v) (passed p [] hs)) (after q (In b v) (passed q [] ks))
+      follows = follows_at (passed p [] hs) (passed q [] ks) at.follows i h meets way (way_in (contact_at q b)) ways_in
 
       turn : KeepsTurns q (passed q [] ks) (pass b (way_in (contact_at q b)))
-      turn =
-          let (n, at_n, same) = there.ports i h stands in
-          subst (λ (x : Direction). KeepsTurns q (passed q [] ks) (pass b x)) (sym (ways_in i h stands ∙ comes)) (
-            goes_as q d (assign_runner w) gs asking g has (passed p [] hs) (passed q [] ks) at.follows i h b (standing q d (assign_runner w) gs asking g has i h stands) refl Answer own_open,
-            subst (λ (x : End). Turned q (pass x Answer ∷ passed q [] ks)) (sym at_n) (answer_turned q ground done n h (passed q [] ks) at.turned),
-          )
+      turn = (
+        subst (λ (x : Direction). ComesInTurn (passed q [] ks) b x) (sym ways_in)
+            (goes_as q d (assign_runner w) gs asking g has (passed p [] hs) (passed q [] ks) at.follows i h b meets refl way own_turn.0.0),
+        whole_turned q d (assign_runner w) gs asking g has (after p (In (ImportEnd i h) v) (passed p [] hs)) (after q (In b v) (passed q [] ks)) follows done own_turn.0.1,
+      )
 
   -- where the plan is quiet, so is the lone write
   pub quiet_up : (hs ks : List Element) (s : Tokens) → At hs ks s → IsQuiet p (seen g s) → IsQuiet q s
@@ -234,14 +242,14 @@ module _
   agrees_down G hs ks s b st at agrees = (λ quiet. agrees.0 (quiet_up hs ks s at quiet), λ e. absurd (running_is_not_idle b st e))
 
   -- what the lone write shows, the session shows
-  shown_down : (y : Element) → Stays p y → shows q (whole_element f y) ≡ session_shows p y
-  shown_down (Fire j slot) stays = refl
-  shown_down (Out (PartEnd i h) v) stays = absurd stays
-  shown_down (Out (ResultEnd h) v) stays = absurd stays
-  shown_down (Out (ImportEnd i h) v) stays = out_shown q g there.ports i h v stays
-  shown_down (In (PartEnd i h) v) stays = absurd stays
-  shown_down (In (ResultEnd h) v) stays = absurd stays
-  shown_down (In (ImportEnd i h) v) stays = in_shown q g there.ports i h v (in_stage_stands q d w g ground there i h v stays)
+  shown_down : (y : Element) → Stays p y → PassesPort q g y → shows q (whole_element f y) ≡ session_shows p y
+  shown_down (Fire j slot) stays port = refl
+  shown_down (Out (PartEnd i h) v) stays port = absurd stays
+  shown_down (Out (ResultEnd h) v) stays port = absurd stays
+  shown_down (Out (ImportEnd i h) v) stays port = out_shown q g i h v port
+  shown_down (In (PartEnd i h) v) stays port = absurd stays
+  shown_down (In (ResultEnd h) v) stays port = absurd stays
+  shown_down (In (ImportEnd i h) v) stays port = in_shown q g i h v port
 
   goes_so : (y : Element) (s u : Tokens) (acts : List Act) → Does p y (seen g s) u → GoesOn q s (whole_element f y) acts → GoesOn p (seen g s) y acts
   goes_so (Fire j slot) s u acts does goes = goes_down q d (assign_runner w) gs asking g has s u j slot acts does goes
@@ -288,10 +296,10 @@ module _
       λ u does.
           let step = up hs ks y s u at one (first_turns p (passed p [] hs) y (zs ++ tp) turns) does in
           let n = next step.to step.does in
-          let shown = n.3 ∙ shown_down y one in
+          let shown = n.3 ∙ shown_down y one step.port in
           let goes = goes_so y s u n.0 does n.4 in
           let own : Does p y (seen g s) (seen g step.to) = subst (λ (x : Tokens). Does p y (seen g s) x) (sym step.same) does in
-          let stir : Stirred q g y s n.0 = stirred q d w g ground there y s (seen g step.to) step.to n.0 own one step.does shown goes in
+          let stir : Stirred q g y s n.0 = stirred q g there.region y s (seen g step.to) step.to n.0 own one step.port step.does (shown ∙ stay_shows g.plan y one) goes in
           let stays = inner_stays G n.0 b st n.1 stir.inner n.2 in
           let rest =
           matched_down zs all (hs ++ y ∷ []) (ks ++ whole_element f y ∷ []) step.to stays.0 stays.1 step.at (turns_on hs y (zs ++ tp) turns)

@@ -25,7 +25,7 @@ use Rattle.gos_joining.specs.webs.Webs.{joint}
 use Rattle.gos_joining.specs.webs.Cutting as cutting
 use Rattle.gos_joining.specs.webs.Cutting.{Cut, lies_at, StandsIn}
 use Rattle.gos_joining.proofs.webs.CutLemmas.{Owns, asker_own, number_at}
-use Rattle.gos_nodes.proofs.nodes.SilentLemmas.{silent_inner, inner_stays, answer_last}
+use Rattle.gos_programs.proofs.contexts.SilentLemmas.{silent_inner, inner_stays, answer_last}
 use Rattle.gos_nodes.proofs.nodes.PortLemmas.{answer_shown}
 use Rattle.gos_nodes.specs.windows.Nodes.{Stage}
 use Rattle.gos_nodes.specs.windows.Windows.{seen}
@@ -44,7 +44,6 @@ use Rattle.gos_nodes.proofs.windows.LiftLemmas.{held_whole, stage_stands}
 use Rattle.gos_nodes.proofs.assignments.PrefixLemmas.{lies_across, state_apart, apart_if}
 use Rattle.gos_nodes.proofs.assignments.CourseLemmas as course
 use Rattle.gos_nodes.proofs.assignments.CourseLemmas.{At, Tails}
-use Rattle.gos_realises.specs.realises.Realises.{AllGround}
 
 -- another place
 place_apart : (r : Plan) (a x y : End) (way w : Direction) (held : Option ℕ) (s : Tokens) → places_of r a ≡ Some x → y ≢ x
@@ -57,7 +56,7 @@ place_apart r a x y way w held s at_a apart =
     by_test false t = refl
 
 module _
-    (q : Plan) (d w : ℕ) (f : Cut) (p : Plan) (base : HasStages q d w (lone_stage f p ∷ [])) (ground : AllGround q.imports) (outcome : q.outcome ≡ Com) (regular : IsRegular q)
+    (q : Plan) (d w : ℕ) (f : Cut) (p : Plan) (base : HasStages q d w (lone_stage f p ∷ [])) (outcome : q.outcome ≡ Com) (regular : IsRegular q)
     (run : Contains q.joints (joint (ResultEnd 0) (PartEnd d 2))) (before first : Tokens) (idle_first : IsIdle q first) where
   abbrev g : Stage
   g = lone_stage f p
@@ -97,7 +96,7 @@ module _
           let here = subst (λ (n : ℕ). StandsIn p (ResultEnd n)) one stands in
           let clash : PartEnd d 1 ≡ ResultEnd 0 = sym (there.run_by here) ∙ (ap (λ (n : ℕ). f.outer (ResultEnd n)) (sym one) ∙ is) in cc clash
 
-  module _ (hs ks : List Element) (s : Tokens) (v : ℕ) (u : Tokens) (at_s : At q d w f p base ground outcome regular before first idle_first hs ks s) (own_does : Does p (Out (ResultEnd 1) v) (seen g s) u) where
+  module _ (hs ks : List Element) (s : Tokens) (v : ℕ) (u : Tokens) (at_s : At q d w f p base outcome regular before first idle_first hs ks s) (own_does : Does p (Out (ResultEnd 1) v) (seen g s) u) where
     c : (c : Contact) × (contact_at p (ResultEnd 1) ≡ Some c)
     c = out_there p (ResultEnd 1) v (seen g s) u own_does
 
@@ -193,18 +192,18 @@ module _
         states : (i : ℕ) → ((seen g taken).state i).phase ≡ Rest
         states i = by_part i (nat_lt i (length p.parts)) refl
 
-  pub ended_tails : (G : Program) (v : ℕ) → Tails q d w f p base ground outcome regular before first idle_first G (Out (ResultEnd 1) v ∷ []) (Fire d (Ans 1) ∷ Out (ResultEnd 0) 0 ∷ [])
+  pub ended_tails : (G : Program) (v : ℕ) → Tails q d w f p base outcome regular before first idle_first G (Out (ResultEnd 1) v ∷ []) (Fire d (Ans 1) ∷ Out (ResultEnd 0) 0 ∷ [])
   ended_tails G v =
       record {
         runs = λ hs ks s u at_s (x, does, is).
             (t2 hs ks s v x at_s does, (t1 hs ks s v x at_s does, does_fire hs ks s v x at_s does, (t2 hs ks s v x at_s does, does_out hs ks s v x at_s does, refl)), tt);
         matched = λ hs ks s b st at_s (agrees, next). (
-          course.agrees_down q d w f p base ground outcome regular before first idle_first G hs ks s b st at_s agrees,
+          course.agrees_down q d w f p base outcome regular before first idle_first G hs ks s b st at_s agrees,
           λ u does. last hs ks s b st at_s next u does,
         );
       }
     where
-      last : (hs ks : List Element) (s : Tokens) (b : Term) (st : Store) → (at_s : At q d w f p base ground outcome regular before first idle_first hs ks s)
+      last : (hs ks : List Element) (s : Tokens) (b : Term) (st : Store) → (at_s : At q d w f p base outcome regular before first idle_first hs ks s)
           → ((t : Tokens) → Does q (Fire d (Ans 1)) s t
           → (acts : List Act) × (c : Config) × Moves G acts (Running b st) c × (labels acts ≡ shows q (Fire d (Ans 1))) × GoesOn q s (Fire d (Ans 1)) acts
           × IsMatched q G (Out (ResultEnd 0) 0 ∷ []) t c)
@@ -214,7 +213,7 @@ module _
           let one = next (t1 hs ks s v u at_s does) (does_fire hs ks s v u at_s does) in
           let two = one.5.1 (t2 hs ks s v u at_s does) (does_out hs ks s v u at_s does) in
           let stays = inner_stays G one.0 b st one.1 (silent_inner one.0 one.3) one.2 in
-          let shown : labels two.0 ≡ given 1 0 ∷ [] = two.3 ∙ answer_shown q 0 (course.done q d w f p base ground outcome regular before first idle_first) in
+          let shown : labels two.0 ≡ given 1 0 ∷ [] = two.3 ∙ answer_shown q 0 (course.done q d w f p base outcome regular before first idle_first) in
           let ends : two.1 ≡ Idle =
           (answer_last G two.0 stays.0 stays.1 two.1 0 (subst (λ (x : Config). Moves G two.0 x two.1) stays.2 two.2) shown).6 in (
             one.0 ++ two.0,

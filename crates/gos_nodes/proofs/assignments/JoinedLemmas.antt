@@ -13,8 +13,8 @@ use Rattle.gos_plan.specs.Kinds.{Part, Contact, asks, serves}
 use Rattle.gos_plan.specs.Plans.{End, PartEnd, ImportEnd, ResultEnd, Joint, Plan, contact_at, contacts_of_part, contacts_of_import, same_end, stands_in, is_free, AreRight, IsRight}
 use Rattle.gos_plan.specs.Tokens.{IsPortEnd, places_of}
 use Rattle.gos_plan.specs.TokenBits.{LiteralFits}
-use Rattle.gos_plan.proofs.JointLemmas.{IsIn, fits, contained, asking_stands, which_end}
-use Rattle.gos_realises.specs.realises.Realises.{NamesDiffer, AllGround}
+use Rattle.gos_plan.proofs.JointLemmas.{IsIn, fits, contained, asking_stands, serving_stands, which_end}
+use Rattle.gos_realises.specs.realises.Realises.{NamesDiffer}
 use Rattle.gos_realises.specs.realises.Wirings.{writing}
 use Rattle.gos_realises.specs.realises.Links.{IsJoined}
 use Rattle.gos_realises.proofs.realises.LiteralLemmas.{writing_literals, literals_same, literals_append}
@@ -26,12 +26,13 @@ use Rattle.gos_sharing.proofs.buffers.WritingLemmas.{WriteOwn, write_is_driven}
 use Rattle.gos_sharing.proofs.buffers.BranchLemmas.{place_stands}
 use Rattle.gos_nodes.specs.windows.Regions.{IsRegion}
 use Rattle.gos_nodes.specs.windows.Nodes.{Stage}
+use Rattle.gos_nodes.specs.windows.OpenNodes.{IsHeard}
 use Rattle.gos_nodes.proofs.windows.PortLemmas.{stands_place}
 use Rattle.gos_nodes.specs.windows.OneSession.{IsRegularAt}
 use Rattle.gos_nodes.specs.assignments.Writes.{IsWriteStage, HasStages}
 use Rattle.gos_nodes.specs.assignments.Variables.{lone_stage, IsLoneWrite}
 use Rattle.gos_nodes.specs.assignments.Written.{unread_joints, unread, if_there, written_cut}
-use Rattle.gos_nodes.proofs.windows.AskedLemmas.{ground_asks, ground_heard}
+use Rattle.gos_nodes.proofs.windows.AskedLemmas.{ground_asks}
 use Rattle.gos_nodes.proofs.assignments.AskedLemmas.{asked_by}
 
 -- joints without those of handshake 0
@@ -116,7 +117,7 @@ pub only_written : (w : ℕ) (p : Plan) → IsRight p → p.outcome ≡ Var w �
 only_written w p right outcome h stands = only_so w p right outcome h stands
 
 module _
-    (w k : ℕ) (p q : Plan) (right : IsRight p) (outcome : p.outcome ≡ Var w) (ground : AllGround p.imports) (differ : NamesDiffer p.imports)
+    (w k : ℕ) (p q : Plan) (right : IsRight p) (outcome : p.outcome ≡ Var w) (differ : NamesDiffer p.imports)
     (literals : All LiteralFits p.parts) (regular : IsRegularAt 1 (unread p)) (small : k < 2 ^ w) (join : IsJoined (writing w k p) q) where
   abbrev n : ℕ
   n = length p.parts
@@ -310,6 +311,31 @@ module _
         unused = λ x i j has. absurd (no_member x has);
       }
 
+  -- an import's end that stands in a joint of the write stands in one of the plan
+  import_stands : (i h : ℕ) → StandsIn q (ImportEnd i h) → StandsIn c (ImportEnd i h)
+  import_stands i h (j, listing, stands) = by_joint ((driven.joints j.asking j.serving).0 listing) (which_end (ImportEnd i h) j stands)
+    where
+      by_joint : DrivenJoint 1 1 WriteOwn n p j.asking j.serving → (ImportEnd i h ≡ j.asking) ⊎ (ImportEnd i h ≡ j.serving) → StandsIn c (ImportEnd i h)
+      by_joint (inl (here, plain)) which = (j, listed c.joints j (kept_in j p.joints (plain_apart j.asking plain) here), stands)
+      by_joint (inr (inl (is_a, here))) (inl is) = let clash : ImportEnd i h ≡ PartEnd n 1 = is ∙ is_a in absurd (cc clash)
+      by_joint (inr (inl (is_a, here))) (inr is) =
+          subst (λ (e : End). StandsIn c e) (sym is) (
+            joint (ResultEnd 1) j.serving,
+            listed c.joints (joint (ResultEnd 1) j.serving) (kept_in (joint (ResultEnd 1) j.serving) p.joints refl here),
+            serving_stands (joint (ResultEnd 1) j.serving),
+          )
+      by_joint (inr (inr (inl (is_a, is_b)))) (inl is) = let clash : ImportEnd i h ≡ ResultEnd 0 = is ∙ is_a in absurd (cc clash)
+      by_joint (inr (inr (inl (is_a, is_b)))) (inr is) = let clash : ImportEnd i h ≡ PartEnd n 2 = is ∙ is_b in absurd (cc clash)
+      by_joint (inr (inr (inr (is_a, is_b)))) (inl is) = let clash : ImportEnd i h ≡ PartEnd n 0 = is ∙ is_a in absurd (cc clash)
+      by_joint (inr (inr (inr (is_a, is_b)))) (inr is) = let clash : ImportEnd i h ≡ PartEnd (suc n) 0 = is ∙ is_b in absurd (cc clash)
+
+  heard : IsHeard f q c
+  heard i h m k x stands at is asks =
+      let import : i ≡ k = cc at in (
+        ap (λ (y : ℕ). ImportEnd y m) import,
+        λ there. import_stands i m (subst (λ (y : ℕ). StandsIn q (ImportEnd y m)) (sym import) there),
+      )
+
   stage_so : IsWriteStage q n w (lone_stage f c)
   stage_so =
       record {
@@ -324,7 +350,7 @@ module _
         imports = λ i has. subst (λ (xs : List Imported). Contains xs i) (sym driven.imports) has;
         names = differ;
         ports = λ i h stands. (i, refl, ap (λ (xs : List Imported). slice_get xs i) driven.imports);
-        heard = ground_heard f q c ground (subst IsGround (sym outcome) tt);
+        heard = heard;
       }
 
   one_member : (g e : Stage) → Contains (g ∷ []) e → g ≡ e
@@ -370,7 +396,6 @@ module _
       record {
         base = base;
         outcome = join.joining.outcome;
-        ground = subst AllGround (sym driven.imports) ground;
         imports = driven.imports;
         lit = lit_part;
         beside = lit_out;

@@ -19,7 +19,7 @@ use Rattle.gos_realises.specs.realises.Matched.{IsMatched, program_of, RealisesI
 use Rattle.gos_realises.proofs.realises.InputLemmas.{passed}
 use Rattle.gos_programs.proofs.results.ResultLemmas.{moves_then}
 use Rattle.gos_joining.specs.webs.Cutting.{Cut}
-use Rattle.gos_nodes.proofs.nodes.SilentLemmas.{silent_inner, inner_stays, asked_first}
+use Rattle.gos_programs.proofs.contexts.SilentLemmas.{silent_inner, inner_stays, asked_first}
 use Rattle.gos_nodes.proofs.nodes.PortLemmas.{request_shown}
 use Rattle.gos_nodes.specs.windows.Regions.{whole_element}
 use Rattle.gos_nodes.specs.windows.Nodes.{Stage}
@@ -37,7 +37,7 @@ use Rattle.gos_nodes.proofs.assignments.AskedLemmas.{asked_by}
 use Rattle.gos_nodes.proofs.assignments.AssignLemmas.{has_stages}
 use Rattle.gos_nodes.proofs.assignments.CourseLemmas.{At, Tails, no_tails}
 use Rattle.gos_nodes.proofs.assignments.EndLemmas.{ended_tails}
-use Rattle.gos_nodes.proofs.nodes.MatchedLemmas.{more_some, both_silent}
+use Rattle.gos_nodes.proofs.nodes.FollowedLemmas.{more_some, both_silent}
 
 -- The moves of the first four elements: after the request they are silent, and there is a step.
 four_moves : (G : Program) (a b c d : List Act) (v w x y : Config) → Moves G a Idle v → labels a ≡ given 0 0 ∷ [] → Moves G b v w → labels b ≡ [] → Moves G c w x
@@ -109,7 +109,7 @@ module _
   turn = subst (λ (way : Direction). KeepsTurns q [] (pass (ResultEnd 0) way)) (sym (result_in q done)) (refl, first)
 
   -- the plan has been asked
-  asked : At q d w f p lone.base lone.ground lone.outcome regular before s0 idle_first (In (ResultEnd 1) k ∷ []) first_list s4
+  asked : At q d w f p lone.base lone.outcome regular before s0 idle_first (In (ResultEnd 1) k ∷ []) first_list s4
   asked =
       record {
         ran =
@@ -127,17 +127,17 @@ module _
         follows =
             subst (λ (way : Direction). Follows q (assign_runner w) g (passed p [] (In (ResultEnd 1) k ∷ [])) (pass (ResultEnd 0) way ∷ [])) (sym (result_in q done))
             (subst (λ (way : Direction). Follows q (assign_runner w) g (pass (ResultEnd 1) way ∷ []) (pass (ResultEnd 0) Request ∷ [])) (sym own_in)
-            (follows_first q d (assign_runner w) (g ∷ []) (has_stages q d w (g ∷ []) lone.base) g (course.has q d w f p lone.base lone.ground lone.outcome regular before s0 idle_first) (pass (ResultEnd 0) Request ∷ []) (refl, λ i h. refl)));
+            (follows_first q d (assign_runner w) (g ∷ []) (has_stages q d w (g ∷ []) lone.base) g (course.has q d w f p lone.base lone.outcome regular before s0 idle_first) (pass (ResultEnd 0) Request ∷ []) (refl, λ i h. refl)));
         fit = all_stay_fit q first_list s0 s4 lone.base.right lone.base.literals (idle_fits q s0 idle_first) runs;
       }
     where
       own_in : way_in (contact_at p (ResultEnd 1)) ≡ Request
       own_in =
-          let there = course.there q d w f p lone.base lone.ground lone.outcome regular before s0 idle_first in asked_in p 1 _ _ (asked_by p 1 w there.low there.outcome)
+          let there = course.there q d w f p lone.base lone.outcome regular before s0 idle_first in asked_in p 1 _ _ (asked_by p 1 w there.low there.outcome)
 
   -- its session's list, with this end
   module _
-      (tp tq zs : List Element) (tails : Tails q d w f p lone.base lone.ground lone.outcome regular before s0 idle_first G tp tq) (all : AllStay p zs) (t : Tokens)
+      (tp tq zs : List Element) (tails : Tails q d w f p lone.base lone.outcome regular before s0 idle_first G tp tq) (all : AllStay p zs) (t : Tokens)
       (later : Runs p (zs ++ tp) u t) (turns : InputsKeepTurns p (passed p [] (In (ResultEnd 1) k ∷ [])) (zs ++ tp)) where
     abbrev rest : List Element
     rest = map (whole_element f) zs ++ tq
@@ -147,7 +147,7 @@ module _
 
     raised : (x : Tokens) × Runs q rest s4 x × InputsKeepTurns q (passed q [] first_list) rest
     raised =
-        course.runs_up q d w f p lone.base lone.ground lone.outcome regular before s0 idle_first G tp tq tails zs all (In (ResultEnd 1) k ∷ []) first_list s4 t asked
+        course.runs_up q d w f p lone.base lone.outcome regular before s0 idle_first G tp tq tails zs all (In (ResultEnd 1) k ∷ []) first_list s4 t asked
         (subst (λ (x : Tokens). Runs p (zs ++ tp) x t) (sym seen_is) later) turns
 
     whole_runs : Runs q (In (ResultEnd 0) 0 ∷ Fire d (Req 2) ∷ Fire l (Req 0) ∷ Fire d (Ans 0) ∷ rest) s0 raised.0
@@ -184,7 +184,7 @@ module _
         let joined =
         four_moves G one.0 two.0 three.0 four.0 one.1 two.1 three.1 four.1 one.2 (one.3 ∙ request_shown q 0 done) two.2 two.3 three.2 three.3 four.2 four.3 some in
         let down =
-        course.matched_down q d w f p lone.base lone.ground lone.outcome regular before s0 idle_first G tp tq tails zs all (In (ResultEnd 1) k ∷ []) first_list s4 joined.4 joined.5 asked turns
+        course.matched_down q d w f p lone.base lone.outcome regular before s0 idle_first G tp tq tails zs all (In (ResultEnd 1) k ∷ []) first_list s4 joined.4 joined.5 asked turns
         (subst (λ (x : Config). IsMatched q G rest s4 x) joined.6 four.5) in (
           joined.0,
           four.1,
@@ -216,13 +216,13 @@ lone_write_is_session q d l w k f p m lone regular realises s u t ys tidy idle w
     by_end (inl all) =
         subst (Matches p (terms.Assign m (terms.Lit k w)) u) (append-nil ys)
         (session q d l w k f p m lone regular realises s u tidy idle does one [] [] ys
-        (no_tails q d w f p lone.base lone.ground lone.outcome regular s (prefix.s0 q d l w k f p lone s u tidy idle does)
+        (no_tails q d w f p lone.base lone.outcome regular s (prefix.s0 q d l w k f p lone s u tidy idle does)
         (prefix.idle_first q d l w k f p lone s u tidy idle does) (program_of q (terms.Assign m (terms.Lit k w)))) all t
         (subst (λ (x : List Element). Runs p x u t) (sym (append-nil ys)) runs)
         (subst (λ (x : List Element). InputsKeepTurns p (passed p [] (In (ResultEnd 1) k ∷ [])) x) (sym (append-nil ys)) later))
     by_end (inr (zs, v, all, is)) =
         subst (Matches p (terms.Assign m (terms.Lit k w)) u) (sym is)
         (session q d l w k f p m lone regular realises s u tidy idle does one (Out (ResultEnd 1) v ∷ []) (Fire d (Ans 1) ∷ Out (ResultEnd 0) 0 ∷ []) zs
-        (ended_tails q d w f p lone.base lone.ground lone.outcome regular lone.run s (prefix.s0 q d l w k f p lone s u tidy idle does)
+        (ended_tails q d w f p lone.base lone.outcome regular lone.run s (prefix.s0 q d l w k f p lone s u tidy idle does)
         (prefix.idle_first q d l w k f p lone s u tidy idle does) (program_of q (terms.Assign m (terms.Lit k w))) v) all t
         (subst (λ (x : List Element). Runs p x u t) is runs) (subst (λ (x : List Element). InputsKeepTurns p (passed p [] (In (ResultEnd 1) k ∷ [])) x) is later))

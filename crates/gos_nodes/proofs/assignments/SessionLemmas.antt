@@ -2,7 +2,6 @@
 use Rattle.std.specs.Prelude.{◌≡◌, ◌≢◌, ◌⊎◌, ℕ, zero, suc, List, [], ◌∷◌, ◌++◌}
 use Rattle.std.proofs.Common.{arith, refl, sym, subst, inl, inr, ◌∙◌}
 use Rattle.gos_types.specs.Types.{Com, Exp, IsDone}
-use Rattle.gos_types.specs.Events.{Request, Answer}
 use Rattle.gos_model.specs.Terms.{Term, Lit, Assign}
 use Rattle.gos_model.specs.Typing.{Imported, Typed}
 use Rattle.gos_model.specs.Stores.{Store}
@@ -10,29 +9,22 @@ use Rattle.gos_model.specs.Labels.{given}
 use Rattle.gos_model.specs.Moves.{Program, Config, Idle, Running, Act, Showing, Moves, labels}
 use Rattle.gos_plan.specs.Plans.{PartEnd, ImportEnd, ResultEnd, Plan}
 use Rattle.gos_plan.specs.Tokens.{Tokens, Element, Fire, Out, In, Does}
-use Rattle.gos_realises.specs.realises.Matched.{label_at, shows, GoesOn, Agrees, IsMatched, program_of, RealisesInTurn}
-use Rattle.gos_realises.specs.realises.Realises.{AllGround, NamesDiffer}
-use Rattle.gos_realises.proofs.realises.InputLemmas.{in_there}
+use Rattle.gos_realises.specs.realises.Matched.{shows, Agrees, IsMatched, program_of, RealisesInTurn}
+use Rattle.gos_realises.specs.realises.Realises.{NamesDiffer}
 use Rattle.gos_nodes.specs.sessions.Sessions.{Session, session}
 use Rattle.gos_programs.specs.contexts.Contexts.{AssignRight}
-use Rattle.gos_programs.specs.contexts.Plugged.{AreInner}
 use Rattle.gos_programs.specs.contexts.Widening.{AreAmong}
 use Rattle.gos_programs.proofs.results.ResultLemmas.{moves_then}
 use Rattle.gos_nodes.specs.windows.Regions.{whole_element}
 use Rattle.gos_nodes.specs.windows.Nodes.{Stage}
-use Rattle.gos_nodes.specs.windows.Windows.{seen, Begins}
-use Rattle.gos_nodes.proofs.nodes.SilentLemmas.{silent_inner, one_inner, inner_stays, asked_first}
-use Rattle.gos_nodes.proofs.nodes.ChildLemmas.{child, moves_at, Ended, child_ends}
+use Rattle.gos_nodes.specs.windows.Windows.{seen, Begins, PassesPort}
+use Rattle.gos_programs.proofs.contexts.SilentLemmas.{silent_inner, inner_stays, asked_first}
+use Rattle.gos_nodes.proofs.nodes.ChildLemmas.{child, moves_at, stirred, Went, Ended, child_ends}
 use Rattle.gos_nodes.proofs.nodes.FrameLemmas.{IsFrame, framed}
-use Rattle.gos_nodes.proofs.nodes.PortLemmas.{request_shown, answer_shown, no_other_out, out_held, among, import_port}
+use Rattle.gos_nodes.proofs.nodes.PortLemmas.{request_shown, answer_shown, no_other_out, among}
 use Rattle.gos_nodes.specs.assignments.Writes.{IsWriteStage}
 use Rattle.gos_nodes.specs.windows.OneSession.{Stays}
 use Rattle.gos_nodes.specs.assignments.Realised.{session_shows, IsSessionMatched, SessionIsRealised}
-use Rattle.gos_nodes.proofs.nodes.RegionLemmas.{fires_goes_on, out_shown, in_shown}
-use Rattle.gos_joining.specs.webs.Cutting.{StandsIn}
-use Rattle.gos_nodes.proofs.windows.AskedLemmas.{ground_in}
-use Rattle.gos_nodes.proofs.assignments.AskedLemmas.{asked_by}
-use Rattle.gos_nodes.proofs.windows.PortLemmas.{ground_within}
 
 -- the two sessions of an assignment: N in its frame, and the write of the number k
 abbrev pub number_session : ℕ → Term → Term → Session
@@ -131,59 +123,22 @@ opens w m n g k ys s e at asked typed realised begins =
           };
     }
 
--- with ground imports an input is at a joint
-pub in_stage_stands : (r : Plan) (d wide : ℕ) (g : Stage) → AllGround r.imports → IsWriteStage r d wide g → (i h v : ℕ) → Stays g.plan (In (ImportEnd i h) v)
-    → StandsIn g.plan (ImportEnd i h)
-in_stage_stands r d wide g ground is i h v stays =
-    ground_in g.plan (ground_within g.plan.imports r.imports ground is.imports) (asked_by g.plan g.asked_at wide is.low is.outcome).ground i h v stays
+-- an element that stays in a stage shows the same in a session
+pub stay_shows : (p : Plan) (y : Element) → Stays p y → session_shows p y ≡ shows p y
+stay_shows p (Fire i t) stays = refl
+stay_shows p (Out (PartEnd i h) v) stays = refl
+stay_shows p (Out (ImportEnd i h) v) stays = refl
+stay_shows p (Out (ResultEnd h) v) stays = absurd stays
+stay_shows p (In e v) stays = refl
 
--- of the acts that match an element of a stage: what they are in the whole
-pub record Stirred (r : Plan) (g : Stage) (y : Element) (s : Tokens) (acts : List Act) : Type 0 where
-  pub inner : AreInner acts
-  pub shown : labels acts ≡ shows r (whole_element g.cut y)
-  pub goes : GoesOn r s (whole_element g.cut y) acts
-
-pub stirred : (r : Plan) (d wide : ℕ) (g : Stage) → AllGround r.imports → IsWriteStage r d wide g → (y : Element) (s u t : Tokens) (acts : List Act)
-    → Does g.plan y (seen g s) u → Stays g.plan y → Does r (whole_element g.cut y) s t → labels acts ≡ session_shows g.plan y
-    → GoesOn g.plan (seen g s) y acts → Stirred r g y s acts
-stirred r d wide g ground is (Fire i slot) s u t acts does stands whole shown goes =
-    record { inner = silent_inner acts shown; shown = shown; goes = fires_goes_on r g is.region i slot s u t acts does goes }
-stirred r d wide g ground is (Out (PartEnd i h) v) s u t acts does stands whole shown goes = absurd does.0
-stirred r d wide g ground is (Out (ImportEnd i h) v) s u t acts does stands whole shown goes =
-    let (k, at, held) = out_held g.plan (ImportEnd i h) v (seen g s) u does in
-    record {
-      inner = one_inner acts (label_at g.plan (ImportEnd i h) Request v) shown (import_port g.plan i h v Request k at);
-      shown = shown ∙ sym (out_shown r g is.ports i h v stands);
-      goes = tt;
-    }
-stirred r d wide g ground is (Out (ResultEnd h) v) s u t acts does stands whole shown goes = absurd stands
-stirred r d wide g ground is (In (PartEnd i h) v) s u t acts does stands whole shown goes = absurd does.0
-stirred r d wide g ground is (In (ImportEnd i h) v) s u t acts does stands whole shown goes =
-    let (k, at) = in_there g.plan (ImportEnd i h) v (seen g s) u does in
-    record {
-      inner = one_inner acts (label_at g.plan (ImportEnd i h) Answer v) shown (import_port g.plan i h v Answer k at);
-      shown = shown ∙ sym (in_shown r g is.ports i h v (in_stage_stands r d wide g ground is i h v stands));
-      goes = tt;
-    }
-stirred r d wide g ground is (In (ResultEnd h) v) s u t acts does stands whole shown goes = absurd stands
-
--- what an element of a stage is in the whole
-pub record Went (r : Plan) (w : ℕ) (m n : Term) (q : Program) (g : Stage) (y : Element) (ys : List Element) (s t : Tokens) (e : Session) (b : Term) (st : Store) : Type 0 where
-  pub term : Term
-  pub store : Store
-  pub acts : List Act
-  pub moves : Moves q acts (Running (e.frame b) st) (Running (e.frame term) store)
-  pub shown : labels acts ≡ shows r (whole_element g.cut y)
-  pub goes : GoesOn r s (whole_element g.cut y) acts
-  pub inner : Inner w m n g ys t e term store
-
+-- an element of a stage, in the whole
 pub goes_within : (r : Plan) (d w : ℕ) (m n : Term) (q : Program) (g : Stage) (y : Element) (ys : List Element) (s t : Tokens) (e : Session) (b : Term) (st : Store)
-    → NamesDiffer r.imports → AllGround r.imports → q.imports ≡ r.imports → IsWriteStage r d w g → Does g.plan y (seen g s) (seen g t) → Stays g.plan y
-    → Does r (whole_element g.cut y) s t → Inner w m n g (y ∷ ys) s e b st → Went r w m n q g y ys s t e b st
-goes_within r d w m n q g y ys s t e b st differ ground same is does stands whole inner =
+    → NamesDiffer r.imports → q.imports ≡ r.imports → IsWriteStage r d w g → Does g.plan y (seen g s) (seen g t) → Stays g.plan y → PassesPort r g y
+    → Does r (whole_element g.cut y) s t → Inner w m n g (y ∷ ys) s e b st → Went (Inner w m n) r q g y ys s t e b st
+goes_within r d w m n q g y ys s t e b st differ same is does stands port whole inner =
     let p = child g e in
     let next = inner.matched.1 (seen g t) does in
-    let stir = stirred r d w g ground is y s (seen g t) t next.0 does stands whole next.3 next.4 in
+    let stir = stirred r g is.region y s (seen g t) t next.0 does stands port whole (next.3 ∙ stay_shows g.plan y stands) next.4 in
     let stays = inner_stays p next.0 b st next.1 stir.inner next.2 in
     let moves : Moves p next.0 (Running b st) (Running stays.0 stays.1) =
     moves_at p next.0 (Running b st) next.1 (Running stays.0 stays.1) stays.2 next.2 in

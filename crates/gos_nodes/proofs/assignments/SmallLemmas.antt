@@ -272,7 +272,7 @@ one_is_assigned =
       own = refl;
       outcome = refl;
       literals = fit;
-      ground = (tt, tt);
+      open_imports = (inl tt, tt);
       names = one_name;
       asked = refl;
       written = refl;
@@ -280,6 +280,8 @@ one_is_assigned =
       own_literals = λ k d less. absurd (omega (arith, less));
       laid_number = laid_number;
       laid_variable = laid_variable;
+      number_heard = ground_heard number_stage.cut write_plan one_plan tt tt;
+      variable_heard = ground_heard variable_stage.cut write_plan x_written (tt, tt) tt;
       result = (0, omega arith, refl);
       joints = joints;
     }

@@ -32,7 +32,7 @@ module _ (w : ℕ) (p : Plan) (m : Term) (realises : Realises (Var w) p m) where
   pub lone : (k : ℕ) (q : Plan) → All LiteralFits p.parts → k < 2 ^ w → IsJoined (writing w k p) q
       → IsLoneWrite q (length p.parts) (suc (length p.parts)) w k (written_cut (unread p)) (unread p)
   lone k q literals small join =
-      is_lone w k p q realises.suits.right realises.suits.outcome realises.suits.all_ground realises.suits.names literals regular_so small join
+      is_lone w k p q realises.suits.right realises.suits.outcome realises.suits.names literals regular_so small join
 
   abbrev Session : ℕ → Type 0
   Session k = Typed p.imports [] (terms.Assign m (terms.Lit k w)) Com × SessionIsRealised (unread p) 1 k (terms.Assign m (terms.Lit k w))

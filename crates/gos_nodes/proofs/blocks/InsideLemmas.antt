@@ -10,7 +10,7 @@ use Rattle.gos_types.proofs.BytesLemmas.{same_bytes_eq}
 use Rattle.gos_model.specs.Terms.{Name, Term, Import, Deref, New, Loc, Scope, Wait, Put}
 use Rattle.gos_model.specs.Typing.{Imports, Typed, import_type}
 use Rattle.gos_model.specs.Substitution.{instantiate}
-use Rattle.gos_model.specs.Stores.{Store, without}
+use Rattle.gos_model.specs.Stores.{variable_at, Store, without}
 use Rattle.gos_model.specs.Steps.{IsValue}
 use Rattle.gos_model.specs.Accesses.{IsArrayImport}
 use Rattle.gos_model.specs.Labels.{Port, Given, Taken, Label, taken, is_answer, IsAnswer}
@@ -32,11 +32,11 @@ use Rattle.gos_programs.proofs.variables.WaitLemmas.{sources_wait, none_waits, w
 use Rattle.gos_programs.proofs.variables.UnfoldedLemmas.{waits_before, answers_value}
 use Rattle.gos_programs.proofs.variables.VariableLemmas.{placed_waits}
 use Rattle.gos_nodes.proofs.parallel.MoveLemmas.{Ended}
-use Rattle.gos_nodes.proofs.nodes.MatchedLemmas.{both_silent}
+use Rattle.gos_nodes.proofs.nodes.FollowedLemmas.{both_silent}
 
 -- the store of the variable alone, at location 0; all others are renamed to the next one
 abbrev pub home_store : ℕ → ℕ → Store
-home_store w k = record { place = 0; width = w; number = k } ∷ []
+home_store w k = variable_at 0 w k ∷ []
 
 home : (w k : ℕ) → IsHome suc (home_store w k) 0 w k
 home w k = record { injective = injective; free = free; apart = λ l h. omega (arith, h); entry = refl }
@@ -45,7 +45,7 @@ home w k = record { injective = injective; free = free; apart = λ l h. omega (a
     injective a b h = omega (arith, h)
 
     free : IsFreeOf suc (home_store w k)
-    free l = later_at (record { place = 0; width = w; number = k }) [] (suc l) (λ h. omega (arith, h))
+    free l = later_at (variable_at 0 w k) [] (suc l) (λ h. omega (arith, h))
 
 -- none of these labels is of the given port, nor of this import
 abbrev pub AllOthers : Name → List Label → Type 0

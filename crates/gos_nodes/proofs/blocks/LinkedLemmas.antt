@@ -1,34 +1,27 @@
--- What is open at the ports of a block, and at those of its body.
---
--- Along a list whose inputs come in turn the body's result is open where the server runs its body, and of the variable what the server's
--- state says (`Driven`); and, with ground imports, another import of the body is open where that of the whole is (`Linked`). So the
--- inputs of the body come in turn (`list_in_turn`).
-use Rattle.std.specs.Prelude.{◌≡◌, ◌≢◌, ℕ, not, Bool, true, false, List, [], ◌∷◌, ◌++◌, Option, Some, None, All, slice_get, if◌then◌else◌}
-use Rattle.std.proofs.Common.{refl, sym, ap, subst, inl, ◌∙◌}
+-- What is open at the results of a block and of its body, and at its variable: along a list whose inputs come in turn the body's result
+-- is open where the server runs its body, and of the variable what the server's state says (`Driven`).
+use Rattle.std.specs.Prelude.{◌≡◌, ◌≢◌, ℕ, not, Bool, true, false, List, [], ◌∷◌, ◌++◌, Option, Some, None, All, slice_get}
+use Rattle.std.proofs.Common.{refl, sym, ap, subst, ◌∙◌}
 use Rattle.gos_types.specs.Events.{Direction, Request, Answer}
-use Rattle.gos_model.specs.Typing.{Imported}
 use Rattle.gos_plan.specs.Kinds.{Contact, contacts_of}
 use Rattle.gos_plan.specs.Firing.{Phase, Rest, State, Slot}
-use Rattle.gos_plan.specs.Plans.{End, ImportEnd, ResultEnd, Plan, contact_at, contacts_of_import, same_end}
+use Rattle.gos_plan.specs.Plans.{End, ImportEnd, ResultEnd, Plan, contact_at}
 use Rattle.gos_plan.specs.Tokens.{Tokens, Element, Out, In, way_taken, way_put, Runs, IsIdle}
 use Rattle.gos_plan.specs.TokenBits.{LiteralFits}
 use Rattle.gos_plan.proofs.ElementLemmas.{runs_then}
-use Rattle.gos_joining.specs.webs.Cutting.{StandsIn, cut_tokens}
+use Rattle.gos_joining.specs.webs.Cutting.{cut_tokens}
 use Rattle.gos_realises.specs.realises.Regular.{Pass, pass, way_in, way_out, is_request, is_open, ComesInTurn}
-use Rattle.gos_realises.specs.realises.Realises.{AllGround}
 use Rattle.gos_realises.proofs.realises.RingLemmas.{after}
-use Rattle.gos_realises.proofs.realises.ToldLemmas.{there_is}
-use Rattle.gos_realises.proofs.realises.InputLemmas.{import_serves, one_ground}
-use Rattle.gos_realises.proofs.realises.PassLemmas.{open_otherwise, same_turn}
-use Rattle.gos_nodes.proofs.windows.KeepingLemmas.{InTurn}
-use Rattle.gos_nodes.proofs.parallel.StepLemmas.{gate, Same, Local, fires, puts_out, takes_in}
-use Rattle.gos_nodes.proofs.parallel.LinkedLemmas.{Comes, first_comes, past_all, turn_append}
+use Rattle.gos_realises.proofs.realises.PassLemmas.{open_otherwise}
+use Rattle.gos_nodes.proofs.parallel.GateLemmas.{gate, Same}
+use Rattle.gos_nodes.proofs.parallel.HungLemmas.{Local, fires, puts_out, takes_in, import_contact}
+use Rattle.gos_nodes.proofs.parallel.LinkedLemmas.{Comes, past_all}
 use Rattle.gos_nodes.proofs.windows.AskedLemmas.{done_contact}
 use Rattle.gos_nodes.specs.blocks.Servers.{after_pass}
 use Rattle.gos_nodes.specs.blocks.Block.{Block, IsBlock}
 use Rattle.gos_nodes.proofs.blocks.RegionLemmas as region
 use Rattle.gos_nodes.proofs.blocks.ServerLemmas.{import_pass, same_after, finds_comes}
-use Rattle.gos_nodes.proofs.blocks.StepLemmas.{Supplies, Step, of_body, asked, told, starts, supplies, ended, lost, step, Sound, sound_on}
+use Rattle.gos_nodes.proofs.blocks.StepLemmas.{Supplies, Step, of_body, asked, told, starts, supplies, ended, lost}
 
 -- where the whole stands: whether its result is open, the server's phase, and what lies on the joint of the result
 pub data Stage (runs : Phase → Bool) (up : Bool) (ph : Phase) (ask ans : Option ℕ) : Type 0 where
@@ -37,21 +30,10 @@ pub data Stage (runs : Phase → Bool) (up : Bool) (ph : Phase) (ask ans : Optio
   works : up ≡ true → runs ph ≡ true → ask ≡ None → ans ≡ None → Stage runs up ph ask ans
   has_ended : (v : ℕ) → up ≡ true → ph ≡ Rest → ask ≡ None → ans ≡ Some v → Stage runs up ph ask ans
 
--- an import of the body that isn't the variable is open where that of the whole is
-abbrev pub ImportsAgree : Block → List Pass → List Pass → Type 0
-ImportsAgree b past own =
-    (i j n : ℕ) → i ≢ b.place → StandsIn b.body (ImportEnd i n) → b.cut.outer (ImportEnd i n) ≡ ImportEnd j n
-    → is_open past (ImportEnd j n) ≡ is_open own (ImportEnd i n)
-
 pub record Driven (b : Block) (past own : List Pass) (s : Tokens) : Type 0 where
   pub result : is_open own (ResultEnd 0) ≡ b.server.runs (s.state b.own).phase
   pub variable : (h : ℕ) → is_open own (ImportEnd b.place h) ≡ b.server.opened (s.state b.own) h
   pub stage : Stage b.server.runs (is_open past (ResultEnd 0)) (s.state b.own).phase (gate s Request) (gate s Answer)
-
-pub record Linked (b : Block) (past own : List Pass) (s : Tokens) : Type 0 where
-  pub driven : Driven b past own s
-  pub imports : ImportsAgree b past own
-  pub others : (j n : ℕ) → b.cut.inner (ImportEnd j n) ≡ None → is_open past (ImportEnd j n) ≡ false
 
 -- what a stage tells
 module _ (runs : Phase → Bool) (rests : runs Rest ≡ false) (up : Bool) (ph : Phase) (ask ans : Option ℕ) where
@@ -115,9 +97,6 @@ module _ (r : Plan) (b : Block) (is : IsBlock r b) (literals : All LiteralFits r
   pub way_back : (h : ℕ) (c : Contact) → slice_get (contacts_of b.server.supply) h ≡ Some c → way_in (contact_at b.body (ImportEnd b.place h)) ≡ way_put c.role
   way_back h c there = ap way_in (region.variable_contact r b is h ∙ there)
 
-  pub inner_import : (i j k : ℕ) → StandsIn b.body (ImportEnd i k) → b.cut.outer (ImportEnd i k) ≡ ImportEnd j k → b.cut.inner (ImportEnd j k) ≡ Some (ImportEnd i k)
-  inner_import i j k stands leads = ap b.cut.inner (sym leads) ∙ (is.cut.ports (ImportEnd i k) tt stands).1
-
   -- what leads to an import of the whole is not the variable
   pub not_variable : (i j k : ℕ) → b.cut.outer (ImportEnd i k) ≡ ImportEnd j k → i ≢ b.place
   not_variable i j k leads same = let bad = sym (region.served_at r b is i k same) ∙ leads in cc bad
@@ -143,20 +122,6 @@ module _ (r : Plan) (b : Block) (is : IsBlock r b) (literals : All LiteralFits r
             driven.stage;
       }
 
-  linked_same : (past own : List Pass) (s t : Tokens) → Same b.own s t → Linked b past own s → Linked b past own t
-  linked_same past own s t same linked =
-      record {
-        driven = driven_same past own s t same linked.driven;
-        imports = linked.imports;
-        others = linked.others;
-      }
-
-  -- two imports of the body are one where those of the whole are
-  same_imports : (i j k a c n : ℕ) → StandsIn b.body (ImportEnd i k) → b.cut.outer (ImportEnd i k) ≡ ImportEnd j k → StandsIn b.body (ImportEnd a n)
-      → b.cut.outer (ImportEnd a n) ≡ ImportEnd c n → same_end (ImportEnd j k) (ImportEnd c n) ≡ same_end (ImportEnd i k) (ImportEnd a n)
-  same_imports i j k a c n stands leads stood led =
-      sym (λ m. same_end (leads m) (led m)) ∙ region.same_held r b is (ImportEnd i k) (ImportEnd a n) (inl stands) (inl stood)
-
   -- an import of the body is asked or answers
   import_driven : (i j k : ℕ) (way : Direction) (past own : List Pass) (s : Tokens) → b.cut.outer (ImportEnd i k) ≡ ImportEnd j k → Driven b past own s
       → Driven b (pass (ImportEnd j k) way ∷ past) (pass (ImportEnd i k) way ∷ own) s
@@ -167,22 +132,6 @@ module _ (r : Plan) (b : Block) (is : IsBlock r b) (literals : All LiteralFits r
             open_otherwise (ImportEnd i k) (ImportEnd b.place h) way own (λ e. let same : i ≡ b.place = cc e in not_variable i j k leads same) ∙ driven.variable h;
         stage = driven.stage;
       }
-
-  import_passed : (i j k : ℕ) (way : Direction) (past own : List Pass) (s : Tokens) → StandsIn b.body (ImportEnd i k)
-      → b.cut.outer (ImportEnd i k) ≡ ImportEnd j k → Linked b past own s → Linked b (pass (ImportEnd j k) way ∷ past) (pass (ImportEnd i k) way ∷ own) s
-  import_passed i j k way past own s stands leads linked =
-      record {
-        driven = import_driven i j k way past own s leads linked.driven;
-        imports = λ a c n apart stood led.
-            λ m. if same_imports i j k a c n stands leads stood led m then is_request way else linked.imports a c n apart stood led m;
-        others = λ c n none.
-            open_otherwise (ImportEnd j k) (ImportEnd c n) way past
-            (λ e. let clash : None ≡ Some (ImportEnd i k) = sym none ∙ (ap b.cut.inner (sym e) ∙ inner_import i j k stands leads) in cc clash)
-            ∙ linked.others c n none;
-      }
-
-  pub ways : (i j k : ℕ) → StandsIn b.body (ImportEnd i k) → b.cut.outer (ImportEnd i k) ≡ ImportEnd j k → contact_at r (ImportEnd j k) ≡ contact_at b.body (ImportEnd i k)
-  ways i j k stands leads = ap (contact_at r) (sym leads) ∙ is.cut.contacts (ImportEnd i k) tt stands
 
   -- the server serves the variable: both passes
   module _ (slot : Slot) (s t : Tokens) (z : Supplies r b slot s t) (own : List Pass) where
@@ -247,40 +196,6 @@ module _ (r : Plan) (b : Block) (is : IsBlock r b) (literals : All LiteralFits r
         (λ e. let same : b.place ≡ i = cc e in apart (sym same))
         ∙ open_otherwise one (ImportEnd i n) (way_out (contact_at b.body one)) own (λ e. let same : b.place ≡ i = cc e in apart (sym same))
 
-    supplied_linked : (past : List Pass) → Linked b past own s → Linked b past own_after t
-    supplied_linked past linked =
-        record {
-          driven = supplied_driven past linked.driven;
-          imports = λ i j n apart stood led. linked.imports i j n apart stood led ∙ sym (supplied_others i n apart);
-          others = linked.others;
-        }
-
-  pub record Led (past own : List Pass) (x : Element) (s t : Tokens) (z : Step r b x s t) : Type 0 where
-    pub linked : Linked b (after r x past) (past_all b.body (seen x s t z) own) t
-    pub turn : InTurn b.body own (seen x s t z)
-
-  local_step : (x y : Element) (s t : Tokens) (past own : List Pass) → Local b.cut r b.body x y → Same b.own s t → Linked b past own s → Comes r past x
-      → Linked b (after r x past) (after b.body y own) t × InTurn b.body own (y ∷ [])
-  local_step x y s t past own (fires i j slot number) same linked comes = (linked_same past own s t same linked, tt)
-  local_step x y s t past own (puts_out i j k v stands leads slices) same linked comes =
-      let way = way_out (contact_at b.body (ImportEnd i k)) in (
-        linked_same (after r x past) (after b.body y own) s t same
-            (subst (λ o. Linked b (pass (ImportEnd j k) (way_out o) ∷ past) (pass (ImportEnd i k) way ∷ own) s) (sym (ways i j k stands leads))
-            (import_passed i j k way past own s stands leads linked)),
-        tt,
-      )
-  local_step x y s t past own (takes_in i j k v stands leads slices) same linked comes =
-      let way = way_in (contact_at b.body (ImportEnd i k)) in (
-        linked_same (after r x past) (after b.body y own) s t same
-            (subst (λ o. Linked b (pass (ImportEnd j k) (way_in o) ∷ past) (pass (ImportEnd i k) way ∷ own) s) (sym (ways i j k stands leads))
-            (import_passed i j k way past own s stands leads linked)),
-        (
-          same_turn past own (ImportEnd j k) (ImportEnd i k) way (linked.imports i j k (not_variable i j k leads) stands leads)
-              (subst (λ o. ComesInTurn past (ImportEnd j k) (way_in o)) (ways i j k stands leads) comes),
-          tt,
-        ),
-      )
-
   pub asked_turn : (past : List Pass) → ComesInTurn past (ResultEnd 0) (way_in (contact_at r (ResultEnd 0))) → is_open past (ResultEnd 0) ≡ false
   asked_turn past turn = subst (λ w. ComesInTurn past (ResultEnd 0) w) way_asked turn
 
@@ -288,11 +203,11 @@ module _ (r : Plan) (b : Block) (is : IsBlock r b) (literals : All LiteralFits r
   local_driven x y s past own (fires i j slot number) driven = driven
   local_driven x y s past own (puts_out i j k v stands leads slices) driven =
       let way = way_out (contact_at b.body (ImportEnd i k)) in
-      subst (λ o. Driven b (pass (ImportEnd j k) (way_out o) ∷ past) (pass (ImportEnd i k) way ∷ own) s) (sym (ways i j k stands leads))
+      subst (λ o. Driven b (pass (ImportEnd j k) (way_out o) ∷ past) (pass (ImportEnd i k) way ∷ own) s) (sym (import_contact (region.hung_body r b is) i j k stands leads))
       (import_driven i j k way past own s leads driven)
   local_driven x y s past own (takes_in i j k v stands leads slices) driven =
       let way = way_in (contact_at b.body (ImportEnd i k)) in
-      subst (λ o. Driven b (pass (ImportEnd j k) (way_in o) ∷ past) (pass (ImportEnd i k) way ∷ own) s) (sym (ways i j k stands leads))
+      subst (λ o. Driven b (pass (ImportEnd j k) (way_in o) ∷ past) (pass (ImportEnd i k) way ∷ own) s) (sym (import_contact (region.hung_body r b is) i j k stands leads))
       (import_driven i j k way past own s leads driven)
 
   -- nothing is open of a server at rest
@@ -338,11 +253,6 @@ module _ (r : Plan) (b : Block) (is : IsBlock r b) (literals : All LiteralFits r
   driven_step x s t (lost j k v s' t' c there none unseen same) past own driven comes =
       let now = driven_same past own s' t' same driven in record { result = now.result; variable = now.variable; stage = now.stage }
 
-  -- the list of the body
-  abbrev pub body_list : (xs : List Element) (s t : Tokens) → Sound r b s → Runs r xs s t → List Element
-  body_list [] s t sound runs = []
-  body_list (x ∷ xs) s t sound (w, does, runs) = seen x s w (step r b is literals x s w sound does) ++ body_list xs w t (sound_on r b is literals x s w sound does) runs
-
   pub seen_runs : (x : Element) (s w : Tokens) (z : Step r b x s w) (ys : List Element) (u : Tokens) → Runs b.body ys (cut_tokens b.cut b.body w) u
       → Runs b.body (seen x s w z ++ ys) (cut_tokens b.cut b.body s) u
   seen_runs x s w (of_body x' y s' t' local sees same) ys u runs = (cut_tokens b.cut b.body t', sees, runs)
@@ -355,13 +265,6 @@ module _ (r : Plan) (b : Block) (is : IsBlock r b) (literals : All LiteralFits r
   seen_runs x s w (ended s' t' z) ys u runs = (cut_tokens b.cut b.body t', z.sees, runs)
   seen_runs x s w (lost j k v s' t' c there none unseen same) ys u runs = subst (λ (a : Tokens). Runs b.body ys a u) unseen runs
 
-  pub body_runs : (xs : List Element) (s t : Tokens) (sound : Sound r b s) (runs : Runs r xs s t)
-      → Runs b.body (body_list xs s t sound runs) (cut_tokens b.cut b.body s) (cut_tokens b.cut b.body t)
-  body_runs [] s t sound runs = ap (cut_tokens b.cut b.body) runs
-  body_runs (x ∷ xs) s t sound (w, does, runs) =
-      seen_runs x s w (step r b is literals x s w sound does) (body_list xs w t (sound_on r b is literals x s w sound does) runs) (cut_tokens b.cut b.body t)
-      (body_runs xs w t (sound_on r b is literals x s w sound does) runs)
-
   pub driven_first : (s : Tokens) → IsIdle r s → Driven b [] [] s
   driven_first s rests =
       record {
@@ -369,80 +272,3 @@ module _ (r : Plan) (b : Block) (is : IsBlock r b) (literals : All LiteralFits r
         variable = λ h. sym (resting_shut s (rests.1 b.own) h);
         stage = idle refl (rests.1 b.own) (rests.0 Request (ResultEnd 0)) (rests.0 Answer (ResultEnd 0));
       }
-
-  pub linked_first : (s : Tokens) → IsIdle r s → Linked b [] [] s
-  linked_first s rests =
-      record {
-        driven = driven_first s rests;
-        imports = λ i j n apart stands leads. refl;
-        others = λ j n none. refl;
-      }
-
-  -- with ground imports no input is lost
-  module _ (ground : AllGround r.imports) where
-    pub not_lost : (j k : ℕ) (c : Contact) (past own : List Pass) (s : Tokens) → contact_at r (ImportEnd j k) ≡ Some c → b.cut.inner (ImportEnd j k) ≡ None
-        → Linked b past own s → ComesInTurn past (ImportEnd j k) (way_in (contact_at r (ImportEnd j k))) → ⊥
-    not_lost j k c past own s there none linked turn =
-        let (x, at) = there_is r.imports j k c there in
-        let role = import_serves x.ty (one_ground r.imports ground j x at) k c (sym (ap (λ (o : Option Imported). slice_get (contacts_of_import o) k) at) ∙ there) in
-        let way : way_in (contact_at r (ImportEnd j k)) ≡ Answer = ap way_in there ∙ ap way_put (sym role) in
-        let up : is_open past (ImportEnd j k) ≡ true = subst (λ w. ComesInTurn past (ImportEnd j k) w) way turn in
-        let clash : true ≡ false = sym up ∙ linked.others j k none in cc clash
-
-    pub linked_step : (x : Element) (s t : Tokens) (z : Step r b x s t) (past own : List Pass) → Linked b past own s → Comes r past x → Led past own x s t z
-    linked_step x s t (of_body x' y s' t' local sees same) past own linked comes =
-        let (led, turn) = local_step x' y s' t' past own local same linked comes in record { linked = led; turn = turn }
-    linked_step x s t (asked v s' t' small unseen state ask ans) past own linked comes =
-        record {
-          linked =
-              record {
-                driven = driven_step x s' t' (asked v s' t' small unseen state ask ans) past own linked.driven comes;
-                imports = linked.imports;
-                others = linked.others;
-              };
-          turn = tt;
-        }
-    linked_step x s t (told v s' t' unseen state ans none ask) past own linked comes =
-        record {
-          linked =
-              record {
-                driven = driven_step x s' t' (told v s' t' unseen state ans none ask) past own linked.driven comes;
-                imports = linked.imports;
-                others = linked.others;
-              };
-          turn = tt;
-        }
-    linked_step x s t (starts s' t' z) past own linked comes =
-        record {
-          linked =
-              record {
-                driven = driven_step x s' t' (starts s' t' z) past own linked.driven comes;
-                imports = linked.imports;
-                others = linked.others;
-              };
-          turn = (subst (λ w. ComesInTurn own (ResultEnd 0) w) (sym body_asked) (linked.driven.result ∙ (ap b.server.runs z.rest ∙ is.server.rests)), tt);
-        }
-    linked_step x s t (supplies slot s' t' z) past own linked comes =
-        record { linked = supplied_linked slot s' t' z own past linked; turn = (supplied_turn slot s' t' z own linked.driven.variable, tt) }
-    linked_step x s t (ended s' t' z) past own linked comes =
-        record {
-          linked =
-              record {
-                driven = driven_step x s' t' (ended s' t' z) past own linked.driven comes;
-                imports = linked.imports;
-                others = linked.others;
-              };
-          turn = tt;
-        }
-    linked_step x s t (lost j k v s' t' c there none unseen same) past own linked comes = absurd (not_lost j k c past own s' there none linked comes)
-
-    pub list_in_turn : (xs : List Element) (s t : Tokens) (past own : List Pass) (sound : Sound r b s) (runs : Runs r xs s t) → Linked b past own s → InTurn r past xs
-        → InTurn b.body own (body_list xs s t sound runs)
-    list_in_turn [] s t past own sound runs linked turn = tt
-    list_in_turn (x ∷ xs) s t past own sound (w, does, runs) linked turn =
-        let z = step r b is literals x s w sound does in
-        let sound_now = sound_on r b is literals x s w sound does in
-        let (comes, later) = first_comes r past x xs turn in
-        let led = linked_step x s w z past own linked comes in
-        turn_append b.body own (seen x s w z) (body_list xs w t sound_now runs) led.turn
-        (list_in_turn xs w t (after r x past) (past_all b.body (seen x s w z) own) sound_now runs led.linked later)

@@ -12,12 +12,12 @@ use Rattle.gos_joining.specs.webs.Cutting.{lies_at}
 use Rattle.gos_joining.proofs.webs.CutLemmas.{Owns}
 use Rattle.gos_realises.specs.realises.Regular.{Pass}
 use Rattle.gos_realises.proofs.realises.RingLemmas.{after}
+use Rattle.gos_nodes.proofs.blocks.EndLemmas.{Lies, in_part, at_import, at_driver, lies}
+use Rattle.gos_nodes.proofs.parallel.GateLemmas.{Same}
+use Rattle.gos_nodes.proofs.parallel.HungLemmas.{Held}
 use Rattle.gos_nodes.proofs.windows.PortLemmas.{stands_place}
-use Rattle.gos_nodes.proofs.parallel.StepLemmas.{Same}
-use Rattle.gos_nodes.proofs.parallel.OpenLemmas.{opened_so}
+use Rattle.gos_nodes.proofs.parallel.OpenLemmas.{opened_so, OpenAgree}
 use Rattle.gos_nodes.specs.blocks.Block.{Block, IsBlock}
-use Rattle.gos_nodes.proofs.blocks.RegionLemmas.{Held}
-use Rattle.gos_nodes.proofs.blocks.OpenLemmas.{OpenAgree, Lies, in_part, at_import, at_driver, lies}
 use Rattle.gos_nodes.proofs.blocks.OrderLemmas.{Opened}
 
 module _ (r : Plan) (b : Block) (is : IsBlock r b) (k n : ℕ) (none : b.cut.inner (ImportEnd k n) ≡ None) where

@@ -1,6 +1,6 @@
 -- A list of a block is matched by moves of `new x : w in M`, where that of its body is matched by moves of M with the import.
-use Rattle.std.specs.Prelude.{◌≡◌, ◌≢◌, ℕ, true, false, List, [], ◌∷◌, ◌++◌, Option, Some, None, All, slice_get}
-use Rattle.std.proofs.Common.{arith, refl, sym, ap, subst, inl, ◌∙◌}
+use Rattle.std.specs.Prelude.{◌≡◌, ◌≢◌, ℕ, List, [], ◌∷◌, ◌++◌, Option, Some, None, All, slice_get}
+use Rattle.std.proofs.Common.{arith, refl, sym, ap, subst, ◌∙◌}
 use Rattle.gos_types.specs.Events.{Direction, Request, Answer}
 use Rattle.gos_types.proofs.BytesLemmas.{same_bytes_eq}
 use Rattle.gos_model.specs.Terms.{Name, Term, Import, New, Loc, Scope}
@@ -15,38 +15,42 @@ use Rattle.gos_plan.specs.Kinds as kinds
 use Rattle.gos_plan.specs.Kinds.{Contact, asks}
 use Rattle.gos_plan.specs.Firing.{Phase, Rest, Active, State, Slot, Req, Ans, Row, at, row_for, rows}
 use Rattle.gos_plan.specs.Plans.{PartEnd, ImportEnd, ResultEnd, Plan, contact_at}
-use Rattle.gos_plan.specs.Tokens.{Tokens, Element, Fire, Out, In, places_of, held_at, token_at, with_token, firing_of, fired, Passes, Does, Runs, IsIdle, IsQuiet}
+use Rattle.gos_plan.specs.Tokens.{Tokens, Element, Fire, Out, In, places_of, held_at, with_token, firing_of, fired, Passes, Does, Runs, IsIdle, IsQuiet}
+use Rattle.gos_plan.specs.Orderly.{Open, none_open}
 use Rattle.gos_plan.specs.TokenBits.{LiteralFits}
 use Rattle.gos_plan.proofs.DecidedLemmas.{one_state}
 use Rattle.gos_nodes.specs.sessions.Sessions.{bits}
 use Rattle.gos_joining.specs.webs.Cutting.{StandsIn, cut_tokens}
-use Rattle.gos_realises.specs.realises.Regular.{Pass, is_open}
-use Rattle.gos_realises.specs.realises.Matched.{port_if, event_number, shows, asks_on, GoesOn, Agrees, IsMatched, program_of}
-use Rattle.gos_realises.specs.realises.Realises.{AllGround, NamesDiffer}
+use Rattle.gos_realises.specs.realises.Regular.{Pass, is_open, InputsKeepTurns, IsRegular}
+use Rattle.gos_realises.specs.realises.Matched.{port_if, event_number, shows, GoesOn, Agrees, IsMatched, program_of}
+use Rattle.gos_realises.specs.realises.Realises.{NamesDiffer}
 use Rattle.gos_realises.proofs.realises.RingLemmas.{after}
-use Rattle.gos_realises.proofs.realises.ToldLemmas.{one_name}
+use Rattle.gos_realises.proofs.realises.ToldLemmas.{one_name, there_is}
+use Rattle.gos_realises.proofs.realises.InputLemmas.{passed, first_turn, later_turns}
 use Rattle.gos_realises.proofs.realises.MatchedLemmas.{matched_agrees}
 use Rattle.gos_programs.specs.contexts.Plugged.{AreInner}
 use Rattle.gos_programs.specs.contexts.Widening.{Knows}
 use Rattle.gos_programs.proofs.contexts.WideningLemmas.{sources_known, runs_known}
 use Rattle.gos_programs.proofs.contexts.InnerLemmas.{idle_inner}
-use Rattle.gos_nodes.proofs.windows.KeepingLemmas.{InTurn}
-use Rattle.gos_nodes.proofs.parallel.StepLemmas.{gate, Same, Local, fires, puts_out, takes_in}
-use Rattle.gos_nodes.proofs.parallel.LinkedLemmas.{Comes, first_comes, past_all}
+use Rattle.gos_nodes.proofs.windows.MeetLemmas.{IsUnjoined, HasPorts}
+use Rattle.gos_nodes.proofs.parallel.GateLemmas.{gate, Same, result_gate, part_gate}
+use Rattle.gos_nodes.proofs.parallel.HungLemmas.{Sees, Local, fires, puts_out, takes_in, import_real}
+use Rattle.gos_nodes.proofs.parallel.LocalLemmas.{local_shows, not_given, local_goes, quiet_goes}
+use Rattle.gos_nodes.proofs.parallel.LinkedLemmas.{Comes}
+use Rattle.gos_nodes.proofs.parallel.RegularLemmas.{comes_of_turn}
 use Rattle.gos_nodes.proofs.parallel.QuietLemmas.{Neat, neat_step}
-use Rattle.gos_nodes.proofs.parallel.MoveLemmas.{AllTaken, inner_from, request_begins, answer_ends}
+use Rattle.gos_nodes.proofs.parallel.MoveLemmas.{AllTaken, inner_from, Came, came_on, request_begins, answer_ends}
 use Rattle.gos_nodes.proofs.windows.AskedLemmas.{done_contact}
 use Rattle.gos_nodes.specs.blocks.Servers.{Server, run_of, begin_row, end_row, local_server}
 use Rattle.gos_nodes.specs.blocks.Block.{Block, IsBlock}
 use Rattle.gos_nodes.proofs.blocks.DriverLemmas as drivers
 use Rattle.gos_nodes.proofs.blocks.DriverLemmas.{LocalServes, is_read, is_write, local_begins, local_active, local_serves}
 use Rattle.gos_nodes.proofs.blocks.RegionLemmas as region
-use Rattle.gos_nodes.proofs.blocks.StepLemmas.{Supplies, Step, of_body, asked, told, starts, supplies, ended, lost, Served, step, Sound, sound_on, gate_at_result, gate_at_part, firing_own}
-use Rattle.gos_nodes.proofs.blocks.LinkedLemmas.{Linked, when_asking, seen, not_variable, asked_turn, not_lost, linked_step, body_list}
-use Rattle.gos_nodes.proofs.blocks.OutputLemmas.{import_real}
-use Rattle.gos_nodes.proofs.blocks.OpenLemmas.{firing_same}
+use Rattle.gos_nodes.proofs.blocks.StepLemmas.{Supplies, Step, of_body, asked, told, starts, supplies, ended, lost, IsSeen, Served, firing_own, is_run}
+use Rattle.gos_nodes.proofs.blocks.LinkedLemmas.{Driven, when_asking, seen, not_variable, asked_turn}
+use Rattle.gos_nodes.proofs.blocks.RegularLemmas.{Holds, Went, is_seen, lost_inside, inside_of}
+use Rattle.gos_nodes.proofs.blocks.WalkLemmas.{one_on, body_rest}
 use Rattle.gos_nodes.proofs.blocks.QuietLemmas.{local_firing, body_quiet, whole_idle}
-use Rattle.gos_nodes.proofs.blocks.IdleLemmas.{Came, came_on}
 use Rattle.gos_nodes.proofs.blocks.ImportLemmas.{wide_imports, body_among, variable_typed, others_same, variable_new}
 use Rattle.gos_nodes.proofs.blocks.InsideLemmas.{home_store, AllOthers, Inside, inside_moves, silent_moves, reads, writes, leaves, inside_waits, begins, first_step}
 
@@ -55,7 +59,7 @@ others_taken y [] apart = tt
 others_taken y (l ∷ ls) apart = (apart.0, others_taken y ls apart.2)
 
 module _
-    (r : Plan) (b : Block) (is : IsBlock r b) (literals : All LiteralFits r.parts) (ground : AllGround r.imports) (differ : NamesDiffer r.imports)
+    (r : Plan) (b : Block) (is : IsBlock r b) (literals : All LiteralFits r.parts) (differ : NamesDiffer r.imports)
     (names : NamesDiffer b.body.imports) (width : ℕ) (local : b.server ≡ local_server width (bits r.outcome)) (m : Term)
     (typed : Typed r.imports [] (New width m) r.outcome)
     (source : Typed b.body.imports [] (instantiate m (Import b.variable.name)) b.body.outcome) where
@@ -93,7 +97,7 @@ module _
 
   -- it is run at its third handshake
   gate_at_run : places_of r (PartEnd b.own 3) ≡ Some (ResultEnd 0)
-  gate_at_run = ap (λ (a : Server). places_of r (PartEnd b.own (run_of a))) (sym local) ∙ gate_at_part r b is
+  gate_at_run = ap (λ (a : Server). places_of r (PartEnd b.own (run_of a))) (sym local) ∙ part_gate (is_run r b is)
 
   firing_in : (slot : Slot) (row : Row) (ph : Phase) (s : Tokens) → (s.state b.own).phase ≡ ph
       → row_for slot (rows (kinds.Local width (bits r.outcome)) ph (s.state b.own).number) ≡ Some row → firing_of (slice_get r.parts b.own) (s.state b.own) slot ≡ Some row
@@ -116,7 +120,7 @@ module _
       absurd (quiet.1 (ResultEnd 0) v next (
         tt,
         subst (λ (o : Option Contact). Passes r (Out (ResultEnd 0) v) o s next) (sym contact)
-            (ap (held_at s Answer) (gate_at_result r b is) ∙ some, refl),
+            (ap (held_at s Answer) (result_gate (is_run r b is)) ∙ some, refl),
       ))
 
   running_not_idle : (t : Term) (v : Store) (c : Config) → c ≡ Running t v → c ≡ Idle → ⊥
@@ -130,21 +134,12 @@ module _
   whole_rests s inner c (works active none empty i) neat agrees same = absurd (running_not_idle _ _ c i.whole_is same)
   whole_rests s inner c (is_done v last x rest none some inner_is is_last answers) neat agrees same = absurd (running_not_idle last x c is_last same)
 
-  -- what an element of the body shows
-  local_shows : (x y : Element) → Local b.cut r b.body x y → shows b.body y ≡ shows r x
-  local_shows x y (fires i j k number) = refl
-  local_shows x y (puts_out i j k v stands leads slices) =
-      λ t. record { port = port_if (slices t); event = event_number Request k; value = v } ∷ []
-  local_shows x y (takes_in i j k v stands leads slices) =
-      λ t. record { port = port_if (slices t); event = event_number Answer k; value = v } ∷ []
+  -- what an element of the body shows is not at the variable
+  abbrev Elsewhere : ℕ → Type 0
+  Elsewhere i = (port_if (slice_get b.body.imports i) ≢ Given) × (port_if (slice_get b.body.imports i) ≢ Taken b.variable.name)
 
-  -- it is not at the variable
-  not_given : (o : Option Imported) (x : Imported) → o ≡ Some x → port_if o ≡ Given → ⊥
-  not_given o x at same = let bad : Taken x.name ≡ Given = sym (ap port_if at) ∙ same in cc bad
-
-  elsewhere : (i k : ℕ) → StandsIn b.body (ImportEnd i k) → i ≢ b.place → (port_if (slice_get b.body.imports i) ≢ Given) × (port_if (slice_get b.body.imports i) ≢ Taken b.variable.name)
-  elsewhere i k stands apart =
-      let (x, at, low) = import_real r b is i k stands in
+  other_import : (i : ℕ) (x : Imported) → slice_get b.body.imports i ≡ Some x → i ≢ b.place → Elsewhere i
+  other_import i x at apart =
       let tests = one_name b.body.imports names i b.place x b.variable at is.there in (
         not_given (slice_get b.body.imports i) x at,
         λ e. let one : Taken x.name ≡ Taken b.variable.name = sym (ap port_if at) ∙ e in
@@ -152,29 +147,15 @@ module _
             apart (grind (arith, tests, same_bytes_eq x.name b.variable.name name)),
       )
 
+  elsewhere : (i k : ℕ) → StandsIn b.body (ImportEnd i k) → i ≢ b.place → Elsewhere i
+  elsewhere i k stands apart = let (x, at, low) = import_real b.body is.cut.right i k stands in other_import i x at apart
+
   local_others : (x y : Element) → Local b.cut r b.body x y → AllOthers b.variable.name (shows b.body y)
   local_others x y (fires i j k number) = tt
   local_others x y (puts_out i j k v stands leads slices) =
       let (taken', other') = elsewhere i k stands (not_variable r b is literals i j k leads) in (taken', other', tt)
   local_others x y (takes_in i j k v stands leads slices) =
       let (taken', other') = elsewhere i k stands (not_variable r b is literals i j k leads) in (taken', other', tt)
-
-  -- a firing that goes on in the body goes on in the whole
-  local_goes : (x y : Element) (s : Tokens) (acts : List Act) → Local b.cut r b.body x y → GoesOn b.body (cut_tokens b.cut b.body s) y acts → GoesOn r s x acts
-  local_goes x y s acts (fires i j (Req k) number) goes = tt
-  local_goes x y s acts (fires i j (Ans k) number) goes = λ v row lies by asks.
-      let (at_part, (part, there)) = is.cut.numbers i j number in
-      goes v row
-      (region.held_token r b is (PartEnd j k) (inl (part, there)) s Answer ∙ (ap (λ t. token_at r s (PartEnd t k) Answer) at_part ∙ lies))
-      (firing_same r b is j part there (Ans k) s ∙ (ap (λ t. firing_of (slice_get r.parts t) (s.state t) (Ans k)) at_part ∙ by)) asks
-  local_goes x y s acts (puts_out i j k v stands leads slices) goes = tt
-  local_goes x y s acts (takes_in i j k v stands leads slices) goes = tt
-
-  -- the part asks only when it begins
-  end_goes : (n : ℕ) (s : Tokens) (acts : List Act) → firing_of (slice_get r.parts b.own) (s.state b.own) (Ans 0) ≡ Some (drivers.end_row n) → GoesOn r s (Fire b.own (Ans 0)) acts
-  end_goes n s acts by = λ v other lies firing asks.
-      let same : drivers.end_row n ≡ other = cc (by, firing) in
-      let clash : false ≡ true = ap (λ (y : Row). asks_on (y.puts v)) same ∙ asks in absurd (cc clash)
 
   -- a request is taken
   request_goes : (slot : Slot) (h : ℕ) → slot ≡ Req h → (s : Tokens) (acts : List Act) → GoesOn r s (Fire b.own slot) acts
@@ -268,12 +249,15 @@ module _
     abbrev Result : Element → Tokens → Tokens → Type 0
     Result x s w = Follows x s w c ys
 
-    follow_body : (x y : Element) (s w : Tokens) → Local b.cut r b.body x y → Does b.body y (cut_tokens b.cut b.body s) (cut_tokens b.cut b.body w) → Same b.own s w
+    -- by an element of the body that shows the same, and not at the variable
+    by_body : (x y : Element) (s w : Tokens) → AllOthers b.variable.name (shows b.body y) → shows b.body y ≡ shows r x
+        → ((acts : List Act) → GoesOn b.body (cut_tokens b.cut b.body s) y acts → GoesOn r s x acts)
+        → Does b.body y (cut_tokens b.cut b.body s) (cut_tokens b.cut b.body w) → Same b.own s w
         → Stood s inner c → Came on_body inner → IsMatched b.body on_body (y ∷ ys) (cut_tokens b.cut b.body s) inner → Result x s w
-    follow_body x y s w local sees same stood came (agrees, next) =
+    by_body x y s w others shows_same goes_too sees same stood came (agrees, next) =
         let (acts, to, moves, shown, goes, rest) = next (cut_tokens b.cut b.body w) sees in
-        let apart = subst (AllOthers b.variable.name) (sym shown) (local_others x y local) in
-        let within = inner_from acts (shows b.body y) shown (others_taken b.variable.name (shows b.body y) (local_others x y local)) in
+        let apart = subst (AllOthers b.variable.name) (sym shown) others in
+        let within = inner_from acts (shows b.body y) shown (others_taken b.variable.name (shows b.body y) others) in
         let now = stand_same s w inner c same.state (same.gates Request) (same.gates Answer) stood in
         let (e, made, stood_now) =
         stand_moves (w.state b.own).phase (w.state b.own).number (gate w Request) (gate w Answer) inner c acts to apart within now moves in
@@ -282,12 +266,31 @@ module _
           to = e;
           inner_to = to;
           moves = made;
-          shown = shown ∙ local_shows x y local;
-          goes_on = local_goes x y s acts local goes;
+          shown = shown ∙ shows_same;
+          goes_on = goes_too acts goes;
           stood = stood_now;
           came = came_on on_body acts inner to came moves;
           matched = rest;
         }
+
+    follow_body : (x y : Element) (s w : Tokens) → Local b.cut r b.body x y → Does b.body y (cut_tokens b.cut b.body s) (cut_tokens b.cut b.body w) → Same b.own s w
+        → Stood s inner c → Came on_body inner → IsMatched b.body on_body (y ∷ ys) (cut_tokens b.cut b.body s) inner → Result x s w
+    follow_body x y s w local = by_body x y s w (local_others x y local) (local_shows b.cut r b.body x y local) (λ acts goes. local_goes (region.hung_body r b is) x y s acts local goes)
+
+    -- an input at an end that stands in no joint
+    follow_lost : (k j v i : ℕ) (none : IsUnjoined r b.cut b.body i j) → none.import ≡ k → (s w : Tokens) → Sees b.cut b.body (In (ImportEnd i j) v) s w → Same b.own s w
+        → Stood s inner c → Came on_body inner → IsMatched b.body on_body (In (ImportEnd i j) v ∷ ys) (cut_tokens b.cut b.body s) inner → Result (In (ImportEnd k j) v) s w
+    follow_lost k j v i none import s w =
+        by_body (In (ImportEnd k j) v) (In (ImportEnd i j) v) s w (other.0, other.1, tt)
+        (λ t. record { port = port_if (named t); event = event_number Answer j; value = v } ∷ []) (λ acts goes. tt)
+      where
+        named : slice_get b.body.imports i ≡ slice_get r.imports k
+        named = sym none.same ∙ ap (slice_get r.imports) import
+
+        other : Elsewhere i
+        other =
+            let (x, at) = there_is b.body.imports i j none.contact none.own in
+            other_import i x at (not_variable r b is literals i none.import j none.outer)
 
     follow_starts : (s w : Tokens) (v : ℕ) → Does b.body (In (ResultEnd 0) 0) (cut_tokens b.cut b.body s) (cut_tokens b.cut b.body w) → gate s Request ≡ Some v
         → w.state b.own ≡ at Active 0 → gate w Request ≡ None → gate w Answer ≡ gate s Answer → Stood s inner c → Came on_body inner
@@ -415,18 +418,18 @@ module _
           inner_to = to;
           moves = left.moves;
           shown = left.silent;
-          goes_on = end_goes n s left.acts (firing_in (Ans 0) (drivers.end_row n) Active s active refl);
+          goes_on = quiet_goes r b.own (Ans 0) (drivers.end_row n) s left.acts (firing_in (Ans 0) (drivers.end_row n) Active s active refl) (λ v. refl);
           stood = is_done v left.last left.store rest' (ask ∙ none) ans e.idle (refl {a = Running left.last left.store}) left.answers;
           came = came_on on_body acts inner to came moves;
           matched = rest;
         }
 
-    follow : (x : Element) (s w : Tokens) (z : Step r b x s w) → Linked b past own s → Comes r past x → Stood s inner c → Came on_body inner
+    follow : (x : Element) (s w : Tokens) (z : Step r b x s w) → IsSeen r b x s w z → Driven b past own s → Comes r past x → Stood s inner c → Came on_body inner
         → IsMatched b.body on_body (seen r b is literals x s w z ++ ys) (cut_tokens b.cut b.body s) inner → Result x s w
-    follow x s w (of_body x' y s' w' local sees same) linked comes stood came matched = follow_body x' y s' w' local sees same stood came matched
-    follow x s w (asked v s' w' small unseen state ask ans) linked comes stood came matched =
+    follow x s w (of_body x' y s' w' local sees same) seen_so driven comes stood came matched = follow_body x' y s' w' local sees same stood came matched
+    follow x s w (asked v s' w' small unseen state ask ans) seen_so driven comes stood came matched =
         let (rest, none, empty) =
-        when_asking b.server.runs is.server.rests (is_open past (ResultEnd 0)) (s'.state b.own).phase (gate s' Request) (gate s' Answer) linked.driven.stage (asked_turn r b is literals past comes) in
+        when_asking b.server.runs is.server.rests (is_open past (ResultEnd 0)) (s'.state b.own).phase (gate s' Request) (gate s' Answer) driven.stage (asked_turn r b is literals past comes) in
         let (inner_is, is_idle) = at_rest (s'.state b.own).phase (s'.state b.own).number (gate s' Request) (gate s' Answer) inner c stood rest none empty in
         record {
           acts = Showing (given 0 0) ∷ [];
@@ -441,7 +444,7 @@ module _
           came = came;
           matched = subst (λ a. IsMatched b.body on_body ys a inner) (sym unseen) matched;
         }
-    follow x s w (told v s' w' unseen state ans none ask) linked comes stood came matched =
+    follow x s w (told v s' w' unseen state ans none ask) seen_so driven comes stood came matched =
         let (last, store, rest, empty, inner_is, is_last, answers) =
         at_done (s'.state b.own).phase (s'.state b.own).number (gate s' Request) (gate s' Answer) inner c v stood ans in
         record {
@@ -456,52 +459,65 @@ module _
           came = came;
           matched = subst (λ a. IsMatched b.body on_body ys a inner) (sym unseen) matched;
         }
-    follow x s w (starts s' w' z) linked comes stood came matched =
+    follow x s w (starts s' w' z) seen_so driven comes stood came matched =
         let slot = Req (run_of b.server) in
         let row = begin_row b.server z.next in
         let begins_so =
         local_begins b.server width (bits r.outcome) local (s'.state b.own) slot row (firing_own r b is slot row s' z.took) z.rest in
         let active : w'.state b.own ≡ at Active 0 = z.state ∙ ap (λ (y : Row). y.next z.value) begins_so in
         follow_starts s' w' z.value z.sees z.ask active z.none z.ans stood came matched
-    follow x s w (supplies slot s' w' z) linked comes stood came matched = follow_supply slot s' w' z stood came matched
-    follow x s w (ended s' w' z) linked comes stood came matched =
+    follow x s w (supplies slot s' w' z) seen_so driven comes stood came matched = follow_supply slot s' w' z stood came matched
+    follow x s w (ended s' w' z) seen_so driven comes stood came matched =
         let row = end_row b.server z.next in
         let active =
         local_active b.server width (bits r.outcome) local (s'.state b.own) (Ans 0) row (firing_own r b is (Ans 0) row s' z.took) z.runs in
         follow_ended s' w' z.value z.sees active z.rest z.ask z.ans stood came matched
-    follow x s w (lost j k v s' w' t there none unseen same) linked comes stood came matched =
-        absurd (not_lost r b is literals ground j k t past own s' there none linked comes)
+    follow x s w (lost j k v s' w' t there none unseen same) seen_so driven comes stood came matched =
+        absurd seen_so
 
-  matches : (xs : List Element) (s t : Tokens) (past own : List Pass) (sound : Sound r b s) (runs : Runs r xs s t) → Linked b past own s → InTurn r past xs → Neat r s
-      → (inner c : Config) → Stood s inner c → Came on_body inner
-      → IsMatched b.body on_body (body_list r b is literals xs s t sound runs) (cut_tokens b.cut b.body s) inner → IsMatched r on_whole xs s c
-  matches [] s t past own sound runs linked turn neat inner c stood came matched = (
-    λ quiet. whole_waits s inner c stood quiet matched came,
-    λ same. whole_rests s inner c stood neat matched same,
-  )
-  matches (x ∷ xs) s t past own sound (w, does, runs) linked turn neat inner c stood came matched =
-      let z = step r b is literals x s w sound does in
-      let sound_now = sound_on r b is literals x s w sound does in
-      let (comes, later) = first_comes r past x xs turn in
-      let led = linked_step r b is literals ground x s w z past own linked comes in
-      let ys = body_list r b is literals xs w t sound_now runs in
-      let agrees = matched_agrees b.body on_body (seen r b is literals x s w z ++ ys) (cut_tokens b.cut b.body s) inner matched in
-      let one = follow past own inner c ys x s w z linked comes stood came matched in
-      let more =
-      matches xs w t (after r x past) (past_all b.body (seen r b is literals x s w z) own) sound_now runs led.linked later (neat_step r x s w does neat) one.inner_to
-      one.to one.stood one.came one.matched in (
-        (λ quiet. whole_waits s inner c stood quiet agrees came, λ same. whole_rests s inner c stood neat agrees same),
-        λ u also. (
-          one.acts,
-          one.to,
-          one.moves,
-          one.shown,
-          one.goes_on,
-          subst (λ a. IsMatched r on_whole xs a one.to) (one_state r x s w u does also) more,
-        ),
-      )
+  module _ (ports : HasPorts r b.cut b.body) (regular : IsRegular b.body) (first : Tokens) (resting : IsIdle r first) where
+    abbrev inside_by : (x : Element) (s w : Tokens) → Went r b is literals ports regular first resting x s w → List Element
+    inside_by = inside_of r b is literals ports regular first resting
 
-  pub matches_first : (xs : List Element) (s t : Tokens) (sound : Sound r b s) (runs : Runs r xs s t) → IsIdle r s → Linked b [] [] s → InTurn r [] xs → Neat r s
-      → IsMatched b.body on_body (body_list r b is literals xs s t sound runs) (cut_tokens b.cut b.body s) Idle → IsMatched r on_whole xs s Idle
-  matches_first xs s t sound runs idle linked turn neat matched =
-      matches xs s t [] [] sound runs linked turn neat Idle Idle (rests (idle.1 b.own) (idle.0 _ _) (idle.0 _ _) refl refl) ([], refl) matched
+    goes : (past own : List Pass) (inner c : Config) (ys : List Element) (x : Element) (s w : Tokens) (z : Went r b is literals ports regular first resting x s w)
+        → Driven b past own s → Comes r past x → Stood s inner c → Came on_body inner
+        → IsMatched b.body on_body (inside_by x s w z ++ ys) (cut_tokens b.cut b.body s) inner → Follows x s w c ys
+    goes past own inner c ys x s w (is_seen z seen_so) driven comes stood came matched = follow past own inner c ys x s w z seen_so driven comes stood came matched
+    goes past own inner c ys x s w (lost_inside k j v i none import at sees same) driven comes stood came matched =
+        subst (λ (e : Element). Follows e s w c ys) (sym at) (follow_lost past own inner c ys k j v i none import s w sees same stood came matched)
+
+    matches : (xs : List Element) (s t : Tokens) (past : List Pass) (hs : List Element) (o lo : Open) (holds : Holds r b is literals ports regular first resting s past hs o lo)
+        (runs : Runs r xs s t) (turns : InputsKeepTurns r past xs) → Neat r s → (inner c : Config) → Stood s inner c → Came on_body inner
+        → IsMatched b.body on_body (body_rest r b is literals ports regular first resting xs s t past hs o lo holds runs turns) (cut_tokens b.cut b.body s) inner
+        → IsMatched r on_whole xs s c
+    matches [] s t past hs o lo holds runs turns neat inner c stood came matched = (
+      λ quiet. whole_waits s inner c stood quiet matched came,
+      λ same. whole_rests s inner c stood neat matched same,
+    )
+    matches (x ∷ xs) s t past hs o lo holds (w, does, runs) turns neat inner c stood came matched =
+        let one = one_on r b is literals ports regular first resting x xs s w past hs o lo holds does turns in
+        let hs_on = hs ++ inside_by x s w one.went in
+        let later = later_turns r past x xs turns in
+        let ys = body_rest r b is literals ports regular first resting xs w t (after r x past) hs_on one.now one.lo one.holds runs later in
+        let agrees = matched_agrees b.body on_body (inside_by x s w one.went ++ ys) (cut_tokens b.cut b.body s) inner matched in
+        let on =
+        goes past (passed b.body [] hs) inner c ys x s w one.went holds.driven (comes_of_turn r past x (first_turn r past x xs turns)) stood came matched in
+        let more =
+        matches xs w t (after r x past) hs_on one.now one.lo one.holds runs later (neat_step r x s w does neat) on.inner_to on.to on.stood on.came on.matched in (
+          (λ quiet. whole_waits s inner c stood quiet agrees came, λ same. whole_rests s inner c stood neat agrees same),
+          λ u also. (
+            on.acts,
+            on.to,
+            on.moves,
+            on.shown,
+            on.goes_on,
+            subst (λ a. IsMatched r on_whole xs a on.to) (one_state r x s w u does also) more,
+          ),
+        )
+
+    pub matches_first : (xs : List Element) (s t : Tokens) (holds : Holds r b is literals ports regular first resting s [] [] none_open none_open) (runs : Runs r xs s t)
+        (turns : InputsKeepTurns r [] xs) → IsIdle r s → Neat r s
+        → IsMatched b.body on_body (body_rest r b is literals ports regular first resting xs s t [] [] none_open none_open holds runs turns) (cut_tokens b.cut b.body s) Idle
+        → IsMatched r on_whole xs s Idle
+    matches_first xs s t holds runs turns idle neat matched =
+        matches xs s t [] [] none_open none_open holds runs turns neat Idle Idle (rests (idle.1 b.own) (idle.0 _ _) (idle.0 _ _) refl refl) ([], refl) matched

@@ -2,22 +2,21 @@
 --
 -- The server opens and closes the handshake at which it asks the body, by its phase (`Opened`). That a token at the variable finds a row
 -- follows from the turns of the body: it comes in turn, an import is open only where the result is, and so is one that ends (`Ready`).
-use Rattle.std.specs.Prelude.{◌≡◌, ◌⊎◌, ℕ, suc, Bool, true, false, List, [], ◌∷◌, ◌++◌, Option, Some, None, All, slice_get, if◌then◌else◌}
+use Rattle.std.specs.Prelude.{◌≡◌, ◌⊎◌, ℕ, suc, Bool, true, false, List, [], ◌∷◌, ◌++◌, Option, Some, None, All, slice_get}
 use Rattle.std.proofs.Common.{arith, refl, sym, ap, subst, inl, inr, ◌∙◌}
-use Rattle.std.proofs.lemmas.Option.{none-some, same_Some}
+use Rattle.std.proofs.lemmas.Option.{same_Some}
 use Rattle.gos_types.specs.Types.{Type'}
 use Rattle.gos_types.specs.declared.shakes.Role.{Role}
 use Rattle.gos_types.specs.declared.shakes.Role.TheVariants.{Serve, Ask}
 use Rattle.gos_types.specs.Events.{Direction, Request, Answer}
-use Rattle.gos_plan.specs.Kinds.{Part, Contact, asks, contacts_of, part_contacts}
+use Rattle.gos_plan.specs.Kinds.{Contact, asks, contacts_of, part_contacts}
 use Rattle.gos_plan.specs.Firing.{State, Slot, Req, Ans, Row, firing}
-use Rattle.gos_plan.specs.Plans.{End, PartEnd, ImportEnd, ResultEnd, Plan, contact_at, contacts_of_part, same_end}
+use Rattle.gos_plan.specs.Plans.{End, PartEnd, ImportEnd, ResultEnd, Plan, contact_at, contacts_of_part}
 use Rattle.gos_plan.specs.Tokens.{Tokens, Element, Fire, Out, In, held_at, token_at, with_token, with_state, end_of, shake_of, way_of, way_taken, way_put, firing_of, Passes, Does, IsIdle}
 use Rattle.gos_plan.specs.Orderly.{Open, named_by, handshake_at, none_open, with_open, after_taken, after_put, ComesWell, ComesInOrder, AllWelcome, OrderlyFrom}
 use Rattle.gos_plan.specs.TokenBits.{LiteralFits}
-use Rattle.gos_plan.proofs.JointLemmas.{same_itself, apart_is_not_same}
+use Rattle.gos_plan.proofs.JointLemmas.{apart_is_not_same}
 use Rattle.gos_plan.proofs.HeldLemmas as held
-use Rattle.gos_plan.proofs.DecidedLemmas.{one_state}
 use Rattle.gos_plan.proofs.ProjectionLemmas.{named}
 use Rattle.gos_nodes.specs.sessions.Sessions as sessions
 use Rattle.gos_joining.specs.webs.Cutting.{lies_at, StandsIn, cut_tokens}
@@ -25,26 +24,30 @@ use Rattle.gos_realises.specs.realises.Regular.{Pass, pass, is_request, is_open,
 use Rattle.gos_realises.proofs.realises.RingLemmas.{after}
 use Rattle.gos_realises.proofs.realises.PassLemmas.{open_itself}
 use Rattle.gos_nodes.specs.parallel.Parallel.{IsPartOf}
+use Rattle.gos_nodes.proofs.blocks.EndLemmas.{Lies, in_part, at_import, at_driver, lies}
+use Rattle.gos_nodes.proofs.parallel.GateLemmas.{gate, Same, result_gate, part_gate}
+use Rattle.gos_nodes.proofs.parallel.HungLemmas.{IsHung, Local, Sees, Unseen, held_token, held_put, result_put, is_answered}
 use Rattle.gos_nodes.proofs.windows.TurnLemmas.{Turned, import_kept, import_shut, import_result}
-use Rattle.gos_nodes.proofs.parallel.StepLemmas.{gate, Same, Local, fires, puts_out, takes_in, Sees, Unseen}
 use Rattle.gos_nodes.proofs.parallel.LinkedLemmas.{Comes}
-use Rattle.gos_nodes.proofs.parallel.OpenLemmas.{opened_so, comes_by}
+use Rattle.gos_nodes.proofs.parallel.OpenLemmas.{comes_by, OpenAgree, IsApart, put_agrees, taken_agrees, put_apart, taken_apart, put_well, side_step}
+use Rattle.gos_nodes.proofs.parallel.AskedLemmas.{with_itself, with_other, peel, local_past, contact_part, asked_next, told_next, asked_agrees, told_agrees, welcome_inside, last_well}
 use Rattle.gos_nodes.proofs.parallel.OrderLemmas.{lies_open}
 use Rattle.gos_nodes.proofs.windows.AskedLemmas.{done_contact}
 use Rattle.gos_nodes.specs.blocks.Servers.{run_of, after_pass, FindsTurn, begin_row, serve_row, end_row}
 use Rattle.gos_nodes.specs.blocks.Block.{Block, IsBlock}
 use Rattle.gos_nodes.proofs.blocks.RegionLemmas as region
-use Rattle.gos_nodes.proofs.blocks.RegionLemmas.{result_held}
 use Rattle.gos_nodes.proofs.blocks.ServerLemmas.{request_slot, answer_slot, WhichContact, at_body, at_supply, at_run, body_contact, supply_contact, which_contact, not_run, import_pass, same_after, comes_finds}
-use Rattle.gos_nodes.proofs.blocks.StepLemmas.{Starts, Supplies, Ends, Step, of_body, asked, told, starts, supplies, ended, lost, Served, IsSeen, gate_at_result, gate_at_part, gate_apart, stands_at, own_state, own_firing}
+use Rattle.gos_nodes.proofs.blocks.StepLemmas.{Starts, Supplies, Ends, Step, of_body, asked, told, starts, supplies, ended, lost, Served, IsSeen, stands_at, own_state, own_firing, is_run}
 use Rattle.gos_nodes.proofs.blocks.LinkedLemmas.{Driven, when_starting, when_working, seen, way_asked, way_told, body_told, way_supplied, asked_turn}
-use Rattle.gos_nodes.proofs.blocks.OpenLemmas.{OpenAgree, IsApart, put_agrees, taken_agrees, put_apart, taken_apart, put_well, firing_same, Lies, in_part, at_import, at_driver, lies, side_step}
 
 -- an output that can come next keeps turns
 abbrev pub Ready : Plan → List Pass → Tokens → Type 0
 Ready p own a = (e : End) (v : ℕ) (u : Tokens) → Does p (Out e v) a u → OutputsKeepTurns p own (Out e v ∷ [])
 
 module _ (r : Plan) (b : Block) (is : IsBlock r b) (literals : All LiteralFits r.parts) where
+  hung : IsHung b.own 0 (sessions.bits r.outcome) b.cut r b.body
+  hung = region.hung_body r b is
+
   not_result : (e : End) → Lies b e → e ≡ ResultEnd 0 → ⊥
   not_result e (in_part i j k at number) same = let bad : PartEnd i k ≡ ResultEnd 0 = sym at ∙ same in cc bad
   not_result e (at_import i j k at inner) same = let bad : ImportEnd j k ≡ ResultEnd 0 = sym at ∙ same in cc bad
@@ -71,10 +74,7 @@ module _ (r : Plan) (b : Block) (is : IsBlock r b) (literals : All LiteralFits r
   own_name = asker_name 0 (asks 0 (sessions.bits r.outcome)) (body_contact b.server (sessions.bits r.outcome) is.server) refl
 
   result_name : handshake_at r (ResultEnd 0) ≡ ResultEnd 0
-  result_name = ap (λ o. named_by o (ResultEnd 0)) (gate_at_result r b is)
-
-  run_name : handshake_at r (PartEnd b.own (run_of b.server)) ≡ ResultEnd 0
-  run_name = ap (λ o. named_by o (PartEnd b.own (run_of b.server))) (gate_at_part r b is)
+  result_name = ap (λ o. named_by o (ResultEnd 0)) (result_gate (is_run r b is))
 
   abbrev bits : ℕ
   bits = sessions.bits r.outcome
@@ -93,7 +93,7 @@ module _ (r : Plan) (b : Block) (is : IsBlock r b) (literals : All LiteralFits r
       stands = stands_at r b is (suc h) v (way_taken c.role) s (not_run b.server bits is.server (suc h) h c there refl) lies
 
       here : token_at b.body (cut_tokens b.cut b.body s) e (way_taken c.role) ≡ Some v
-      here = region.held_token r b is e (inl stands) s (way_taken c.role) ∙ (ap (λ (x : End). token_at r s x (way_taken c.role)) (is.served h) ∙ lies)
+      here = held_token hung e (inl stands) s (way_taken c.role) ∙ (ap (λ (x : End). token_at r s x (way_taken c.role)) (is.served h) ∙ lies)
 
       does : Does b.body (Out e v) (cut_tokens b.cut b.body s) (with_token b.body e (way_taken c.role) None (cut_tokens b.cut b.body s))
       does = (
@@ -142,7 +142,7 @@ module _ (r : Plan) (b : Block) (is : IsBlock r b) (literals : All LiteralFits r
       → KeepsTurns b.body own (pass (ResultEnd 0) Answer)
   answer_next v own s ready lies =
       subst (λ (way : Direction). KeepsTurns b.body own (pass (ResultEnd 0) way)) (body_told r b is literals)
-      (ready (ResultEnd 0) v (cut_tokens b.cut b.body w) (region.is_answered r b is v s w lies (region.result_put r b is Answer None s))).0
+      (ready (ResultEnd 0) v (cut_tokens b.cut b.body w) (is_answered hung v s w lies (result_put hung Answer None s))).0
     where
       w : Tokens
       w = with_token r (PartEnd b.own 0) Answer None s
@@ -173,15 +173,11 @@ module _ (r : Plan) (b : Block) (is : IsBlock r b) (literals : All LiteralFits r
           let requests : way_of t ≡ Request = sym way ∙ ap (λ (x : Contact). way_taken x.role) is_c in
           let slot : t ≡ Req (run_of b.server) = request_slot t requests ∙ ap Req last in
           let here = subst (λ (x : Slot). token_at r s (end_of b.own x) (way_of x) ≡ Some v) slot lies in
-          let some : gate s Request ≡ Some v = sym (ap (held_at s Request) (gate_at_part r b is)) ∙ here in
+          let some : gate s Request ≡ Some v = sym (ap (held_at s Request) (part_gate (is_run r b is))) ∙ here in
           let (opened, rest, empty) =
           when_starting b.server.runs is.server.rests (is_open past (ResultEnd 0)) (s.state b.own).phase (gate s Request) (gate s Answer) v driven.stage some in
           let (row, by) = is.server.begun (s.state b.own) rest in
           (row, ap (firing b.server.part (s.state b.own)) slot ∙ by)
-
-  contact_part : (o : Option Part) (h : ℕ) (c : Contact) → slice_get (contacts_of_part o) h ≡ Some c → (k : Part) × (o ≡ Some k)
-  contact_part None h c e = absurd (none-some c e)
-  contact_part (Some k) h c e = (k, refl)
 
   pub welcome_all : (s : Tokens) (past own : List Pass) (o body_open : Open) → Driven b past own s → Turned b.body own → Ready b.body own (cut_tokens b.cut b.body s)
       → Opened past o body_open s → AllWelcome b.body (cut_tokens b.cut b.body s) → AllWelcome r s
@@ -189,14 +185,7 @@ module _ (r : Plan) (b : Block) (is : IsBlock r b) (literals : All LiteralFits r
       let (k, part) = contact_part (slice_get r.parts i) (shake_of t) c there in by_part (is.parts i k part)
     where
       by_part : IsPartOf b.cut i ⊎ (i ≡ b.own) → (row : Row) × (firing_of (slice_get r.parts i) (s.state i) t ≡ Some row)
-      by_part (inl (j, number)) =
-          let (at, (k, part)) = is.cut.numbers i j number in
-          let whole = (is.cut.parts j k part).0 in
-          let same_part : slice_get b.body.parts j ≡ slice_get r.parts i = part ∙ (sym whole ∙ ap (λ n. slice_get r.parts n) at) in
-          let (row, by) = welcome j t c v (ap (λ o. slice_get (contacts_of_part o) (shake_of t)) same_part ∙ there) way
-          (region.held_token r b is (end_of j t) (inl (k, part)) s (way_of t)
-          ∙ (ap (λ n. token_at r s (PartEnd n (shake_of t)) (way_of t)) at ∙ lies)) in
-          (row, ap (λ n. firing_of (slice_get r.parts n) (s.state n) t) (sym at) ∙ (sym (firing_same r b is j k part t s) ∙ by))
+      by_part (inl one) = welcome_inside hung s welcome i one t c v there way lies
       by_part (inr same) =
           let here : slice_get (part_contacts b.server.part) (shake_of t) ≡ Some c =
           sym (ap (λ o. slice_get (contacts_of_part o) (shake_of t)) (ap (λ n. slice_get r.parts n) same ∙ is.own)) ∙ there in
@@ -214,39 +203,6 @@ module _ (r : Plan) (b : Block) (is : IsBlock r b) (literals : All LiteralFits r
     pub welcome : AllWelcome b.body (cut_tokens b.cut b.body w)
     pub rest : OrderlyFrom b.body ys own_now (cut_tokens b.cut b.body w) lu lt
 
-  -- the first element of the body's list
-  pub peel : (a : Plan) (y : Element) (ys : List Element) (own u : Open) (c w t : Tokens) → Does a y c w → OrderlyFrom a (y ∷ ys) own c u t
-      → (next : Open) × ComesInOrder a y c own next × AllWelcome a w × OrderlyFrom a ys next w u t
-  peel a y ys own u c w t does (next, v, also, comes, welcome, rest) =
-      let same : v ≡ w = one_state a y c v w also does in
-      (next, comes, subst (AllWelcome a) same welcome, subst (λ (z : Tokens). OrderlyFrom a ys next z u t) same rest)
-
-  asked_own : (a : Tokens) (own next : Open) → ComesInOrder b.body (In (ResultEnd 0) 0) a own next → next ≡ after_put b.body (ResultEnd 0) Request own
-  asked_own a own next comes = (comes (asks 0 (sessions.bits r.outcome)) (region.result_there r b is)).1
-
-  told_own : (v : ℕ) (a : Tokens) (own next : Open) → ComesInOrder b.body (Out (ResultEnd 0) v) a own next → next ≡ after_taken b.body (ResultEnd 0) Answer own
-  told_own v a own next comes = comes (asks 0 (sessions.bits r.outcome)) (region.result_there r b is)
-
-  with_itself : (e : End) (t : Bool) (o : Open) → with_open e t o e ≡ t
-  with_itself e t o = ap (λ (x : Bool). if x then t else o e) (same_itself e)
-
-  with_other : (e n : End) (t : Bool) (o : Open) → (n ≡ e → ⊥) → with_open e t o n ≡ o n
-  with_other e n t o other = opened_so (same_end n e) t (o n) (apart_is_not_same n e other)
-
-  own_put_agrees : (o own : Open) → OpenAgree b.cut b.body o own
-      → OpenAgree b.cut b.body (with_open (PartEnd b.own 0) true o) (after_put b.body (ResultEnd 0) Request own)
-  own_put_agrees o own agree =
-      subst (λ (x : Open). OpenAgree b.cut b.body x (after_put b.body (ResultEnd 0) Request own))
-      (ap (λ (e : End). after_put r e Request o) is.result ∙ ap (λ (n : End). with_open n true o) own_name)
-      (put_agrees r b is (ResultEnd 0) Request o own (result_held b.body) agree)
-
-  own_taken_agrees : (o own : Open) → OpenAgree b.cut b.body o own
-      → OpenAgree b.cut b.body (with_open (PartEnd b.own 0) false o) (after_taken b.body (ResultEnd 0) Answer own)
-  own_taken_agrees o own agree =
-      subst (λ (x : Open). OpenAgree b.cut b.body x (after_taken b.body (ResultEnd 0) Answer own))
-      (ap (λ (e : End). after_taken r e Answer o) is.result ∙ ap (λ (n : End). with_open n false o) own_name)
-      (taken_agrees r b is (ResultEnd 0) Answer o own (result_held b.body) agree)
-
   module _ (past own : List Pass) (o lo lu : Open) (lt : Tokens) (ys : List Element) where
     abbrev Result : Element → Tokens → Tokens → Type 0
     Result x s w = Next x s w past o ys lu lt
@@ -255,7 +211,7 @@ module _ (r : Plan) (b : Block) (is : IsBlock r b) (literals : All LiteralFits r
         → OrderlyFrom b.body (y ∷ ys) lo (cut_tokens b.cut b.body s) lu lt → is_open past (ResultEnd 0) ≡ is_open (after r x past) (ResultEnd 0) → Result x s w
     on_body x y s w local does sees same opened list past_same =
         let (next, own_comes, welcome, rest) = peel b.body y ys lo lu (cut_tokens b.cut b.body s) (cut_tokens b.cut b.body w) lt sees list in
-        let one = side_step r b is x y s w o lo next local opened.agree does own_comes in
+        let one = side_step hung x y s w o lo next local opened.agree does own_comes in
         record {
           open_now = one.now;
           own_now = next;
@@ -297,7 +253,7 @@ module _ (r : Plan) (b : Block) (is : IsBlock r b) (literals : All LiteralFits r
     on_start s w z does opened list =
         let slot = Req (run_of b.server) in
         let (next, own_comes, welcome, rest) = peel b.body (In (ResultEnd 0) 0) ys lo lu (cut_tokens b.cut b.body s) (cut_tokens b.cut b.body w) lt z.sees list in
-        let next_is = asked_own (cut_tokens b.cut b.body s) lo next own_comes in
+        let next_is = asked_next hung (cut_tokens b.cut b.body s) lo next own_comes in
         let shut : o (PartEnd b.own 0) ≡ false = opened.waits ∙ (ap b.server.runs z.rest ∙ is.server.rests) in
         let comes : ComesInOrder r (Fire b.own slot) s o (with_open (PartEnd b.own 0) true o) =
         comes_by r b.own slot s w o (with_open (PartEnd b.own 0) true o) (begin_row b.server z.next) does z.took
@@ -308,7 +264,7 @@ module _ (r : Plan) (b : Block) (is : IsBlock r b) (literals : All LiteralFits r
           comes = comes;
           opened =
               record {
-                agree = λ n held. own_put_agrees o lo opened.agree n held ∙ ap (λ (x : Open). x n) (sym next_is);
+                agree = λ n held. asked_agrees hung own_name o lo opened.agree n held ∙ ap (λ (x : Open). x n) (sym next_is);
                 result = opened.result;
                 waits = with_itself (PartEnd b.own 0) true o ∙ sym z.runs;
                 fit = held.step r (Fire b.own slot) o (with_open (PartEnd b.own 0) true o) s w does comes opened.fit;
@@ -317,38 +273,23 @@ module _ (r : Plan) (b : Block) (is : IsBlock r b) (literals : All LiteralFits r
           rest = rest;
         }
 
-    -- the answer of the body is passed on, where the result is open and nothing lies on its joint
-    last_well : (s : Tokens) (q : State) → o (ResultEnd 0) ≡ true → gate s Request ≡ None → gate s Answer ≡ None
-        → ComesWell r (PartEnd b.own (run_of b.server)) Answer (after_taken r (PartEnd b.own 0) Answer o)
-        (with_state b.own q (with_token r (PartEnd b.own 0) Answer None s))
-    last_well s q up none empty = (
-      (λ i. with_open (own_name i) false o (run_name i)) ∙ up,
-      λ way.
-          ap (held_at (with_state b.own q (with_token r (PartEnd b.own 0) Answer None s)) way) (gate_at_part r b is)
-          ∙ (gate_apart r b is 0 (λ e. omega (arith, e)) Answer None s way ∙ nothing way),
-    )
-      where
-        nothing : (way : Direction) → gate s way ≡ None
-        nothing Request = none
-        nothing Answer = empty
-
     on_end : (s w : Tokens) (z : Ends r b s w) → Does r (Fire b.own (Ans 0)) s w → Driven b past own s → Opened past o lo s
         → OrderlyFrom b.body (Out (ResultEnd 0) z.value ∷ ys) lo (cut_tokens b.cut b.body s) lu lt → Result (Fire b.own (Ans 0)) s w
     on_end s w z does driven opened list =
         let (next, own_comes, welcome, rest) = peel b.body (Out (ResultEnd 0) z.value) ys lo lu (cut_tokens b.cut b.body s) (cut_tokens b.cut b.body w) lt z.sees list in
-        let next_is = told_own z.value (cut_tokens b.cut b.body s) lo next own_comes in
+        let next_is = told_next hung z.value (cut_tokens b.cut b.body s) lo next own_comes in
         let (up, none, empty) =
         when_working b.server.runs is.server.rests (is_open past (ResultEnd 0)) (s.state b.own).phase (gate s Request) (gate s Answer) driven.stage z.runs in
         let comes : ComesInOrder r (Fire b.own (Ans 0)) s o (with_open (PartEnd b.own 0) false o) =
         comes_by r b.own (Ans 0) s w o (with_open (PartEnd b.own 0) false o) (end_row b.server z.next) does z.took
-        (λ v. ((last_well s (z.next v) (opened.result ∙ up) none empty, tt), ap (λ (n : End). with_open n false o) (sym own_name))) in
+        (λ v. ((last_well (is_run r b is) 0 s (z.next v) o (λ e. omega (arith, e)) own_name (opened.result ∙ up) none empty, tt), ap (λ (n : End). with_open n false o) (sym own_name))) in
         record {
           open_now = with_open (PartEnd b.own 0) false o;
           own_now = next;
           comes = comes;
           opened =
               record {
-                agree = λ n held. own_taken_agrees o lo opened.agree n held ∙ ap (λ (x : Open). x n) (sym next_is);
+                agree = λ n held. told_agrees hung own_name o lo opened.agree n held ∙ ap (λ (x : Open). x n) (sym next_is);
                 result = opened.result;
                 waits = with_itself (PartEnd b.own 0) false o ∙ sym (ap b.server.runs z.rest ∙ is.server.rests);
                 fit = held.step r (Fire b.own (Ans 0)) o (with_open (PartEnd b.own 0) false o) s w does comes opened.fit;
@@ -405,19 +346,19 @@ module _ (r : Plan) (b : Block) (is : IsBlock r b) (literals : All LiteralFits r
       taken_agree : OpenAgree b.cut b.body o lo → OpenAgree b.cut b.body taken_now body_taken
       taken_agree agree =
           subst (λ (e : End). OpenAgree b.cut b.body (after_taken r e taken o) body_taken) (is.served z.serves.at)
-          (taken_agrees r b is one_end taken o lo (inl z.stands) agree)
+          (taken_agrees hung one_end taken o lo (inl z.stands) agree)
 
       now_agree : OpenAgree b.cut b.body o lo → OpenAgree b.cut b.body now (after_put b.body other_end given body_taken)
       now_agree agree =
           subst (λ (e : End). OpenAgree b.cut b.body (after_put r e given taken_now) (after_put b.body other_end given body_taken)) (is.served z.serves.back)
-          (put_agrees r b is other_end given taken_now body_taken (inl z.stands_back) (taken_agree agree))
+          (put_agrees hung other_end given taken_now body_taken (inl z.stands_back) (taken_agree agree))
 
       now_result : now (ResultEnd 0) ≡ o (ResultEnd 0)
       now_result =
           subst (λ (e : End). after_put r e given taken_now (ResultEnd 0) ≡ taken_now (ResultEnd 0)) (is.served z.serves.back)
-          (put_apart r b is other_end (ResultEnd 0) given taken_now (inl z.stands_back) result_apart)
+          (put_apart hung other_end (ResultEnd 0) given taken_now (inl z.stands_back) result_apart)
           ∙ subst (λ (e : End). after_taken r e taken o (ResultEnd 0) ≡ o (ResultEnd 0)) (is.served z.serves.at)
-          (taken_apart r b is one_end (ResultEnd 0) taken o (inl z.stands) result_apart)
+          (taken_apart hung one_end (ResultEnd 0) taken o (inl z.stands) result_apart)
 
       now_waits : now (PartEnd b.own 0) ≡ o (PartEnd b.own 0)
       now_waits =
@@ -433,13 +374,13 @@ module _ (r : Plan) (b : Block) (is : IsBlock r b) (literals : All LiteralFits r
         taken_leads : a ≡ cut_tokens b.cut b.body without
         taken_leads =
             (subst (λ (x : Option Contact). Passes b.body (Out one_end z.value) x (cut_tokens b.cut b.body s) a) one_contact out.1).1
-            ∙ (region.held_put r b is one_end (inl z.stands) taken None s
+            ∙ (held_put hung one_end (inl z.stands) taken None s
             ∙ ap (λ (x : End). cut_tokens b.cut b.body (with_token r x taken None s)) (is.served z.serves.at))
 
         reply_well : (q : State) → ComesWell r (PartEnd b.own (suc z.serves.back)) given taken_now (with_state b.own q without)
         reply_well q =
             subst (λ (x : End). ComesWell r x given taken_now (with_state b.own q without)) (is.served z.serves.back)
-            (put_well r b is other_end given taken_now body_taken (with_state b.own q without) (inl z.stands_back) (taken_agree agree)
+            (put_well hung other_end given taken_now body_taken (with_state b.own q without) (inl z.stands_back) (taken_agree agree)
             (subst (λ (x : Tokens). ComesWell b.body other_end given body_taken x) (taken_leads ∙ sym (own_state r b is q without)) well))
 
         abbrev Facts : ℕ → ℕ → Direction → ℕ → Direction → Type 0
@@ -483,16 +424,11 @@ module _ (r : Plan) (b : Block) (is : IsBlock r b) (literals : All LiteralFits r
             rest = after_both;
           }
 
-    local_past : (x y : Element) → Local b.cut r b.body x y → is_open past (ResultEnd 0) ≡ is_open (after r x past) (ResultEnd 0)
-    local_past x y (fires i j k number) = refl
-    local_past x y (puts_out i j k v stands leads slices) = refl
-    local_past x y (takes_in i j k v stands leads slices) = refl
-
     pub order_step : (x : Element) (s w : Tokens) (z : Step r b x s w) → IsSeen r b x s w z → Does r x s w → Driven b past own s → Comes r past x → Opened past o lo s
         → AllWelcome b.body (cut_tokens b.cut b.body s)
         → OrderlyFrom b.body (seen r b is literals x s w z ++ ys) lo (cut_tokens b.cut b.body s) lu lt → Result x s w
     order_step x s w (of_body x' y s' t' local sees same) seen_so does driven comes opened welcome list =
-        on_body x' y s' t' local does sees same opened list (local_past x' y local)
+        on_body x' y s' t' local does sees same opened list (local_past b.cut r b.body past x' y local)
     order_step x s w (asked v s' t' small unseen state ask ans) seen_so does driven comes opened welcome list =
         at_result (In (ResultEnd 0) v) s' t' true does unseen state opened welcome list (sym (ap is_request (way_asked r b is literals)))
         (λ c there.

@@ -1,37 +1,25 @@
 -- The outputs of a block keep turns where those of its body do.
-use Rattle.std.specs.Prelude.{◌≡◌, ◌<◌, ℕ, List, ◌∷◌, ◌++◌, Option, Some, All, slice_get}
-use Rattle.std.proofs.Common.{sym, ap, subst, ◌∙◌}
-use Rattle.std.proofs.lemmas.Option.{slice_get_within}
+use Rattle.std.specs.Prelude.{◌≡◌, List, ◌∷◌, ◌++◌, All}
+use Rattle.std.proofs.Common.{sym, subst, ◌∙◌}
 use Rattle.gos_types.specs.Events.{Direction, Request, Answer}
-use Rattle.gos_model.specs.Typing.{Imported}
-use Rattle.gos_plan.specs.Plans.{End, ImportEnd, ResultEnd, Plan, contact_at, contacts_of_import}
+use Rattle.gos_plan.specs.Plans.{End, ImportEnd, ResultEnd, Plan, contact_at}
 use Rattle.gos_plan.specs.Tokens.{Tokens, Element}
 use Rattle.gos_plan.specs.TokenBits.{LiteralFits}
-use Rattle.gos_plan.proofs.JointLemmas.{contained, joined, stands_there}
-use Rattle.gos_joining.specs.webs.Cutting.{StandsIn}
-use Rattle.gos_realises.specs.realises.Regular.{Pass, way_out, is_open, count, ComesInTurn, OutputsKeepTurns}
+use Rattle.gos_realises.specs.realises.Regular.{Pass, way_out, is_open, ComesInTurn, OutputsKeepTurns}
 use Rattle.gos_realises.proofs.realises.RingLemmas.{after, OutputTurns}
-use Rattle.gos_realises.proofs.realises.ToldLemmas.{there_is}
-use Rattle.gos_nodes.proofs.parallel.StepLemmas.{gate, Local, fires, puts_out, takes_in}
+use Rattle.gos_nodes.proofs.parallel.GateLemmas.{gate}
+use Rattle.gos_nodes.proofs.parallel.HungLemmas.{Local, fires, puts_out, takes_in, import_contact}
 use Rattle.gos_nodes.proofs.windows.MeetLemmas.{HasPorts, met_joined}
 use Rattle.gos_nodes.proofs.windows.TurnLemmas.{Turned}
 use Rattle.gos_nodes.specs.blocks.Block.{Block, IsBlock}
+use Rattle.gos_nodes.proofs.blocks.RegionLemmas.{hung_body}
 use Rattle.gos_nodes.proofs.blocks.StepLemmas.{Step, of_body, asked, told, starts, supplies, ended, lost}
 use Rattle.gos_nodes.proofs.blocks.SharedLemmas.{Shared, import_same}
-use Rattle.gos_nodes.proofs.blocks.LinkedLemmas.{Driven, when_told, seen, way_told, ways}
+use Rattle.gos_nodes.proofs.blocks.LinkedLemmas.{Driven, when_told, seen, way_told}
 
 back_turn : (past own : List Pass) (a c : End) (way : Direction) → is_open past a ≡ is_open own c → ComesInTurn own c way → ComesInTurn past a way
 back_turn past own a c Request same turn = same ∙ turn
 back_turn past own a c Answer same turn = same ∙ turn
-
-module _ (r : Plan) (b : Block) (is : IsBlock r b) where
-  -- an import of the body that stands in a joint is there
-  pub import_real : (i k : ℕ) → StandsIn b.body (ImportEnd i k) → (x : Imported) × (slice_get b.body.imports i ≡ Some x) × (k < count x.ty)
-  import_real i k (j, listing, stands) =
-      let place = stands_there b.body j (ImportEnd i k) is.cut.right (contained b.body.joints j listing) stands in
-      let one = joined b.body (ImportEnd i k) j.asking is.cut.right place in
-      let (x, at) = there_is b.body.imports i k one.here one.is_here in
-      (x, at, slice_get_within _ k one.here (sym (ap (λ (n : Option Imported). slice_get (contacts_of_import n) k) at) ∙ one.is_here))
 
 module _ (r : Plan) (b : Block) (is : IsBlock r b) (literals : All LiteralFits r.parts) (ports : HasPorts r b.cut b.body) where
   -- an output of the whole comes in turn
@@ -39,7 +27,7 @@ module _ (r : Plan) (b : Block) (is : IsBlock r b) (literals : All LiteralFits r
       → OutputsKeepTurns b.body own (y ∷ zs) → Turned r (after r x past) → OutputTurns r past x
   local_turn x y past own s zs (fires i j k number) shared keeps turned = tt
   local_turn x y past own s zs (puts_out i j k v stands leads slices) shared keeps turned = (
-    subst (λ o. ComesInTurn past (ImportEnd j k) (way_out o)) (sym (ways r b is literals i j k stands leads))
+    subst (λ o. ComesInTurn past (ImportEnd j k) (way_out o)) (sym (import_contact (hung_body r b is) i j k stands leads))
         (back_turn past own (ImportEnd j k) (ImportEnd i k) (way_out (contact_at b.body (ImportEnd i k)))
         (sym (import_same r b is ports past own shared i k j (met_joined r b.cut b.body i k j stands leads) leads)) keeps.0.0),
     turned,

@@ -1,32 +1,26 @@
--- The ends of a block's body: where they stand in the whole, what lies there, and what the body sees of the rest.
---
--- The body's result is counted among its ends also where it stands in no joint: then the part asks in vain, and the body
--- sees a request that is lost.
+-- The ends of a block's body: where they stand in the whole, and what the body sees of the rest. It hangs on an end of the server.
 use Rattle.std.specs.Prelude.{◌≡◌, ◌≢◌, ◌⊎◌, ℕ, zero, suc, Bool, true, false, Option, Some, None, nat_eq, slice_get}
 use Rattle.std.proofs.Common.{arith, refl, sym, ap, subst, inl, inr, ◌∙◌}
 use Rattle.std.proofs.lemmas.Option.{slice_get_within}
 use Rattle.gos_types.specs.Types.{Type', IsDone}
-use Rattle.gos_types.specs.Events.{Direction, Request, Answer}
-use Rattle.gos_types.proofs.BoolLemmas.{same_tests}
+use Rattle.gos_types.specs.Events.{Direction}
 use Rattle.gos_model.specs.Typing.{Imported}
-use Rattle.gos_plan.specs.Kinds as kinds
-use Rattle.gos_plan.specs.Kinds.{Contact, asks, contacts_of}
-use Rattle.gos_plan.specs.Firing.{State, Slot}
-use Rattle.gos_plan.specs.Plans.{End, PartEnd, ImportEnd, ResultEnd, Plan, contact_at, contacts_of_import, same_end, turned_if}
-use Rattle.gos_plan.specs.Tokens.{Tokens, Out, In, IsPortEnd, places_of, held_at, with_held, token_at, with_token, with_state, end_of, shake_of, Passes, Does}
-use Rattle.gos_plan.specs.Orderly.{named_by, handshake_at}
-use Rattle.gos_plan.proofs.JointLemmas.{Found, contained, found, has_place, joined, same_is, same_itself, stands_there, asking_stands, serving_stands, which_end}
+use Rattle.gos_plan.specs.Kinds.{asks, contacts_of}
+use Rattle.gos_plan.specs.Firing.{Slot}
+use Rattle.gos_plan.specs.Plans.{End, PartEnd, ImportEnd, ResultEnd, Plan, contact_at, contacts_of_import, turned_if}
+use Rattle.gos_plan.specs.Tokens.{Tokens, IsPortEnd, places_of, with_token, end_of, shake_of}
+use Rattle.gos_plan.proofs.JointLemmas.{Found, contained, found, has_place, joined, stands_there, asking_stands, serving_stands, which_end}
 use Rattle.gos_nodes.specs.sessions.Sessions.{bits}
 use Rattle.gos_joining.specs.webs.Cutting.{lies_at, StandsIn, cut_tokens}
 use Rattle.gos_joining.proofs.webs.MovedLemmas.{listed}
-use Rattle.gos_joining.proofs.webs.CutLemmas.{name_by, Owns, port_own, port_lies, one_end, asker_asks, asker_own, place_there, no_place, token_cut, token_put, token_lost, state_lost, stands_own}
+use Rattle.gos_joining.proofs.webs.CutLemmas.{name_by, Owns, port_own, port_lies, token_lost, stands_own}
 use Rattle.gos_realises.specs.realises.Regular.{count}
-use Rattle.gos_realises.proofs.realises.InputLemmas.{result_asks}
 use Rattle.gos_joining.specs.webs.Webs.{joint}
 use Rattle.gos_nodes.specs.parallel.Parallel.{IsJointOf}
 use Rattle.gos_nodes.proofs.windows.AskedLemmas.{done_contact}
 use Rattle.gos_nodes.specs.blocks.Servers.{run_of}
 use Rattle.gos_nodes.specs.blocks.Block.{Block, IsBlock}
+use Rattle.gos_nodes.proofs.parallel.HungLemmas.{IsHung, result_shake}
 
 -- the end of the body at which the part asks, and those at which it serves
 abbrev pub port : Block → ℕ → End
@@ -56,11 +50,8 @@ module _ (r : Plan) (b : Block) (is : IsBlock r b) where
   pub body_done : IsDone b.body.outcome
   body_done = subst IsDone (sym is.outcome) is.done
 
-  pub result_shake : (n : ℕ) → StandsIn b.body (ResultEnd n) → n ≡ 0
-  result_shake n (j, listing, stands) =
-      let place = stands_there b.body j (ResultEnd n) is.cut.right (contained b.body.joints j listing) stands in
-      let one = joined b.body (ResultEnd n) j.asking is.cut.right place in
-      (result_asks b.body.outcome body_done n one.here one.is_here).0
+  pub body_shake : (n : ℕ) → StandsIn b.body (ResultEnd n) → n ≡ 0
+  body_shake = result_shake b.body is.cut.right body_done
 
   pub served_at : (i h : ℕ) → i ≡ b.place → b.cut.outer (ImportEnd i h) ≡ PartEnd b.own (suc h)
   served_at i h same = ap (λ n. b.cut.outer (ImportEnd n h)) same ∙ is.served h
@@ -77,7 +68,7 @@ module _ (r : Plan) (b : Block) (is : IsBlock r b) where
           by_which (other apart) =
               let (j, leads, slices) = is.imports i n apart stands in at_import i j n (sym at ∙ leads) refl apart stands leads slices
       by_end (ResultEnd n) (port', stands, at) =
-          let none = result_shake n stands in
+          let none = body_shake n stands in
           at_port 0 (sym at ∙ (ap (λ m. b.cut.outer (ResultEnd m)) none ∙ is.result)) (ap (λ m. ResultEnd m) none)
 
   pub import_inner : (j n : ℕ) (e : End) → b.cut.inner (ImportEnd j n) ≡ Some e
@@ -139,13 +130,10 @@ module _ (r : Plan) (b : Block) (is : IsBlock r b) where
           let (j, leads, also) = is.imports i n apart stands in
           let bad : ImportEnd j n ≡ PartEnd b.own h = sym leads ∙ at in absurd (cc bad)
   port_alone (ResultEnd n) stands h at =
-      let none = result_shake n stands in
+      let none = body_shake n stands in
       let ends : PartEnd b.own 0 ≡ PartEnd b.own h = sym (ap (λ m. b.cut.outer (ResultEnd m)) none ∙ is.result) ∙ at in
       let shake : 0 ≡ h = cc ends in
       subst (λ m. ResultEnd n ≡ port b m) shake (ap (λ m. ResultEnd m) none)
-
-  pub result_alone : (e : End) → Owns b.body e → lies_at b.cut e ≡ PartEnd b.own 0 → e ≡ ResultEnd 0
-  result_alone e own at = port_alone e own 0 at
 
   -- the handshakes of the variable are those of the supply
   pub variable_contact : (h : ℕ) → contact_at b.body (ImportEnd b.place h) ≡ slice_get (contacts_of b.server.supply) h
@@ -177,9 +165,6 @@ module _ (r : Plan) (b : Block) (is : IsBlock r b) where
       by_inner (Some e) at = absurd (never e at)
 
   -- what no end of the region sees
-  pub state_unseen : (i : ℕ) → b.cut.number i ≡ None → (q : State) (s : Tokens) → cut_tokens b.cut b.body (with_state i q s) ≡ cut_tokens b.cut b.body s
-  state_unseen i out q s = state_lost b.cut r b.body is.cut i kinds.Par out q s
-
   pub part_unseen : (i n : ℕ) → b.cut.number i ≡ None → b.cut.inner (PartEnd i n) ≡ None → (way : Direction) (held : Option ℕ) (s : Tokens)
       → cut_tokens b.cut b.body (with_token r (PartEnd i n) way held s) ≡ cut_tokens b.cut b.body s
   part_unseen i n out none way held s =
@@ -192,11 +177,6 @@ module _ (r : Plan) (b : Block) (is : IsBlock r b) where
   -- the result is asked and answers
   pub result_there : contact_at b.body (ResultEnd 0) ≡ Some (asks 0 (bits r.outcome))
   result_there = ap (λ (t : Type'). turned_if (slice_get (contacts_of t) 0)) is.outcome ∙ done_contact r.outcome is.done
-
-  pub is_asked : (s t : Tokens) → cut_tokens b.cut b.body t ≡ with_token b.body (ResultEnd 0) Request (Some 0) (cut_tokens b.cut b.body s)
-      → Does b.body (In (ResultEnd 0) 0) (cut_tokens b.cut b.body s) (cut_tokens b.cut b.body t)
-  is_asked s t at =
-      (tt, subst (λ (o : Option Contact). Passes b.body (In (ResultEnd 0) 0) o (cut_tokens b.cut b.body s) (cut_tokens b.cut b.body t)) (sym result_there) (omega arith, at))
 
   -- an end of the part that stands in a joint is joined to the body's
   pub joined_port : (h : ℕ) → (h ≡ run_of b.server → ⊥) → (a : End) → places_of r (PartEnd b.own h) ≡ Some a → Owns b.body (port b h)
@@ -225,7 +205,7 @@ module _ (r : Plan) (b : Block) (is : IsBlock r b) where
           let own = stands_own b.body (joint x y) y is.cut.right (contained b.body.joints (joint x y) has) (serving_stands (joint x y)) in
           subst (Owns b.body) (port_alone y own h (beyond ∙ sym one)) own
 
-  pub free : places_of b.body (ResultEnd 0) ≡ None → places_of r (PartEnd b.own 0) ≡ None
+  free : places_of b.body (ResultEnd 0) ≡ None → places_of r (PartEnd b.own 0) ≡ None
   free none = by_place (places_of r (PartEnd b.own 0)) refl
     where
       standing : StandsIn b.body (ResultEnd 0) → ⊥
@@ -235,90 +215,14 @@ module _ (r : Plan) (b : Block) (is : IsBlock r b) where
       by_place None at = refl
       by_place (Some a) at = absurd (standing (joined_port 0 (λ e. omega (arith, e)) a at))
 
--- an end of a part that there is, a joined port, or the result
-abbrev pub Held : Plan → End → Type 0
-Held p e = Owns p e ⊎ (e ≡ ResultEnd 0)
-
-pub result_held : (p : Plan) → Held p (ResultEnd 0)
-result_held p = inr refl
-
-module _ (r : Plan) (b : Block) (block : IsBlock r b) where
-  -- an end has places in the region and in the whole, or it is the result and has none
-  data Placed (e : End) : Type 0 where
-    owned : Owns b.body e → Placed e
-    lost : e ≡ ResultEnd 0 → places_of b.body e ≡ None → places_of r (lies_at b.cut e) ≡ None → Placed e
-
-  placed : (e : End) → Held b.body e → Placed e
-  placed e (inl own) = owned own
-  placed e (inr is) = subst Placed (sym is) (by_place (places_of b.body (ResultEnd 0)) refl)
-    where
-      by_place : (o : Option End) → places_of b.body (ResultEnd 0) ≡ o → Placed (ResultEnd 0)
-      by_place None none = lost refl none (ap (places_of r) block.result ∙ free r b block none)
-      by_place (Some a) named =
-          let at = found b.body.joints (ResultEnd 0) a named in owned (at.joint, listed b.body.joints at.joint at.is_in, at.stands)
-
-  pub one_held : (a c : End) → Held b.body a → Held b.body c → lies_at b.cut a ≡ lies_at b.cut c → a ≡ c
-  one_held a c (inl own) (inl also) same = one_end b.cut r b.body block.cut a c own also same
-  one_held a c (inl own) (inr is) same = result_alone r b block a own (same ∙ (ap (lies_at b.cut) is ∙ block.result)) ∙ sym is
-  one_held a c (inr is) (inl own) same = is ∙ sym (result_alone r b block c own (sym same ∙ (ap (lies_at b.cut) is ∙ block.result)))
-  one_held a c (inr is) (inr also) same = is ∙ sym also
-
-  pub same_held : (a c : End) → Held b.body a → Held b.body c → same_end (lies_at b.cut a) (lies_at b.cut c) ≡ same_end a c
-  same_held a c held also = same_tests (same_end (lies_at b.cut a) (lies_at b.cut c)) (same_end a c) to from
-    where
-      to : same_end (lies_at b.cut a) (lies_at b.cut c) ≡ true → same_end a c ≡ true
-      to t = subst (λ (x : End). same_end a x ≡ true) (one_held a c held also (same_is (lies_at b.cut a) (lies_at b.cut c) t)) (same_itself a)
-
-      from : same_end a c ≡ true → same_end (lies_at b.cut a) (lies_at b.cut c) ≡ true
-      from t = subst (λ (x : End). same_end (lies_at b.cut a) (lies_at b.cut x) ≡ true) (same_is a c t) (same_itself (lies_at b.cut a))
-
-  -- the name of a handshake
-  pub name_lies : (e : End) → Held b.body e → handshake_at r (lies_at b.cut e) ≡ lies_at b.cut (handshake_at b.body e)
-  name_lies e held = by_placed (placed e held)
-    where
-      by_name : (o : Option End) → places_of b.body e ≡ o → Owns b.body e → handshake_at r (lies_at b.cut e) ≡ lies_at b.cut (handshake_at b.body e)
-      by_name None none own =
-          ap (λ o. named_by o (lies_at b.cut e)) (no_place b.cut r b.body block.cut e own none) ∙ sym (ap (λ o. lies_at b.cut (named_by o e)) none)
-      by_name (Some a) named own =
-          ap (λ o. named_by o (lies_at b.cut e)) (place_there b.cut r b.body block.cut e a named) ∙ sym (ap (λ o. lies_at b.cut (named_by o e)) named)
-
-      by_placed : Placed e → handshake_at r (lies_at b.cut e) ≡ lies_at b.cut (handshake_at b.body e)
-      by_placed (owned own) = by_name (places_of b.body e) refl own
-      by_placed (lost is none nowhere) = ap (λ o. named_by o (lies_at b.cut e)) nowhere ∙ sym (ap (λ o. lies_at b.cut (named_by o e)) none)
-
-  pub name_held : (e : End) → Held b.body e → Held b.body (handshake_at b.body e)
-  name_held e held = by_place (places_of b.body e) refl
-    where
-      by_place : (o : Option End) → places_of b.body e ≡ o → Held b.body (handshake_at b.body e)
-      by_place None none = subst (λ o. Held b.body (named_by o e)) (sym none) held
-      by_place (Some a) named = subst (λ o. Held b.body (named_by o e)) (sym named) (inl (asker_own b.body block.cut.right a (asker_asks b.body e a named)))
-
-  -- what lies at an end, and what is put or taken there
-  pub held_token : (e : End) → Held b.body e → (s : Tokens) (way : Direction) → token_at b.body (cut_tokens b.cut b.body s) e way ≡ token_at r s (lies_at b.cut e) way
-  held_token e held s way = by_placed (placed e held)
-    where
-      by_placed : Placed e → token_at b.body (cut_tokens b.cut b.body s) e way ≡ token_at r s (lies_at b.cut e) way
-      by_placed (owned own) = token_cut b.cut r b.body block.cut e own s way
-      by_placed (lost is none nowhere) = ap (held_at (cut_tokens b.cut b.body s) way) none ∙ sym (ap (held_at s way) nowhere)
-
-  pub held_put : (e : End) → Held b.body e → (way : Direction) (held : Option ℕ) (s : Tokens)
-      → with_token b.body e way held (cut_tokens b.cut b.body s) ≡ cut_tokens b.cut b.body (with_token r (lies_at b.cut e) way held s)
-  held_put e is way held s = by_placed (placed e is)
-    where
-      by_placed : Placed e → with_token b.body e way held (cut_tokens b.cut b.body s) ≡ cut_tokens b.cut b.body (with_token r (lies_at b.cut e) way held s)
-      by_placed (owned own) = token_put b.cut r b.body block.cut e own way held s
-      by_placed (lost same none nowhere) =
-          ap (λ o. with_held way o held (cut_tokens b.cut b.body s)) none ∙ sym (ap (λ o. cut_tokens b.cut b.body (with_held way o held s)) nowhere)
-
-  pub result_put : (way : Direction) (held : Option ℕ) (s : Tokens)
-      → cut_tokens b.cut b.body (with_token r (PartEnd b.own 0) way held s) ≡ with_token b.body (ResultEnd 0) way held (cut_tokens b.cut b.body s)
-  result_put way held s =
-      ap (λ (e : End). cut_tokens b.cut b.body (with_token r e way held s)) (sym block.result) ∙ sym (held_put (ResultEnd 0) (result_held b.body) way held s)
-
-  pub is_answered : (v : ℕ) (s t : Tokens) → token_at r s (PartEnd b.own 0) Answer ≡ Some v
-      → cut_tokens b.cut b.body t ≡ with_token b.body (ResultEnd 0) Answer None (cut_tokens b.cut b.body s)
-      → Does b.body (Out (ResultEnd 0) v) (cut_tokens b.cut b.body s) (cut_tokens b.cut b.body t)
-  is_answered v s t lies is =
-      let here : token_at b.body (cut_tokens b.cut b.body s) (ResultEnd 0) Answer ≡ Some v =
-      held_token (ResultEnd 0) (result_held b.body) s Answer ∙ (ap (λ (e : End). token_at r s e Answer) block.result ∙ lies) in
-      (tt, subst (λ (o : Option Contact). Passes b.body (Out (ResultEnd 0) v) o (cut_tokens b.cut b.body s) (cut_tokens b.cut b.body t)) (sym (result_there r b block)) (here, is))
+  -- the body hangs on the server's first end
+  pub hung_body : IsHung b.own 0 (bits r.outcome) b.cut r b.body
+  hung_body =
+      record {
+        cut = is.cut;
+        outside = is.outside;
+        result = is.result;
+        alone = λ e own at. port_alone e own 0 at;
+        free = free;
+        there = result_there;
+      }

@@ -22,14 +22,16 @@ use Rattle.gos_realises.proofs.realises.PassLemmas.{open_otherwise}
 use Rattle.gos_realises.proofs.realises.RingLemmas.{after, OutputTurns}
 use Rattle.gos_sharing.proofs.behind.StepLemmas.{out_joined}
 use Rattle.gos_nodes.specs.windows.Nodes.{IsRestful}
+use Rattle.gos_nodes.proofs.parallel.GateLemmas.{gate, Same}
+use Rattle.gos_nodes.proofs.parallel.HungLemmas.{Unseen, Sees, Local, fires, puts_out, takes_in}
 use Rattle.gos_nodes.proofs.windows.RestLemmas.{closed_rests}
 use Rattle.gos_nodes.proofs.windows.OpenLemmas.{ground_heard}
 use Rattle.gos_nodes.proofs.windows.ClosingLemmas.{Ports, ports_after}
 use Rattle.gos_nodes.proofs.windows.MeetLemmas.{Meets, IsUnjoined, HasPorts, heard_meets}
 use Rattle.gos_nodes.proofs.windows.TurnLemmas.{Turned, closed_turned, open_before}
-use Rattle.gos_nodes.proofs.parallel.StepLemmas.{gate, Same, Unseen, Sees, Local, fires, puts_out, takes_in}
 use Rattle.gos_nodes.proofs.parallel.LinkedLemmas.{Comes, past_all}
 use Rattle.gos_nodes.proofs.parallel.HistoryLemmas.{passed_append, History, Grown, grow, grown, at_first}
+use Rattle.gos_nodes.proofs.parallel.AskedLemmas.{peel}
 use Rattle.gos_nodes.proofs.parallel.LooseLemmas.{loose_comes, loose_contact, loose_does, own_now}
 use Rattle.gos_nodes.proofs.parallel.RegularLemmas.{comes_of_turn}
 use Rattle.gos_nodes.proofs.parallel.QuietLemmas.{Neat, neat_step, neat_first}
@@ -39,7 +41,7 @@ use Rattle.gos_nodes.proofs.blocks.StepLemmas.{Step, of_body, asked, told, start
 use Rattle.gos_nodes.proofs.blocks.LinkedLemmas.{Stage, when_told, Driven, seen, seen_runs, driven_step, driven_first}
 use Rattle.gos_nodes.proofs.blocks.SharedLemmas.{body_ports, not_place, Shared, shared_first, shared_pass, whole_turned, shared_step, body_input, seen_inputs}
 use Rattle.gos_nodes.proofs.blocks.OutputLemmas.{output_turn}
-use Rattle.gos_nodes.proofs.blocks.OrderLemmas.{Opened, welcome_all, peel, Next, order_step, opened_first}
+use Rattle.gos_nodes.proofs.blocks.OrderLemmas.{Opened, welcome_all, Next, order_step, opened_first}
 use Rattle.gos_nodes.proofs.blocks.QuietLemmas.{whole_idle}
 use Rattle.gos_nodes.proofs.blocks.LooseLemmas.{opened_loose}
 
@@ -56,21 +58,32 @@ module _
   body_idle = idle_is_cut b.cut r b.body first rests
 
   -- where the whole is, and its body is
-  record Holds (s : Tokens) (past : List Pass) (hs : List Element) (o lo : Open) : Type 0 where
-    driven : Driven b past (passed b.body [] hs) s
+  pub record Holds (s : Tokens) (past : List Pass) (hs : List Element) (o lo : Open) : Type 0 where
+    pub driven : Driven b past (passed b.body [] hs) s
     shared : SharedHere past (passed b.body [] hs)
-    body : History b.body (Inside first) (Inside s) hs lo
+    pub body : History b.body (Inside first) (Inside s) hs lo
     opened : Opened r b is literals past o lo s
-    sound : Sound r b s
+    pub sound : Sound r b s
     open_ports : Ports r is.cut.whole_right o past
 
-  record After (x : Element) (s w : Tokens) (past : List Pass) (o : Open) : Type 0 where
-    hs : List Element
-    now : Open
-    lo : Open
+  -- which step an element is: one that the body sees by itself, or an input at an end in no joint
+  pub data Went (x : Element) (s w : Tokens) : Type 0 where
+    is_seen : (z : Step r b x s w) → IsSeen r b x s w z → Went x s w
+    lost_inside :
+        (k n v i : ℕ) (none : IsUnjoined r b.cut b.body i n)
+        → none.import ≡ k → x ≡ In (ImportEnd k n) v → Sees b.cut b.body (In (ImportEnd i n) v) s w → Same b.own s w → Went x s w
+
+  abbrev pub inside_of : (x : Element) (s w : Tokens) → Went x s w → List Element
+  inside_of x s w (is_seen z seen_so) = seen r b is literals x s w z
+  inside_of x s w (lost_inside k n v i none import at sees same) = In (ImportEnd i n) v ∷ []
+
+  pub record After (x : Element) (s w : Tokens) (past : List Pass) (hs : List Element) (o : Open) : Type 0 where
+    pub went : Went x s w
+    pub now : Open
+    pub lo : Open
     comes : ComesInOrder r x s o now
     welcome : AllWelcome r w
-    holds : Holds w (after r x past) hs now lo
+    pub holds : Holds w (after r x past) (hs ++ inside_of x s w went) now lo
     output : OutputTurns r past x
 
   -- one element more
@@ -78,12 +91,13 @@ module _
     abbrev own : List Pass
     own = passed b.body [] hs
 
-    finish : (ys : List Element) (next : Grown b.body (Inside first) (Inside s) (Inside w) hs ys lo) → Driven b (after r x past) (past_all b.body ys own) w
-        → SharedHere (after r x past) (past_all b.body ys own) → (now own_now : Open) → ComesInOrder r x s o now → Opened r b is literals (after r x past) now own_now w
-        → next.now ≡ own_now → AllWelcome b.body (Inside w) → (Turned r (after r x past) → OutputTurns r past x) → After x s w past o
-    finish ys next driven shared now own_now comes opened same welcome output =
+    finish : (went : Went x s w) (next : Grown b.body (Inside first) (Inside s) (Inside w) hs (inside_of x s w went) lo)
+        → Driven b (after r x past) (past_all b.body (inside_of x s w went) own) w
+        → SharedHere (after r x past) (past_all b.body (inside_of x s w went) own) → (now own_now : Open) → ComesInOrder r x s o now → Opened r b is literals (after r x past) now own_now w
+        → next.now ≡ own_now → AllWelcome b.body (Inside w) → (Turned r (after r x past) → OutputTurns r past x) → After x s w past hs o
+    finish went next driven shared now own_now comes opened same welcome output =
         record {
-          hs = hs ++ ys;
+          went = went;
           now = now;
           lo = own_now;
           comes = comes;
@@ -100,6 +114,9 @@ module _
           output = output (whole_turned r b is ports (after r x past) (passed b.body [] (hs ++ ys)) w driven_on shared_on next.turned);
         }
       where
+        ys : List Element
+        ys = inside_of x s w went
+
         own_past : past_all b.body ys own ≡ passed b.body [] (hs ++ ys)
         own_past = sym (passed_append b.body [] hs ys)
 
@@ -118,9 +135,9 @@ module _
             grow b.body regular (Inside first) (Inside w) u (hs ++ ys) (Out e v ∷ []) own_now body_idle history (u, one, refl) tt in
             further.outputs
 
-    seen_step : (z : Step r b x s w) → IsSeen r b x s w z → InputTurns r past x → After x s w past o
+    seen_step : (z : Step r b x s w) → IsSeen r b x s w z → InputTurns r past x → After x s w past hs o
     seen_step z seen_so turn =
-        finish ys next (driven_step r b is literals x s w z past own holds.driven comes_in) (shared_step r b is ports literals x s w z seen_so past own holds.shared) one.open_now
+        finish (is_seen z seen_so) next (driven_step r b is literals x s w z past own holds.driven comes_in) (shared_step r b is ports literals x s w z seen_so past own holds.shared) one.open_now
         one.own_now one.comes one.opened one.rest.0 one.welcome
         (λ turned.
         output_turn r b is literals ports x s w z past own [] holds.driven holds.shared
@@ -163,9 +180,9 @@ module _
             let (inside, held) = holds.open_ports (ImportEnd k n) tt up in
             sym held ∙ subst (ComesInTurn past (ImportEnd k n)) (ap way_in there ∙ ap way_put asks) turn.0
 
-    lost_inside : (i : ℕ) → (none : IsUnjoined r b.cut b.body i n) → none.import ≡ k → After (In (ImportEnd k n) v) s w past o
-    lost_inside i none import =
-        finish (In (ImportEnd k n) v) s w past hs o lo holds does ys next driven shared opened_now (with_open (ImportEnd i n) true lo) comes
+    input_inside : (i : ℕ) → (none : IsUnjoined r b.cut b.body i n) → none.import ≡ k → After (In (ImportEnd k n) v) s w past hs o
+    input_inside i none import =
+        finish (In (ImportEnd k n) v) s w past hs o lo holds does (lost_inside k n v i none import refl own_does same) next driven shared opened_now (with_open (ImportEnd i n) true lo) comes
         (opened_loose r b is k n not_inside literals v s w past o lo holds.opened same does comes i none.own_none) own_is one.2 (λ turned. tt)
       where
         ys : List Element
@@ -214,31 +231,31 @@ module _
             (shared_pass r b is ports past (passed b.body [] hs) holds.shared i n k (inr none) leads (way_in (contact_at r (ImportEnd k n))))
 
         one : (m : Open) × ComesInOrder b.body (In (ImportEnd i n) v) (Inside s) lo m × AllWelcome b.body (Inside w) × OrderlyFrom b.body [] m (Inside w) next.now (Inside w)
-        one = peel r b is literals b.body (In (ImportEnd i n) v) [] lo next.now (Inside s) (Inside w) (Inside w) own_does next.piece
+        one = peel b.body (In (ImportEnd i n) v) [] lo next.now (Inside s) (Inside w) (Inside w) own_does next.piece
 
         own_is : next.now ≡ with_open (ImportEnd i n) true lo
         own_is = one.3.0 ∙ own_now r b.cut b.body i n none v (Inside s) lo one.0 one.1
 
-    met_inside : (i : ℕ) → Meets r b.cut b.body i n → b.cut.outer (ImportEnd i n) ≡ ImportEnd k n → After (In (ImportEnd k n) v) s w past o
+    met_inside : (i : ℕ) → Meets r b.cut b.body i n → b.cut.outer (ImportEnd i n) ≡ ImportEnd k n → After (In (ImportEnd k n) v) s w past hs o
     met_inside i (inl joined) leads =
         let clash : None ≡ Some (ImportEnd i n) = sym not_inside ∙ (ap b.cut.inner (sym leads) ∙ (is.cut.ports (ImportEnd i n) tt joined.stands).1) in absurd (cc clash)
     met_inside i (inr none) leads =
         let both : ImportEnd none.import n ≡ ImportEnd k n = sym none.outer ∙ leads in
-        let import : none.import ≡ k = cc both in lost_inside i none import
+        let import : none.import ≡ k = cc both in input_inside i none import
 
-    by_which : (m : ℕ) → (m ≡ n) ⊎ (c.role ≡ Ask) → (i : ℕ) → Meets r b.cut b.body i m → b.cut.outer (ImportEnd i m) ≡ ImportEnd k m → After (In (ImportEnd k n) v) s w past o
+    by_which : (m : ℕ) → (m ≡ n) ⊎ (c.role ≡ Ask) → (i : ℕ) → Meets r b.cut b.body i m → b.cut.outer (ImportEnd i m) ≡ ImportEnd k m → After (In (ImportEnd k n) v) s w past hs o
     by_which m (inl same) i meets leads =
         met_inside i (subst (λ (y : ℕ). Meets r b.cut b.body i y) same meets) (subst (λ (y : ℕ). b.cut.outer (ImportEnd i y) ≡ ImportEnd k y) same leads)
     by_which m (inr asks) i meets leads = let (here, at) = heard_meets r b.cut b.body ports i m k n c meets leads there asks in met_inside i here at
 
-    lost_step : After (In (ImportEnd k n) v) s w past o
+    lost_step : After (In (ImportEnd k n) v) s w past hs o
     lost_step =
         let (m, up, which) = open_before r past k n c there turn in
         let (i, meets, leads) = holds.shared.only k m up in
         by_which m which i meets leads
 
-  next_of : (x : Element) (s w : Tokens) (past : List Pass) (hs : List Element) (o lo : Open) → Holds s past hs o lo → Does r x s w → InputTurns r past x → Step r b x s w
-      → After x s w past o
+  pub next_of : (x : Element) (s w : Tokens) (past : List Pass) (hs : List Element) (o lo : Open) → Holds s past hs o lo → Does r x s w → InputTurns r past x → Step r b x s w
+      → After x s w past hs o
   next_of x s w past hs o lo holds does turn (lost j k v s' w' c there none unseen same) = lost_step j k v s' w' past hs o lo holds does turn c there none unseen same
   next_of x s w past hs o lo holds does turn (of_body x' y s' w' local sees same) = seen_step x' s' w' past hs o lo holds does (of_body x' y s' w' local sees same) tt turn
   next_of x s w past hs o lo holds does turn (asked v s' w' small unseen state ask ans) =
@@ -254,10 +271,10 @@ module _
   along [] s t past hs o lo holds runs turns = ((o, s, (refl, refl)), tt)
   along (x ∷ xs) s t past hs o lo holds (w, does, runs) turns =
       let one = next_of x s w past hs o lo holds does (first_turn r past x xs turns) (step r b is literals x s w holds.sound does) in
-      let ((u, z, rest), outputs) = along xs w t (after r x past) one.hs one.now one.lo one.holds runs (later_turns r past x xs turns) in
+      let ((u, z, rest), outputs) = along xs w t (after r x past) (hs ++ inside_of x s w one.went) one.now one.lo one.holds runs (later_turns r past x xs turns) in
       ((u, z, (one.now, w, does, one.comes, one.welcome, rest)), out_joined r past x xs one.output outputs)
 
-  holds_first : Holds first [] [] none_open none_open
+  pub holds_first : Holds first [] [] none_open none_open
   holds_first =
       record {
         driven = driven_first r b is literals first rests;
@@ -295,7 +312,7 @@ module _
       }
   reach (y ∷ ys) x s t past hs o lo holds neat (w, does, runs) turns =
       let one = next_of y s w past hs o lo holds does (first_turn r past y (ys ++ x ∷ []) turns) (step r b is literals y s w holds.sound does) in
-      reach ys x w t (after r y past) one.hs one.now one.lo one.holds (neat_step r y s w does neat) runs (later_turns r past y (ys ++ x ∷ []) turns)
+      reach ys x w t (after r y past) (hs ++ inside_of y s w one.went) one.now one.lo one.holds (neat_step r y s w does neat) runs (later_turns r past y (ys ++ x ∷ []) turns)
 
   -- the answer leads to rest
   local_apart : (x y : Element) (v : ℕ) → Local b.cut r b.body x y → x ≡ Out (ResultEnd 0) v → ⊥

@@ -19,19 +19,20 @@ use Rattle.gos_realises.specs.realises.Regular.{Pass, pass, way_in, way_out, is_
 use Rattle.gos_realises.specs.realises.Realises.{NamesDiffer}
 use Rattle.gos_realises.proofs.realises.RingLemmas.{after}
 use Rattle.gos_nodes.specs.windows.OpenNodes.{IsHeard}
+use Rattle.gos_nodes.proofs.parallel.GateLemmas.{gate}
+use Rattle.gos_nodes.proofs.parallel.HungLemmas.{Local, fires, puts_out, takes_in, import_contact}
 use Rattle.gos_nodes.proofs.windows.PortLemmas.{stands_place}
 use Rattle.gos_nodes.proofs.windows.MeetLemmas.{Meets, met_joined, HasPorts, AreFollowed, met_at, met_contact, met_contacts, met_import, followed_pass, alike}
 use Rattle.gos_realises.proofs.realises.InputLemmas.{InputTurns}
 use Rattle.gos_realises.proofs.realises.PassLemmas.{open_otherwise}
 use Rattle.gos_sharing.proofs.buffers.BranchLemmas.{place_stands}
 use Rattle.gos_nodes.proofs.windows.TurnLemmas.{Turned, closed_turned, import_kept, imports_turned, open_before, comes_so, import_result, region_turned}
-use Rattle.gos_nodes.proofs.parallel.StepLemmas.{gate, Local, fires, puts_out, takes_in}
 use Rattle.gos_nodes.proofs.parallel.LinkedLemmas.{past_all}
 use Rattle.gos_nodes.specs.blocks.Block.{Block, IsBlock}
 use Rattle.gos_nodes.proofs.blocks.RegionLemmas as region
-use Rattle.gos_nodes.proofs.blocks.RegionLemmas.{body_done}
+use Rattle.gos_nodes.proofs.blocks.RegionLemmas.{body_done, hung_body}
 use Rattle.gos_nodes.proofs.blocks.StepLemmas.{Supplies, Step, of_body, asked, told, starts, supplies, ended, lost, IsSeen}
-use Rattle.gos_nodes.proofs.blocks.LinkedLemmas.{Driven, when_working, seen, body_asked, ways, own_after, supplied_turn, supplied_driven, supplied_others}
+use Rattle.gos_nodes.proofs.blocks.LinkedLemmas.{Driven, when_working, seen, body_asked, own_after, supplied_turn, supplied_driven, supplied_others}
 
 pub body_ports : (r : Plan) (b : Block) → IsBlock r b → IsHeard b.cut r b.body → NamesDiffer r.imports → NamesDiffer b.body.imports → HasPorts r b.cut b.body
 body_ports r b is heard whole_names names =
@@ -256,11 +257,11 @@ module _ (r : Plan) (b : Block) (is : IsBlock r b) (ports : HasPorts r b.cut b.b
     local_shared x y past own (fires i j k number) shared = shared
     local_shared x y past own (puts_out i j k v stands leads slices) shared =
         subst (λ o. Shared (pass (ImportEnd j k) (way_out (contact_at r (ImportEnd j k))) ∷ past) (pass (ImportEnd i k) (way_out o) ∷ own))
-        (ways r b is literals i j k stands leads)
+        (import_contact (hung_body r b is) i j k stands leads)
         (shared_pass past own shared i k j (met_joined r b.cut b.body i k j stands leads) leads (way_out (contact_at r (ImportEnd j k))))
     local_shared x y past own (takes_in i j k v stands leads slices) shared =
         subst (λ o. Shared (pass (ImportEnd j k) (way_in (contact_at r (ImportEnd j k))) ∷ past) (pass (ImportEnd i k) (way_in o) ∷ own))
-        (ways r b is literals i j k stands leads)
+        (import_contact (hung_body r b is) i j k stands leads)
         (shared_pass past own shared i k j (met_joined r b.cut b.body i k j stands leads) leads (way_in (contact_at r (ImportEnd j k))))
 
     -- the server serves the variable

@@ -19,6 +19,7 @@ use Rattle.gos_joining.proofs.webs.SmallWebLemmas.{one_port}
 use Rattle.gos_nodes.specs.parallel.Parallel.{IsJointOf, IsPartOf}
 use Rattle.gos_nodes.specs.parallel.SmallParallel.{skip_number}
 use Rattle.gos_nodes.proofs.blocks.DriverLemmas.{local_is_server}
+use Rattle.gos_nodes.proofs.windows.OpenLemmas.{ground_heard}
 use Rattle.gos_nodes.proofs.blocks.RealisesLemmas.{block_realises}
 use Rattle.gos_nodes.specs.blocks.SmallBlocks.{skip_block, one_bit, unused, new_skip, body_outer, body_inner, body_out, NewSkipIsBlock, NewSkipIsRealised, VariableIsNeeded, WidthIsNeeded, OtherPartIsNot}
 
@@ -137,4 +138,4 @@ literals : All LiteralFits new_skip.parts
 literals = All-cons LiteralFits (Local 1 0) (Skip ∷ []) tt (All-cons LiteralFits Skip [] tt (All-nil LiteralFits))
 
 pub new_skip_is_realised : NewSkipIsRealised
-new_skip_is_realised body = block_realises new_skip skip_block 1 terms.Skip new_skip_is_block refl literals tt tt (tt, (omega arith, omega arith), refl) body
+new_skip_is_realised body = block_realises new_skip skip_block 1 terms.Skip new_skip_is_block (ground_heard body_out new_skip unused (tt, tt) tt) refl literals tt tt (tt, (omega arith, omega arith), refl) body

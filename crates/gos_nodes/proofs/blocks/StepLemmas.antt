@@ -2,32 +2,30 @@
 --
 -- The last result is `step`: each element that is possible is of one of seven sorts (`Step`), and of each it is said what the body
 -- and the server make of it. What of the variable is open stands in a joint (`Kept`), so what the server puts reaches the body.
-use Rattle.std.specs.Prelude.{◌≡◌, ◌⊎◌, ◌<◌, ℕ, suc, Bool, true, false, List, [], ◌∷◌, ◌++◌, Option, Some, None, All, nat_eq, not, slice_get, if◌then◌else◌}
+use Rattle.std.specs.Prelude.{◌≡◌, ◌⊎◌, ◌<◌, ℕ, suc, Bool, true, false, [], ◌∷◌, ◌++◌, Option, Some, None, All, nat_eq, not, slice_get, if◌then◌else◌}
 use Rattle.std.proofs.Common.{arith, refl, sym, ap, subst, inl, inr, ◌∙◌}
 use Rattle.std.proofs.lemmas.Bool.{eqb-true}
 use Rattle.gos_types.specs.declared.shakes.Role.{Role}
 use Rattle.gos_types.specs.declared.shakes.Role.TheVariants.{Serve, Ask}
 use Rattle.gos_types.specs.Events.{Direction, Request, Answer}
-use Rattle.gos_model.proofs.NumberLemmas.{nat_eq_itself}
 use Rattle.gos_plan.specs.Kinds.{Part, Contact, asks}
-use Rattle.gos_plan.specs.Firing.{Rest, State, Slot, Req, Ans, Token, Row, firing}
+use Rattle.gos_plan.specs.Firing.{Rest, State, Slot, Req, Ans, Row, firing}
 use Rattle.gos_plan.specs.Plans.{End, PartEnd, ImportEnd, ResultEnd, Plan, contact_at}
-use Rattle.gos_plan.specs.Tokens.{Tokens, Element, Fire, Out, In, places_of, held_at, with_held, token_at, with_token, with_state, with_puts, end_of, shake_of, way_of, firing_of, fired, way_taken, way_put, Passes, Does, Runs, IsIdle}
+use Rattle.gos_plan.specs.Tokens.{Tokens, Element, Fire, Out, In, places_of, held_at, with_held, token_at, with_token, with_state, end_of, shake_of, way_of, firing_of, fired, way_taken, way_put, Passes, Does, Runs, IsIdle}
 use Rattle.gos_plan.specs.TokenBits.{LiteralFits, AllFit}
-use Rattle.gos_plan.proofs.JointLemmas.{contained, found, asking_stands, serving_stands, which_end}
+use Rattle.gos_plan.proofs.JointLemmas.{found, which_end}
 use Rattle.gos_plan.proofs.HeldLemmas.{nothing_there}
 use Rattle.gos_plan.proofs.TokenBitsLemmas.{all_stay_fit, idle_fits}
-use Rattle.gos_plan.proofs.TurnLemmas.{token_state, fired_state}
+use Rattle.gos_plan.proofs.TurnLemmas.{token_state}
 use Rattle.gos_plan.proofs.ElementLemmas.{firing_part}
 use Rattle.gos_nodes.specs.sessions.Sessions.{bits}
-use Rattle.gos_joining.specs.webs.Webs.{joint}
-use Rattle.gos_joining.specs.webs.Cutting.{Cut, lies_at, StandsIn, cut_tokens, out_if, in_if, ins_of, firing_in, outside_firing}
+use Rattle.gos_joining.specs.webs.Cutting.{StandsIn, cut_tokens, out_if, in_if, ins_of, firing_in, outside_firing}
 use Rattle.gos_joining.proofs.webs.MovedLemmas.{listed}
-use Rattle.gos_joining.proofs.webs.CutLemmas.{Owns, token_lost, fire_cut, stands_own, element_is_cut}
+use Rattle.gos_joining.proofs.webs.CutLemmas.{Owns, token_lost, fire_cut, element_is_cut}
 use Rattle.gos_realises.specs.realises.Regular.{is_request}
-use Rattle.gos_realises.proofs.realises.InputLemmas.{result_asks}
-use Rattle.gos_nodes.specs.parallel.Parallel.{IsJointOf, IsPartOf}
-use Rattle.gos_nodes.proofs.parallel.StepLemmas.{gate, result_gate, part_gate, gate_elsewhere, Local, fires, puts_out, takes_in, passes_out, passes_in, Unseen, Sees, Same}
+use Rattle.gos_nodes.specs.parallel.Parallel.{IsPartOf}
+use Rattle.gos_nodes.proofs.parallel.HungLemmas.{IsHung, Local, fires, puts_out, takes_in, Unseen, Sees, one_sees, result_put, is_asked, is_answered, state_unseen, not_driver, not_its_import}
+use Rattle.gos_nodes.proofs.parallel.GateLemmas.{gate, Same, IsRun, passes_out, passes_in, there_contact, first_shake, result_gate, part_gate, gate_apart, gate_taken, gate_left, gate_filled, gate_beside, new_state, kept_state, fired_same, port_same}
 use Rattle.gos_nodes.proofs.windows.AskedLemmas.{done_contact}
 use Rattle.gos_nodes.specs.blocks.Servers.{run_of, after_pass, begin_row, serve_row, end_row, Serves, ServerRow, begins, serves_one, ends}
 use Rattle.gos_nodes.specs.blocks.Block.{Block, IsBlock}
@@ -103,10 +101,6 @@ abbrev pub IsSeen : (r : Plan) (b : Block) (x : Element) (s t : Tokens) → Step
 IsSeen r b x s t (lost j k v s' t' c there none unseen same) = ⊥
 IsSeen r b x s t z = Unit {0}
 
--- the element that is one of a list of one, or of none
-one_sees : (f : Cut) (p : Plan) (y : Element) (s t : Tokens) → Runs p (y ∷ []) (cut_tokens f p s) (cut_tokens f p t) → Sees f p y s t
-one_sees f p y s t (w, does, is) = subst (λ (u : Tokens). Does p y (cut_tokens f p s) u) (sym is) does
-
 -- the handshakes of the variable that are open to the body stand in joints of it
 abbrev pub Kept : Block → Tokens → Type 0
 Kept b s = (h : ℕ) → b.server.opened (s.state b.own) h ≡ true → StandsIn b.body (ImportEnd b.place h)
@@ -117,41 +111,16 @@ pub record Sound (r : Plan) (b : Block) (s : Tokens) : Type 0 where
   pub kept : Kept b s
 
 module _ (r : Plan) (b : Block) (is : IsBlock r b) where
-  -- what lies at the result's gate
-  pub gate_at_result : places_of r (ResultEnd 0) ≡ Some (ResultEnd 0)
-  gate_at_result = result_gate r b.own (run_of b.server) is.cut.whole_right is.run
+  -- the result runs the server
+  pub is_run : IsRun r b.own (run_of b.server)
+  is_run = record { right = is.cut.whole_right; there = is.run }
 
-  pub gate_at_part : places_of r (PartEnd b.own (run_of b.server)) ≡ Some (ResultEnd 0)
-  gate_at_part = part_gate r b.own (run_of b.server) is.cut.whole_right is.run
-
-  pub gate_kept : (e : End) → (e ≡ ResultEnd 0 → ⊥) → (e ≡ PartEnd b.own (run_of b.server) → ⊥) → (w : Direction) (held : Option ℕ) (s : Tokens) (way : Direction)
-      → gate (with_token r e w held s) way ≡ gate s way
-  gate_kept = gate_elsewhere r b.own (run_of b.server) is.cut.whole_right is.run
-
-  pub gate_apart : (k : ℕ) → (k ≡ run_of b.server → ⊥) → (w : Direction) (held : Option ℕ) (s : Tokens) (way : Direction)
-      → gate (with_token r (PartEnd b.own k) w held s) way ≡ gate s way
-  gate_apart k other = gate_kept (PartEnd b.own k) (λ e. cc e) (λ e. let same : k ≡ run_of b.server = cc e in other same)
-
-  gate_taken : (s : Tokens) → gate (with_token r (PartEnd b.own (run_of b.server)) Request None s) Request ≡ None
-  gate_taken s = ap (λ o. gate (with_held Request o None s) Request) gate_at_part
-
-  gate_left : (s : Tokens) → gate (with_token r (PartEnd b.own (run_of b.server)) Request None s) Answer ≡ gate s Answer
-  gate_left s = ap (λ o. gate (with_held Request o None s) Answer) gate_at_part
-
-  gate_filled : (v : ℕ) (s : Tokens) → gate (with_token r (PartEnd b.own (run_of b.server)) Answer (Some v) s) Answer ≡ Some v
-  gate_filled v s = ap (λ o. gate (with_held Answer o (Some v) s) Answer) gate_at_part
-
-  gate_beside : (v : ℕ) (s : Tokens) → gate (with_token r (PartEnd b.own (run_of b.server)) Answer (Some v) s) Request ≡ gate s Request
-  gate_beside v s = ap (λ o. gate (with_held Answer o (Some v) s) Request) gate_at_part
-
-  new_state : (c : State) (s : Tokens) → (with_state b.own c s).state b.own ≡ c
-  new_state c s = ap (λ (t : Bool). if t then c else s.state b.own) (nat_eq_itself b.own)
-
-  kept_state : (k : ℕ) (way : Direction) (held : Option ℕ) (s : Tokens) → (with_token r (PartEnd b.own k) way held s).state b.own ≡ s.state b.own
-  kept_state k way held s = token_state r (PartEnd b.own k) way held s b.own
+  -- the body hangs on it
+  hung : IsHung b.own 0 (bits r.outcome) b.cut r b.body
+  hung = region.hung_body r b is
 
   pub own_state : (c : State) (s : Tokens) → cut_tokens b.cut b.body (with_state b.own c s) ≡ cut_tokens b.cut b.body s
-  own_state = region.state_unseen r b is b.own is.outside
+  own_state = state_unseen hung b.own is.outside
 
   run_lost : (way : Direction) (held : Option ℕ) (s : Tokens) → cut_tokens b.cut b.body (with_token r (PartEnd b.own (run_of b.server)) way held s) ≡ cut_tokens b.cut b.body s
   run_lost = region.part_unseen r b is b.own (run_of b.server) is.outside (region.run_unseen r b is)
@@ -178,12 +147,12 @@ module _ (r : Plan) (b : Block) (is : IsBlock r b) where
         took = took;
         sees = sees;
         rest = rest;
-        ask = sym (ap (held_at s Request) gate_at_part) ∙ lies;
+        ask = sym (ap (held_at s Request) (part_gate is_run)) ∙ lies;
         state = state;
         runs = ap (λ (c : State). b.server.runs c.phase) state ∙ runs;
         closed = λ h. ap (λ (c : State). b.server.opened c h) state ∙ closed h;
-        none = gate_apart 0 zero_not_run Request (Some 0) u1 Request ∙ gate_taken s;
-        ans = gate_apart 0 zero_not_run Request (Some 0) u1 Answer ∙ gate_left s;
+        none = gate_apart is_run 0 zero_not_run Request (Some 0) u1 Request ∙ gate_taken is_run s;
+        ans = gate_apart is_run 0 zero_not_run Request (Some 0) u1 Answer ∙ gate_left is_run s;
       })
     where
       u0 : Tokens
@@ -196,12 +165,12 @@ module _ (r : Plan) (b : Block) (is : IsBlock r b) where
       u2 = with_token r (PartEnd b.own 0) Request (Some 0) u1
 
       state : u2.state b.own ≡ next v
-      state = kept_state 0 Request (Some 0) u1 ∙ new_state (next v) u0
+      state = kept_state is_run 0 Request (Some 0) u1 ∙ new_state is_run (next v) u0
 
       sees : Sees b.cut b.body (In (ResultEnd 0) 0) s u2
       sees =
-          region.is_asked r b is s u2
-          (region.result_put r b is Request (Some 0) u1
+          is_asked hung s u2
+          (result_put hung Request (Some 0) u1
           ∙ ap (with_token b.body (ResultEnd 0) Request (Some 0)) (own_state (next v) u0 ∙ run_lost Request None s))
 
   -- the body ends
@@ -219,8 +188,8 @@ module _ (r : Plan) (b : Block) (is : IsBlock r b) where
         closed = closed;
         state = state;
         rest = ap (λ (c : State). c.phase) state ∙ rest;
-        ask = gate_beside v u1 ∙ gate_apart 0 zero_not_run Answer None s Request;
-        ans = gate_filled v u1;
+        ask = gate_beside is_run v u1 ∙ gate_apart is_run 0 zero_not_run Answer None s Request;
+        ans = gate_filled is_run v u1;
       })
     where
       u0 : Tokens
@@ -233,12 +202,12 @@ module _ (r : Plan) (b : Block) (is : IsBlock r b) where
       u2 = with_token r (PartEnd b.own (run_of b.server)) Answer (Some v) u1
 
       state : u2.state b.own ≡ next v
-      state = kept_state (run_of b.server) Answer (Some v) u1 ∙ new_state (next v) u0
+      state = kept_state is_run (run_of b.server) Answer (Some v) u1 ∙ new_state is_run (next v) u0
 
       sees : Sees b.cut b.body (Out (ResultEnd 0) v) s u2
       sees =
-          region.is_answered r b is v s u2 lies
-          (run_lost Answer (Some v) u1 ∙ (own_state (next v) u0 ∙ region.result_put r b is Answer None s))
+          is_answered hung v s u2 lies
+          (run_lost Answer (Some v) u1 ∙ (own_state (next v) u0 ∙ result_put hung Answer None s))
 
   -- the body stands at the end at which the server takes a token
   pub stands_at : (h v : ℕ) (way : Direction) (s : Tokens) → (h ≡ run_of b.server → ⊥) → token_at r s (PartEnd b.own h) way ≡ Some v → Owns b.body (port b h)
@@ -251,67 +220,17 @@ module _ (r : Plan) (b : Block) (is : IsBlock r b) where
   inner_port : (h : ℕ) → StandsIn b.body (ImportEnd b.place h) → b.cut.inner (PartEnd b.own (suc h)) ≡ Some (ImportEnd b.place h)
   inner_port h stands = ap b.cut.inner (sym (is.served h)) ∙ (is.cut.ports (ImportEnd b.place h) tt stands).1
 
-  -- a firing in a region
-  puts_gate : (i : ℕ) → (i ≡ b.own → ⊥) → (ts : List Token) (s : Tokens) (way : Direction) → gate (with_puts r i ts s) way ≡ gate s way
-  puts_gate i other [] s way = refl
-  puts_gate i other (x ∷ ts) s way =
-      puts_gate i other ts (with_token r (end_of i x.slot) (way_of x.slot) (Some x.value) s) way
-      ∙ gate_kept (end_of i x.slot) (λ e. cc e) (λ e. let same : i ≡ b.own = cc e in other same) (way_of x.slot) (Some x.value) s way
-
-  fired_same : (i : ℕ) → (i ≡ b.own → ⊥) → (row : Row) (v : ℕ) (s t : Tokens) → t ≡ fired r i row v s → Same b.own s t
-  fired_same i other row v s t leads =
-      record {
-        state =
-            ap (λ (u : Tokens). u.state b.own) leads
-            ∙ (fired_state r i row v s b.own ∙ ap (λ (c : Bool). if c then row.next v else s.state b.own) apart);
-        gates = λ way.
-            ap (λ (u : Tokens). gate u way) leads
-            ∙ (puts_gate i other (row.puts v) (with_state i (row.next v) (with_token r (end_of i row.takes) (way_of row.takes) None s)) way
-            ∙ gate_kept (end_of i row.takes) (λ e. cc e) (λ e. let same : i ≡ b.own = cc e in other same) (way_of row.takes) None s way);
-      }
-    where
-      apart : nat_eq b.own i ≡ false
-      apart = by_test (nat_eq b.own i) refl
-        where
-          by_test : (c : Bool) → nat_eq b.own i ≡ c → c ≡ false
-          by_test true e = let same : b.own ≡ i = grind (arith, e) in absurd (other (sym same))
-          by_test false e = refl
-
-  not_driver : (i : ℕ) → IsPartOf b.cut i → i ≡ b.own → ⊥
-  not_driver i (j, number) same = let clash : None ≡ Some j = sym is.outside ∙ (ap b.cut.number (sym same) ∙ number) in cc clash
-
-  port_same : (e : End) (w : Direction) (held : Option ℕ) (s t : Tokens) → (e ≡ ResultEnd 0 → ⊥) → (e ≡ PartEnd b.own (run_of b.server) → ⊥) → t ≡ with_token r e w held s
-      → Same b.own s t
-  port_same e w held s t not_result not_part leads =
-      record {
-        state = ap (λ (u : Tokens). u.state b.own) leads ∙ token_state r e w held s b.own;
-        gates = λ way. ap (λ (u : Tokens). gate u way) leads ∙ gate_kept e not_result not_part w held s way;
-      }
-
   -- an import of the whole that stands in a joint is the body's
   nowhere : (j k : ℕ) → b.cut.inner (ImportEnd j k) ≡ None → places_of r (ImportEnd j k) ≡ None
   nowhere j k out = by_place (places_of r (ImportEnd j k)) refl
     where
-      of_body_end : (x : End) → Owns b.body x → lies_at b.cut x ≡ ImportEnd j k → ⊥
-      of_body_end (PartEnd i n) own at = cc at
-      of_body_end (ImportEnd i n) own at =
-          let clash : None ≡ Some (ImportEnd i n) = sym out ∙ (ap b.cut.inner (sym at) ∙ (is.cut.ports (ImportEnd i n) tt own).1) in cc clash
-      of_body_end (ResultEnd n) own at =
-          let clash : None ≡ Some (ResultEnd n) = sym out ∙ (ap b.cut.inner (sym at) ∙ (is.cut.ports (ResultEnd n) tt own).1) in cc clash
-
-      of_joint : (a c : End) → IsJointOf b.cut b.body a c → (ImportEnd j k ≡ a) ⊎ (ImportEnd j k ≡ c) → ⊥
-      of_joint a c (x, y, has, at, beyond) (inl one) =
-          of_body_end x (stands_own b.body (joint x y) x is.cut.right (contained b.body.joints (joint x y) has) (asking_stands (joint x y))) (at ∙ sym one)
-      of_joint a c (x, y, has, at, beyond) (inr one) =
-          of_body_end y (stands_own b.body (joint x y) y is.cut.right (contained b.body.joints (joint x y) has) (serving_stands (joint x y))) (beyond ∙ sym one)
-
       by_place : (o : Option End) → places_of r (ImportEnd j k) ≡ o → o ≡ None
       by_place None e = refl
       by_place (Some a) e =
           let there = found r.joints (ImportEnd j k) a e in
           let which = which_end (ImportEnd j k) there.joint there.stands in
           absurd (elim (is.joints there.joint.asking there.joint.serving (listed r.joints there.joint there.is_in)) [
-            | inl own ↦ of_joint there.joint.asking there.joint.serving own which
+            | inl own ↦ not_its_import hung j k out there.joint.asking there.joint.serving own which
             | inr run ↦
                 elim which [
                   | inl one ↦ let bad : ImportEnd j k ≡ ResultEnd 0 = one ∙ run.0 in cc bad
@@ -320,37 +239,26 @@ module _ (r : Plan) (b : Block) (is : IsBlock r b) where
           ])
 
   -- what passes the result
-  result_contact : contact_at r (ResultEnd 0) ≡ Some (asks 0 (bits r.outcome))
-  result_contact = done_contact r.outcome is.done
-
-  there_contact : (x : Element) (o : Option Contact) (s t : Tokens) → Passes r x o s t → (c : Contact) × (o ≡ Some c)
-  there_contact x None s t h = absurd h
-  there_contact x (Some c) s t h = (c, refl)
-
-  first_shake : (k : ℕ) (x : Element) (s t : Tokens) → Passes r x (contact_at r (ResultEnd k)) s t → k ≡ 0
-  first_shake k x s t passes =
-      let (c, there) = there_contact x (contact_at r (ResultEnd k)) s t passes in (result_asks r.outcome is.done k c there).0
-
   result_unseen : (way : Direction) (held : Option ℕ) (s : Tokens)
       → cut_tokens b.cut b.body (with_token r (ResultEnd 0) way held s) ≡ cut_tokens b.cut b.body s
   result_unseen way held s = token_lost b.cut r b.body is.cut (ResultEnd 0) (region.no_inner_result r b is 0) way held s
 
   result_out : (v : ℕ) (s t : Tokens) → Does r (Out (ResultEnd 0) v) s t → Step r b (Out (ResultEnd 0) v) s t
   result_out v s t (port', passes) =
-      let here = subst (λ (o : Option Contact). Passes r (Out (ResultEnd 0) v) o s t) result_contact passes in
+      let here = subst (λ (o : Option Contact). Passes r (Out (ResultEnd 0) v) o s t) (done_contact r.outcome is.done) passes in
       told v s t (ap (cut_tokens b.cut b.body) here.1 ∙ result_unseen Answer None s)
-      (ap (λ (u : Tokens). u.state b.own) here.1 ∙ token_state r (ResultEnd 0) Answer None s b.own) (sym (ap (held_at s Answer) gate_at_result) ∙ here.0)
-      (ap (λ (u : Tokens). gate u Answer) here.1 ∙ ap (λ o. gate (with_held Answer o None s) Answer) gate_at_result)
-      (ap (λ (u : Tokens). gate u Request) here.1 ∙ ap (λ o. gate (with_held Answer o None s) Request) gate_at_result)
+      (ap (λ (u : Tokens). u.state b.own) here.1 ∙ token_state r (ResultEnd 0) Answer None s b.own) (sym (ap (held_at s Answer) (result_gate is_run)) ∙ here.0)
+      (ap (λ (u : Tokens). gate u Answer) here.1 ∙ ap (λ o. gate (with_held Answer o None s) Answer) (result_gate is_run))
+      (ap (λ (u : Tokens). gate u Request) here.1 ∙ ap (λ o. gate (with_held Answer o None s) Request) (result_gate is_run))
 
   result_in : (v : ℕ) (s t : Tokens) → Does r (In (ResultEnd 0) v) s t → Step r b (In (ResultEnd 0) v) s t
   result_in v s t (port', passes) =
-      let here = subst (λ (o : Option Contact). Passes r (In (ResultEnd 0) v) o s t) result_contact passes in
+      let here = subst (λ (o : Option Contact). Passes r (In (ResultEnd 0) v) o s t) (done_contact r.outcome is.done) passes in
       let small : v < 1 = here.0 in
       asked v s t (omega (arith, small)) (ap (cut_tokens b.cut b.body) here.1 ∙ result_unseen Request (Some v) s)
       (ap (λ (u : Tokens). u.state b.own) here.1 ∙ token_state r (ResultEnd 0) Request (Some v) s b.own)
-      (ap (λ (u : Tokens). gate u Request) here.1 ∙ ap (λ o. gate (with_held Request o (Some v) s) Request) gate_at_result)
-      (ap (λ (u : Tokens). gate u Answer) here.1 ∙ ap (λ o. gate (with_held Request o (Some v) s) Answer) gate_at_result)
+      (ap (λ (u : Tokens). gate u Request) here.1 ∙ ap (λ o. gate (with_held Request o (Some v) s) Request) (result_gate is_run))
+      (ap (λ (u : Tokens). gate u Answer) here.1 ∙ ap (λ o. gate (with_held Request o (Some v) s) Answer) (result_gate is_run))
 
   module _ (literals : All LiteralFits r.parts) where
     -- what the body sees of a firing of the part
@@ -434,11 +342,11 @@ module _ (r : Plan) (b : Block) (is : IsBlock r b) where
             (body_sees slot row_is v s sound.fit lies (took ∙ ap Some e.is_row)))
 
         state : (fired r b.own row_is v s).state b.own ≡ e.next v
-        state = kept_state (shake_of e.reply) (way_of e.reply) (Some (e.number v)) u1 ∙ new_state (e.next v) u0
+        state = kept_state is_run (shake_of e.reply) (way_of e.reply) (Some (e.number v)) u1 ∙ new_state is_run (e.next v) u0
 
         gates : (way : Direction) → gate (fired r b.own row_is v s) way ≡ gate s way
         gates way =
-            gate_apart (shake_of e.reply) reply_apart (way_of e.reply) (Some (e.number v)) u1 way ∙ gate_apart (shake_of slot) slot_apart (way_of slot) None s way
+            gate_apart is_run (shake_of e.reply) reply_apart (way_of e.reply) (Some (e.number v)) u1 way ∙ gate_apart is_run (shake_of slot) slot_apart (way_of slot) None s way
 
     server_step : (slot : Slot) (s t : Tokens) → Sound r b s → Does r (Fire b.own slot) s t → Step r b (Fire b.own slot) s t
     server_step slot s t sound (v, row, held, by, leads) =
@@ -465,7 +373,7 @@ module _ (r : Plan) (b : Block) (is : IsBlock r b) where
         by_part : IsPartOf b.cut i ⊎ (i ≡ b.own) → Step r b (Fire i slot) s t
         by_part (inl (j, number)) =
             of_body (Fire i slot) (Fire j slot) s t (fires i j slot number) (fire_cut b.cut r b.body is.cut j i number slot s t does)
-            (fired_same i (not_driver i (j, number)) does.1 does.0 s t does.4)
+            (fired_same is_run i (not_driver hung i (j, number)) does.1 does.0 s t does.4)
         by_part (inr same) =
             subst (λ (n : ℕ). Step r b (Fire n slot) s t) (sym same)
             (server_step slot s t sound (subst (λ (n : ℕ). Does r (Fire n slot) s t) same does))
@@ -480,7 +388,7 @@ module _ (r : Plan) (b : Block) (is : IsBlock r b) where
         same : Same b.own s t
         same =
             let leads = passes_out r (ImportEnd j k) v s t does in
-            port_same (ImportEnd j k) leads.0 None s t (λ e. cc e) (λ e. cc e) leads.1
+            port_same is_run (ImportEnd j k) leads.0 None s t (λ e. cc e) (λ e. cc e) leads.1
 
         runs : (o : Option End) → b.cut.inner (ImportEnd j k) ≡ o → Runs b.body (out_if o v) (cut_tokens b.cut b.body s) (cut_tokens b.cut b.body t)
         runs o e =
@@ -489,7 +397,7 @@ module _ (r : Plan) (b : Block) (is : IsBlock r b) where
 
         by_inner : (o : Option End) → b.cut.inner (ImportEnd j k) ≡ o → Step r b x s t
         by_inner None none =
-            let (c, there) = there_contact x (contact_at r (ImportEnd j k)) s t does.1 in
+            let (c, there) = there_contact r x (contact_at r (ImportEnd j k)) s t does.1 in
             let here = subst (λ (o : Option Contact). Passes r x o s t) there does.1 in
             absurd (nothing_there r (ImportEnd j k) (way_taken c.role) v s here.0 (nowhere j k none))
         by_inner (Some e) inner =
@@ -506,7 +414,7 @@ module _ (r : Plan) (b : Block) (is : IsBlock r b) where
         same : Same b.own s t
         same =
             let leads = passes_in r (ImportEnd j k) v s t does in
-            port_same (ImportEnd j k) leads.0 (Some v) s t (λ e. cc e) (λ e. cc e) leads.1
+            port_same is_run (ImportEnd j k) leads.0 (Some v) s t (λ e. cc e) (λ e. cc e) leads.1
 
         runs : (o : Option End) → b.cut.inner (ImportEnd j k) ≡ o → Runs b.body (in_if o v) (cut_tokens b.cut b.body s) (cut_tokens b.cut b.body t)
         runs o e =
@@ -515,7 +423,7 @@ module _ (r : Plan) (b : Block) (is : IsBlock r b) where
 
         by_inner : (o : Option End) → b.cut.inner (ImportEnd j k) ≡ o → Step r b x s t
         by_inner None none =
-            let (c, there) = there_contact x (contact_at r (ImportEnd j k)) s t does.1 in lost j k v s t c there none (runs None none) same
+            let (c, there) = there_contact r x (contact_at r (ImportEnd j k)) s t does.1 in lost j k v s t c there none (runs None none) same
         by_inner (Some e) inner =
             let (i, is_e, apart, stands, leads, imports) = region.import_inner r b is j k e inner in
             of_body x (In (ImportEnd i k) v) s t (takes_in i j k v stands leads imports)
@@ -526,12 +434,12 @@ module _ (r : Plan) (b : Block) (is : IsBlock r b) where
     step (Out (PartEnd i k) v) s t sound does = absurd does.0
     step (Out (ImportEnd j k) v) s t sound does = out_step j k v s t sound.fit does
     step (Out (ResultEnd k) v) s t sound does =
-        let none = first_shake k (Out (ResultEnd k) v) s t does.1 in
+        let none = first_shake r is.done k (Out (ResultEnd k) v) s t does.1 in
         subst (λ (n : ℕ). Step r b (Out (ResultEnd n) v) s t) (sym none) (result_out v s t (subst (λ (n : ℕ). Does r (Out (ResultEnd n) v) s t) none does))
     step (In (PartEnd i k) v) s t sound does = absurd does.0
     step (In (ImportEnd j k) v) s t sound does = in_step j k v s t sound.fit does
     step (In (ResultEnd k) v) s t sound does =
-        let none = first_shake k (In (ResultEnd k) v) s t does.1 in
+        let none = first_shake r is.done k (In (ResultEnd k) v) s t does.1 in
         subst (λ (n : ℕ). Step r b (In (ResultEnd n) v) s t) (sym none) (result_in v s t (subst (λ (n : ℕ). Does r (In (ResultEnd n) v) s t) none does))
 
     -- it holds on

@@ -1,5 +1,5 @@
 -- A session's child: how it begins, what it does in its frame, and how it ends.
-use Rattle.std.specs.Prelude.{◌≡◌, ℕ, zero, suc, List, [], ◌∷◌, ◌++◌, Some}
+use Rattle.std.specs.Prelude.{◌≡◌, ℕ, List, [], ◌∷◌, ◌++◌, Some}
 use Rattle.std.proofs.Common.{sym, ap, subst, inl, inr, ◌∙◌}
 use Rattle.gos_types.specs.Types.{Type'}
 use Rattle.gos_types.specs.Events.{Request, Answer}
@@ -10,12 +10,10 @@ use Rattle.gos_model.specs.Steps.{IsValue}
 use Rattle.gos_model.specs.Labels.{given}
 use Rattle.gos_model.specs.Moves.{Program, Config, Idle, Running, Act, Unfoldings, Moves, labels}
 use Rattle.gos_plan.specs.Firing.{State}
-use Rattle.gos_plan.specs.Plans.{End, PartEnd, ImportEnd, ResultEnd, Plan, contact_at}
-use Rattle.gos_plan.specs.Tokens.{Tokens, Element, Fire, Out, In, IsPortEnd, way_taken, Does, Runs}
-use Rattle.gos_realises.specs.realises.Regular.{Pass, pass, way_in, way_out, InputsKeepTurns}
+use Rattle.gos_plan.specs.Plans.{PartEnd, ImportEnd, ResultEnd, Plan}
+use Rattle.gos_plan.specs.Tokens.{Tokens, Element, Fire, Out, In, Does, Runs}
 use Rattle.gos_realises.specs.realises.Matched.{label_at, shows, GoesOn, IsMatched, program_of, RealisesInTurn}
-use Rattle.gos_realises.specs.realises.Realises.{AllGround, NamesDiffer}
-use Rattle.gos_joining.specs.webs.Cutting.{StandsIn}
+use Rattle.gos_realises.specs.realises.Realises.{NamesDiffer}
 use Rattle.gos_nodes.specs.sessions.Sessions.{Form, Session, session_of, value_of}
 use Rattle.gos_programs.specs.contexts.Plugged.{AreInner}
 use Rattle.gos_programs.specs.contexts.Scopes.{KeepsScopes}
@@ -24,22 +22,25 @@ use Rattle.gos_programs.proofs.contexts.ScopeLemmas.{runs_keep_scopes, unfolding
 use Rattle.gos_programs.proofs.contexts.ShutLemmas.{sources_are_shut}
 use Rattle.gos_programs.specs.results.Results.{IsResult}
 use Rattle.gos_programs.proofs.results.ResultLemmas.{moves_then, answers_are_typed}
-use Rattle.gos_nodes.specs.windows.Regions.{whole_element}
+use Rattle.gos_nodes.specs.windows.Regions.{IsRegion, whole_element}
 use Rattle.gos_nodes.specs.windows.Nodes.{Stage, IsStage}
-use Rattle.gos_nodes.specs.windows.Windows.{seen, Begins}
-use Rattle.gos_nodes.proofs.nodes.SilentLemmas.{silent_inner, one_inner, inner_stays, asked_first, answer_last, no_request}
+use Rattle.gos_nodes.specs.windows.OneSession.{Stays}
+use Rattle.gos_nodes.specs.windows.Windows.{seen, Begins, PassesPort}
+use Rattle.gos_programs.proofs.contexts.SilentLemmas.{silent_inner, one_inner, inner_stays, asked_first, answer_last}
 use Rattle.gos_nodes.proofs.nodes.FrameLemmas.{IsFrame, frame_is, framed, framed_unfolds}
-use Rattle.gos_nodes.proofs.nodes.RegionLemmas.{token_stands, outside_stays, fires_goes_on, out_shown, in_shown}
+use Rattle.gos_nodes.proofs.nodes.RegionLemmas.{outside_stays, fires_goes_on, out_shown, in_shown}
 use Rattle.gos_realises.proofs.realises.InputLemmas.{in_there}
-use Rattle.gos_realises.proofs.realises.PlaceLemmas.{ground_by}
-use Rattle.gos_nodes.proofs.nodes.PortLemmas.{request_shown, answer_shown, no_other_out, no_other_in, out_held, ground_one, among, import_port, comes_open, OpenStand, open_first, open_then}
+use Rattle.gos_nodes.proofs.nodes.PortLemmas.{request_shown, answer_shown, out_held, among, import_port}
+
+-- what is known within a session: of its stage, the rest of its list, the tokens, and what the child ran to
+abbrev pub Inside : Type 1
+Inside = Stage → List Element → Tokens → Session → Term → Store → Type 0
 
 -- a child's program
 abbrev pub child : Stage → Session → Program
 child g e = program_of g.plan e.term
 
 -- Within a session of stage g, of which ys is left: what the child ran to, and that the rest of its list is matched from there.
--- So far its inputs kept turns.
 pub record Inner (d : ℕ) (f : Form) (g : Stage) (ys : List Element) (s : Tokens) (e : Session) (m : Term) (st : Store) : Type 0 where
   pub at : session_of f (s.state d).phase (s.state d).number ≡ Some e
   pub asked : e.asked_at ≡ g.asked_at
@@ -48,17 +49,11 @@ pub record Inner (d : ℕ) (f : Form) (g : Stage) (ys : List Element) (s : Token
   pub acts : List Act
   pub ran : Moves (child g e) acts Idle (Running m st)
   pub matched : IsMatched g.plan (child g e) ys (seen g s) (Running m st)
-  pub past : List Pass
-  pub turns : InputsKeepTurns g.plan past ys
-  pub stand : OpenStand g.plan past
 
 no_idle : (m : Term) (s : Store) → Running m s ≡ Idle → ⊥
 no_idle m s e = cc e
 
--- the imports of a stage are ground, and are among those of the whole
-stage_ground : (r : Plan) (d : ℕ) (g : Stage) → AllGround r.imports → IsStage r d g → AllGround g.plan.imports
-stage_ground r d g ground is = ground_by g.plan.imports (λ x there. ground_one r.imports x ground (is.imports x there))
-
+-- the imports of a stage are among those of the whole
 pub stage_among : (r : Plan) (d : ℕ) (g : Stage) → NamesDiffer r.imports → IsStage r d g → AreAmong g.plan.imports r.imports
 stage_among r d g differ is = among g.plan.imports r.imports differ is.imports
 
@@ -79,10 +74,10 @@ pub record Opened (d : ℕ) (f : Form) (g : Stage) (ys : List Element) (s : Toke
   pub inner : Inner d f g ys s e term store
 
 pub opens : (r : Plan) (d : ℕ) (f : Form) (g : Stage) (ys : List Element) (s : Tokens) (e : Session)
-    → AllGround r.imports → IsStage r d g
+    → IsStage r d g
     → session_of f (s.state d).phase (s.state d).number ≡ Some e → e.asked_at ≡ g.asked_at → g.plan.outcome ≡ e.ty
     → Typed g.plan.imports [] e.term e.ty → RealisesInTurn g.plan e.term → Begins 0 g 0 ys s → Opened d f g ys s e
-opens r d f g ys s e ground is at asked outcome typed realises begins =
+opens r d f g ys s e is at asked outcome typed realises begins =
     let p = g.plan in
     let list : List Element = In (ResultEnd 0) 0 ∷ ys in
     let runs : Runs p list begins.before begins.after = (seen g s, begins.asked, begins.runs) in
@@ -105,91 +100,57 @@ opens r d f g ys s e ground is at asked outcome typed realises begins =
             acts = first.0;
             ran = moves_at (child g e) first.0 Idle first.1 (Running stays.0 stays.1) stays.2 first.2;
             matched = matched_at p (child g e) ys (seen g s) first.1 (Running stays.0 stays.1) stays.2 first.5;
-            past = pass (ResultEnd 0) (way_in (contact_at p (ResultEnd 0))) ∷ [];
-            turns = begins.turns.1;
-            stand = open_first p (way_in (contact_at p (ResultEnd 0)));
           };
     }
 
 -- of the acts that match an element of a stage: what they are in the whole, and what is left
-pub record Stirred (r : Plan) (g : Stage) (y : Element) (ys : List Element) (s : Tokens) (acts : List Act) : Type 0 where
+pub record Stirred (r : Plan) (g : Stage) (y : Element) (s : Tokens) (acts : List Act) : Type 0 where
   pub inner : AreInner acts
   pub shown : labels acts ≡ shows r (whole_element g.cut y)
   pub goes : GoesOn r s (whole_element g.cut y) acts
-  pub past : List Pass
-  pub turns : InputsKeepTurns g.plan past ys
-  pub stand : OpenStand g.plan past
 
--- no element of a stage is at its result
-result_inside : (r : Plan) (d : ℕ) (g : Stage) → IsStage r d g → StandsIn g.plan (ResultEnd 0) → IsPortEnd (g.cut.outer (ResultEnd 0)) → ⊥
-result_inside r d g is stands port = subst (λ (x : End). IsPortEnd x) (is.run_by stands) port
-
-pub stirred : (r : Plan) (d : ℕ) (g : Stage) → AllGround r.imports → IsStage r d g → (p : Program) (y : Element) (ys : List Element) (s u t : Tokens)
-    (acts : List Act) (m : Term) (st : Store) (c : Config) (past : List Pass)
-    → Does g.plan y (seen g s) u → Does r (whole_element g.cut y) s t → Moves p acts (Running m st) c → labels acts ≡ shows g.plan y
-    → GoesOn g.plan (seen g s) y acts → InputsKeepTurns g.plan past (y ∷ ys) → OpenStand g.plan past → Stirred r g y ys s acts
-stirred r d g ground is p (Fire i slot) ys s u t acts m st c past does whole moves shown goes turns stand =
-    record {
-      inner = silent_inner acts shown;
-      shown = shown;
-      goes = fires_goes_on r g is.region i slot s u t acts does goes;
-      past = past;
-      turns = turns;
-      stand = stand;
-    }
-stirred r d g ground is p (Out (PartEnd i h) v) ys s u t acts m st c past does whole moves shown goes turns stand = absurd does.0
-stirred r d g ground is p (Out (ImportEnd i h) v) ys s u t acts m st c past does whole moves shown goes turns stand =
+-- an element that stays in the stage shows in the whole what it shows in the stage, and goes on there where it does here
+pub stirred : (r : Plan) (g : Stage) → IsRegion g.cut g.sides r g.plan → (y : Element) (s u t : Tokens) (acts : List Act)
+    → Does g.plan y (seen g s) u → Stays g.plan y → PassesPort r g y → Does r (whole_element g.cut y) s t → labels acts ≡ shows g.plan y
+    → GoesOn g.plan (seen g s) y acts → Stirred r g y s acts
+stirred r g region (Fire i slot) s u t acts does stays port whole shown goes =
+    record { inner = silent_inner acts shown; shown = shown; goes = fires_goes_on r g region i slot s u t acts does goes }
+stirred r g region (Out (PartEnd i h) v) s u t acts does stays port whole shown goes = absurd does.0
+stirred r g region (Out (ImportEnd i h) v) s u t acts does stays port whole shown goes =
     let (k, at, held) = out_held g.plan (ImportEnd i h) v (seen g s) u does in
-    let stands = token_stands g.plan (seen g s) (ImportEnd i h) (way_taken k.role) v held in
-    let way = way_out (contact_at g.plan (ImportEnd i h)) in
     record {
       inner = one_inner acts (label_at g.plan (ImportEnd i h) Request v) shown (import_port g.plan i h v Request k at);
-      shown = shown ∙ sym (out_shown r g is.ports i h v stands);
+      shown = shown ∙ sym (out_shown r g i h v port);
       goes = tt;
-      past = pass (ImportEnd i h) way ∷ past;
-      turns = turns;
-      stand = open_then g.plan past i h way stands stand;
     }
-stirred r d g ground is p (Out (ResultEnd zero) v) ys s u t acts m st c past does whole moves shown goes turns stand =
-    let (k, at, held) = out_held g.plan (ResultEnd 0) v (seen g s) u does in
-    absurd (result_inside r d g is (token_stands g.plan (seen g s) (ResultEnd 0) (way_taken k.role) v held) whole.0)
-stirred r d g ground is p (Out (ResultEnd (suc h)) v) ys s u t acts m st c past does whole moves shown goes turns stand =
-    absurd (no_other_out g.plan h v (seen g s) u is.outcome does)
-stirred r d g ground is p (In (PartEnd i h) v) ys s u t acts m st c past does whole moves shown goes turns stand = absurd does.0
-stirred r d g ground is p (In (ImportEnd i h) v) ys s u t acts m st c past does whole moves shown goes turns stand =
+stirred r g region (Out (ResultEnd h) v) s u t acts does stays port whole shown goes = absurd stays
+stirred r g region (In (PartEnd i h) v) s u t acts does stays port whole shown goes = absurd does.0
+stirred r g region (In (ImportEnd i h) v) s u t acts does stays port whole shown goes =
     let (k, at) = in_there g.plan (ImportEnd i h) v (seen g s) u does in
-    let stands = stand i h (comes_open g.plan i h k past (stage_ground r d g ground is) at turns.0.0) in
-    let way = way_in (contact_at g.plan (ImportEnd i h)) in
     record {
       inner = one_inner acts (label_at g.plan (ImportEnd i h) Answer v) shown (import_port g.plan i h v Answer k at);
-      shown = shown ∙ sym (in_shown r g is.ports i h v stands);
+      shown = shown ∙ sym (in_shown r g i h v port);
       goes = tt;
-      past = pass (ImportEnd i h) way ∷ past;
-      turns = turns.1;
-      stand = open_then g.plan past i h way stands stand;
     }
-stirred r d g ground is p (In (ResultEnd zero) v) ys s u t acts m st c past does whole moves shown goes turns stand =
-    absurd (no_request p acts m st c v moves (shown ∙ request_shown g.plan v is.outcome))
-stirred r d g ground is p (In (ResultEnd (suc h)) v) ys s u t acts m st c past does whole moves shown goes turns stand =
-    absurd (no_other_in g.plan h v (seen g s) u is.outcome does)
+stirred r g region (In (ResultEnd h) v) s u t acts does stays port whole shown goes = absurd stays
 
 -- what an element of a stage is in the whole
-pub record Went (r : Plan) (d : ℕ) (f : Form) (q : Program) (g : Stage) (y : Element) (ys : List Element) (s t : Tokens) (e : Session) (m : Term) (st : Store) : Type 0 where
+pub record Went (Inner : Inside) (r : Plan) (q : Program) (g : Stage) (y : Element) (ys : List Element) (s t : Tokens) (e : Session) (b : Term) (st : Store) : Type 0 where
   pub term : Term
   pub store : Store
   pub acts : List Act
-  pub moves : Moves q acts (Running (e.frame m) st) (Running (e.frame term) store)
+  pub moves : Moves q acts (Running (e.frame b) st) (Running (e.frame term) store)
   pub shown : labels acts ≡ shows r (whole_element g.cut y)
   pub goes : GoesOn r s (whole_element g.cut y) acts
-  pub inner : Inner d f g ys t e term store
+  pub inner : Inner g ys t e term store
 
 pub goes_within : (r : Plan) (d : ℕ) (f : Form) (q : Program) (g : Stage) (y : Element) (ys : List Element) (s t : Tokens) (e : Session) (m : Term) (st : Store)
-    → AllGround r.imports → NamesDiffer r.imports → q.imports ≡ r.imports → IsStage r d g
-    → Does g.plan y (seen g s) (seen g t) → Does r (whole_element g.cut y) s t → Inner d f g (y ∷ ys) s e m st → Went r d f q g y ys s t e m st
-goes_within r d f q g y ys s t e m st ground differ same is does whole inner =
+    → NamesDiffer r.imports → q.imports ≡ r.imports → IsStage r d g
+    → Does g.plan y (seen g s) (seen g t) → Stays g.plan y → PassesPort r g y → Does r (whole_element g.cut y) s t → Inner d f g (y ∷ ys) s e m st → Went (Inner d f) r q g y ys s t e m st
+goes_within r d f q g y ys s t e m st differ same is does stays port whole inner =
     let p = child g e in
     let next = inner.matched.1 (seen g t) does in
-    let stir = stirred r d g ground is p y ys s (seen g t) t next.0 m st next.1 inner.past does whole next.2 next.3 next.4 inner.turns inner.stand in
+    let stir = stirred r g is.region y s (seen g t) t next.0 does stays port whole next.3 next.4 in
     let stays = inner_stays p next.0 m st next.1 stir.inner next.2 in
     let moves : Moves p next.0 (Running m st) (Running stays.0 stays.1) =
     moves_at p next.0 (Running m st) next.1 (Running stays.0 stays.1) stays.2 next.2 in
@@ -210,9 +171,6 @@ goes_within r d f q g y ys s t e m st ground differ same is does whole inner =
             acts = inner.acts ++ next.0;
             ran = moves_then p inner.acts next.0 Idle (Running m st) (Running stays.0 stays.1) inner.ran moves;
             matched = matched_at g.plan p ys (seen g t) next.1 (Running stays.0 stays.1) stays.2 next.5;
-            past = stir.past;
-            turns = stir.turns;
-            stand = stir.stand;
           };
     }
 

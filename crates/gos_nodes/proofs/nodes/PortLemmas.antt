@@ -1,27 +1,20 @@
--- Ports: the handshakes of a result that is a command or an expression, and of ground imports; what passes there.
-use Rattle.std.specs.Prelude.{◌≡◌, ℕ, zero, suc, ◌^◌, ◌<◌, ◌⊎◌, Bool, true, false, List, [], ◌∷◌, Option, Some, None, slice_get, Contains}
-use Rattle.std.proofs.Common.{arith, refl, sym, ap, subst, inl, inr, ◌∙◌}
-use Rattle.std.proofs.lemmas.Bool.{cond-false}
-use Rattle.gos_types.specs.declared.shakes.Role.TheVariants.{Serve}
-use Rattle.gos_types.specs.Types.{Type', Com, Exp, Var, Pair, Fun, IsGround, IsDone}
+-- Ports: the handshakes of a result that is a command or an expression, and of imports; what passes there.
+use Rattle.std.specs.Prelude.{◌≡◌, ℕ, suc, ◌^◌, ◌<◌, [], ◌∷◌, Option, Some, None, slice_get, Contains}
+use Rattle.std.proofs.Common.{refl, sym, ap, subst, inl, inr, ◌∙◌}
+use Rattle.gos_types.specs.Types.{Type', Com, Exp, Var, Pair, Fun, IsDone}
 use Rattle.gos_types.specs.Events.{Direction, Answer}
-use Rattle.gos_types.proofs.ListLemmas.{none_in_empty}
 use Rattle.gos_model.specs.Terms.{Name}
 use Rattle.gos_model.specs.Typing.{Imported, Imports}
 use Rattle.gos_model.specs.Labels.{Given, Taken, given}
 use Rattle.gos_model.specs.Moves.{Answers}
 use Rattle.gos_plan.specs.Kinds.{Contact, contacts_of}
-use Rattle.gos_plan.specs.Plans.{End, ImportEnd, ResultEnd, Plan, turned_if, contacts_of_import, contact_at, same_end}
-use Rattle.gos_plan.specs.Tokens.{Tokens, Out, In, way_put, way_taken, bits_of, token_at, Passes, Does}
+use Rattle.gos_plan.specs.Plans.{End, ImportEnd, ResultEnd, Plan, turned_if, contact_at}
+use Rattle.gos_plan.specs.Tokens.{Tokens, Out, In, way_taken, bits_of, token_at, Passes, Does}
 use Rattle.gos_plan.specs.TokenBits.{TokensFit}
-use Rattle.gos_plan.proofs.JointLemmas.{same_is}
-use Rattle.gos_realises.specs.realises.Regular.{Pass, pass, is_open, is_request, way_in, ComesInTurn}
 use Rattle.gos_realises.specs.realises.Matched.{port_if, label_at, shows}
-use Rattle.gos_realises.specs.realises.Realises.{AllGround, NamesDiffer}
-use Rattle.gos_realises.proofs.realises.InputLemmas.{import_serves, one_ground}
+use Rattle.gos_realises.specs.realises.Realises.{NamesDiffer}
 use Rattle.gos_realises.proofs.realises.ToldLemmas.{there_is}
 use Rattle.gos_joining.proofs.renumbered.ImportLemmas.{has_type, type_has}
-use Rattle.gos_joining.specs.webs.Cutting.{StandsIn}
 use Rattle.gos_programs.specs.contexts.Widening.{AreAmong}
 use Rattle.gos_nodes.specs.sessions.Sessions.{value_of}
 use Rattle.gos_nodes.proofs.windows.WholeLemmas.{zero_only}
@@ -62,19 +55,6 @@ out_held p e v s t (port, passes) = by_contact (contact_at p e) refl passes
     by_contact None is h = absurd h
     by_contact (Some c) is h = (c, is, h.0)
 
--- imports
-contains_cases : {A : Type 0} (x y : A) (xs : List A) → Contains (x ∷ xs) y → (x ≡ y) ⊎ Contains xs y
-contains_cases x y xs (zero, less, e) = inl e
-contains_cases x y xs (suc k, less, e) = inr (k, omega (arith, less), e)
-
-pub ground_one : (is : List Imported) (x : Imported) → AllGround is → Contains is x → IsGround x.ty
-ground_one [] x all there = absurd (none_in_empty x there)
-ground_one (i ∷ is) x all there =
-    elim (contains_cases i x is there) [
-      | inl e ↦ subst (λ (y : Imported). IsGround y.ty) e all.0
-      | inr later ↦ ground_one is x all.1 later
-    ]
-
 -- imports that are all among others of different names have their types there
 pub among : (is js : Imports) → NamesDiffer js → ((i : Imported) → Contains is i → Contains js i) → AreAmong is js
 among is js differ f x t h =
@@ -93,31 +73,6 @@ import_port p i h v way c at given =
 abbrev bits_if : Option Contact → ℕ
 bits_if None = 0
 bits_if (Some c) = bits_of c Answer
-
--- so what comes in at one comes where its handshake is open
-pub comes_open : (p : Plan) (i h : ℕ) (c : Contact) (past : List Pass) → AllGround p.imports → contact_at p (ImportEnd i h) ≡ Some c
-    → ComesInTurn past (ImportEnd i h) (way_in (contact_at p (ImportEnd i h))) → is_open past (ImportEnd i h) ≡ true
-comes_open p i h c past ground at comes =
-    let (x, is) = there_is p.imports i h c at in
-    let here : slice_get (contacts_of x.ty) h ≡ Some c = ap (λ (o : Option Imported). slice_get (contacts_of_import o) h) (sym is) ∙ at in
-    let serves : Serve ≡ c.role = import_serves x.ty (one_ground p.imports ground i x is) h c here in
-    let way : way_in (contact_at p (ImportEnd i h)) ≡ Answer = ap way_in at ∙ sym (ap way_put serves) in
-    subst (λ (w : Direction). ComesInTurn past (ImportEnd i h) w) way comes
-
--- each import with an open handshake stands in a joint
-abbrev pub OpenStand : Plan → List Pass → Type 0
-OpenStand p past = (i h : ℕ) → is_open past (ImportEnd i h) ≡ true → StandsIn p (ImportEnd i h)
-
-pub open_first : (p : Plan) (way : Direction) → OpenStand p (pass (ResultEnd 0) way ∷ [])
-open_first p way i h e = absurd (cc e)
-
-pub open_then : (p : Plan) (past : List Pass) (i h : ℕ) (way : Direction) → StandsIn p (ImportEnd i h) → OpenStand p past
-    → OpenStand p (pass (ImportEnd i h) way ∷ past)
-open_then p past i h way stands f j k e = by_end (same_end (ImportEnd i h) (ImportEnd j k)) refl
-  where
-    by_end : (b : Bool) → same_end (ImportEnd i h) (ImportEnd j k) ≡ b → StandsIn p (ImportEnd j k)
-    by_end true t = subst (λ (x : End). StandsIn p x) (same_is (ImportEnd i h) (ImportEnd j k) t) stands
-    by_end false t = f j k (sym (cond-false (same_end (ImportEnd i h) (ImportEnd j k)) (is_request way) (is_open past (ImportEnd j k)) t) ∙ e)
 
 -- the value of an answer answers with it
 answers_by : (t : Type') (v : ℕ) (c : Contact) → IsDone t → turned_if (slice_get (contacts_of t) 0) ≡ Some c → v < 2 ^ bits_of c Answer

@@ -22,7 +22,7 @@ use Rattle.gos_joining.proofs.webs.MovedLemmas.{listed}
 use Rattle.gos_joining.proofs.webs.CutLemmas.{stands_cut, asks_there}
 use Rattle.gos_nodes.specs.windows.Regions.{Serving, IsRegion, whole_element}
 use Rattle.gos_nodes.specs.windows.Nodes.{Stage}
-use Rattle.gos_nodes.specs.windows.Windows.{seen}
+use Rattle.gos_nodes.specs.windows.Windows.{seen, IsAtPort}
 
 -- an end at which a token lies stands in a joint
 pub token_stands : (c : Plan) (s : Tokens) (e : End) (way : Direction) (v : ℕ) → token_at c s e way ≡ Some v → StandsIn c e
@@ -93,21 +93,13 @@ fires_goes_on r g region i (Ans h) s u t acts (v, row, held, by, to) k = λ w li
     ap (λ (o : Option Part). firing_of o ((seen g s).state i) (Ans h)) part ∙ (ap (λ (q : State). firing_of (slice_get r.parts (g.cut.part i)) q (Ans h)) state ∙ fires) in
     k w line same fired asks
 
--- imports of the stage that stand in joints are imports of the whole
-abbrev pub HasImports : Plan → Stage → Type 0
-HasImports r g =
-    (i h : ℕ) → StandsIn g.plan (ImportEnd i h)
-    → (k : ℕ) × (g.cut.outer (ImportEnd i h) ≡ ImportEnd k h) × (slice_get r.imports k ≡ slice_get g.plan.imports i)
-
--- so does an output or an input at an import that stands in a joint
-pub out_shown : (r : Plan) (g : Stage) → HasImports r g → (i h v : ℕ) → StandsIn g.plan (ImportEnd i h)
+-- so does an output or an input at an import of the whole
+pub out_shown : (r : Plan) (g : Stage) (i h v : ℕ) → IsAtPort r g (ImportEnd i h)
     → shows r (Out (g.cut.outer (ImportEnd i h)) v) ≡ shows g.plan (Out (ImportEnd i h) v)
-out_shown r g ports i h v stands =
-    let port = ports i h stands in
+out_shown r g i h v port =
     ap (λ (e : End). shows r (Out e v)) port.1 ∙ ap (λ (l : Label). l ∷ []) (import_shown r g.plan i port.0 h Request v port.2)
 
-pub in_shown : (r : Plan) (g : Stage) → HasImports r g → (i h v : ℕ) → StandsIn g.plan (ImportEnd i h)
+pub in_shown : (r : Plan) (g : Stage) (i h v : ℕ) → IsAtPort r g (ImportEnd i h)
     → shows r (In (g.cut.outer (ImportEnd i h)) v) ≡ shows g.plan (In (ImportEnd i h) v)
-in_shown r g ports i h v stands =
-    let port = ports i h stands in
+in_shown r g i h v port =
     ap (λ (e : End). shows r (In e v)) port.1 ∙ ap (λ (l : Label). l ∷ []) (import_shown r g.plan i port.0 h Answer v port.2)

@@ -8,7 +8,7 @@ use Rattle.gos_plan.specs.Plans.{ResultEnd, Plan}
 use Rattle.gos_plan.specs.Tokens.{Tokens, Element, Out, Runs, IsIdle}
 use Rattle.gos_realises.specs.realises.Matched.{IsMatched, program_of}
 use Rattle.gos_nodes.specs.nodes.Realised.{RealisersRest}
-use Rattle.gos_nodes.proofs.nodes.SilentLemmas.{idle_shows, answer_last}
+use Rattle.gos_programs.proofs.contexts.SilentLemmas.{idle_shows, answer_last}
 use Rattle.gos_nodes.proofs.nodes.PortLemmas.{answer_shown}
 
 -- after its answer a program is idle

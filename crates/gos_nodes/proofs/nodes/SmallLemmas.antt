@@ -15,6 +15,7 @@ use Rattle.gos_nodes.specs.windows.Nodes.{Stage}
 use Rattle.gos_nodes.specs.windows.SmallNodes.{second_out, twice_form}
 use Rattle.gos_nodes.proofs.windows.SmallNodeLemmas as small
 use Rattle.gos_nodes.specs.nodes.SmallNodes.{skip_stage, twice_stages, TwiceIsNode, OneStageIsNot, TwoSkipsAreRealised, TwiceIsRealised}
+use Rattle.gos_nodes.proofs.windows.OpenLemmas.{ground_node_is_open}
 use Rattle.gos_nodes.proofs.nodes.MatchedLemmas.{node_realises}
 
 -- each Skip realises its term
@@ -54,4 +55,4 @@ pub two_skips_are_realised : TwoSkipsAreRealised
 two_skips_are_realised = (stage_of, λ real. let s = real First 0 first_session refl in no_stage s.0 s.1)
 
 pub twice_is_realised : TwiceIsRealised
-twice_is_realised = node_realises twice_plan 0 twice_form twice_stages twice_is_node stage_of
+twice_is_realised = node_realises twice_plan 0 twice_form twice_stages (ground_node_is_open twice_plan 0 twice_form twice_stages twice_is_node) stage_of

@@ -11,7 +11,7 @@ use Rattle.gos_realises.specs.realises.Matched.{RealisesInTurn}
 use Rattle.gos_realises.specs.realises.Realises.{Means}
 use Rattle.gos_nodes.specs.sessions.Sessions.{Form, Sequence, Choice, Loop, Binary, Complement, Session, session, session_of, own_term, own_type}
 use Rattle.gos_programs.proofs.contexts.WideningLemmas.{typed_more}
-use Rattle.gos_nodes.proofs.windows.FormLemmas.{node_is_regular}
+use Rattle.gos_nodes.proofs.windows.FormLemmas.{open_node_is_regular}
 use Rattle.gos_nodes.specs.nodes.Realised.{NodeRealisesByType}
 use Rattle.gos_nodes.proofs.nodes.ChildLemmas.{stage_among}
 use Rattle.gos_nodes.proofs.nodes.MatchedLemmas.{node_realises}
@@ -51,17 +51,17 @@ means_done (Pair a b) p m d h = absurd d
 means_done (Fun a b) p m d h = absurd d
 
 pub node_realises_by_type : NodeRealisesByType
-node_realises_by_type r d f gs node real =
+node_realises_by_type r d f gs node ports real =
     record {
       suits =
           record {
             right = node.right;
             literals = node.literals;
             outcome = node.outcome;
-            all_ground = node.ground;
+            all_ports = ports;
             names = node.names;
             typed = own_typed r.imports f node.done each;
-            regular = (node_is_regular r d f gs node).0;
+            regular = (open_node_is_regular r d f gs node).0;
           };
       means = means_done (own_type f) r (own_term f) node.done (node_realises r d f gs node real);
     }
@@ -69,4 +69,4 @@ node_realises_by_type r d f gs node real =
     each : (p : Phase) (n : ℕ) (e : Session) → session_of f p n ≡ Some e → Typed r.imports [] e.term e.ty
     each p n e h =
         let s = real p n e h in
-        typed_more s.0.plan.imports r.imports (stage_among r d s.0 node.names (node.stages s.0 s.1)) [] e.term e.ty s.4
+        typed_more s.0.plan.imports r.imports (stage_among r d s.0 node.names (node.stages s.0 s.1).stage) [] e.term e.ty s.4

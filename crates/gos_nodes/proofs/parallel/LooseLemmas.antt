@@ -16,13 +16,14 @@ use Rattle.gos_joining.specs.webs.Cutting.{Cut, lies_at, cut_tokens}
 use Rattle.gos_joining.proofs.webs.CutLemmas.{Owns}
 use Rattle.gos_realises.specs.realises.Regular.{Pass}
 use Rattle.gos_realises.proofs.realises.RingLemmas.{after}
+use Rattle.gos_nodes.proofs.parallel.EndLemmas.{Lies, in_part, at_import, at_driver, lies}
+use Rattle.gos_nodes.proofs.parallel.GateLemmas.{Same}
+use Rattle.gos_nodes.proofs.parallel.HungLemmas.{Held, Unseen, Sees}
 use Rattle.gos_nodes.proofs.windows.PortLemmas.{stands_place}
 use Rattle.gos_nodes.proofs.windows.MeetLemmas.{IsUnjoined}
 use Rattle.gos_nodes.specs.parallel.Parallel.{IsSide, IsParallel}
-use Rattle.gos_nodes.proofs.parallel.RegionLemmas.{Held}
-use Rattle.gos_nodes.proofs.parallel.StepLemmas.{Same, Unseen, Sees}
 use Rattle.gos_nodes.proofs.parallel.LinkedLemmas.{left_runs, right_runs}
-use Rattle.gos_nodes.proofs.parallel.OpenLemmas.{OpenAgree, opened_so, Lies, in_part, at_import, at_driver, lies}
+use Rattle.gos_nodes.proofs.parallel.OpenLemmas.{OpenAgree, opened_so}
 use Rattle.gos_nodes.proofs.parallel.OrderLemmas.{Opened}
 
 -- in the whole

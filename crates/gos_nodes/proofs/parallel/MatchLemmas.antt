@@ -1,25 +1,27 @@
 -- A list of the whole is matched by moves of `M || N`, where those of its regions are matched by moves of M and of N.
-use Rattle.std.specs.Prelude.{◌≡◌, ℕ, true, false, List, [], ◌∷◌, ◌++◌, Option, Some, None, All, slice_get}
+use Rattle.std.specs.Prelude.{◌≡◌, ℕ, List, [], ◌∷◌, ◌++◌, Option, Some, None, All, slice_get}
 use Rattle.std.proofs.Common.{refl, sym, ap, subst, inl, inr, ◌∙◌}
-use Rattle.gos_types.specs.Types.{Type', Com}
+use Rattle.gos_types.specs.Types.{Com}
 use Rattle.gos_types.specs.Events.{Direction, Request, Answer}
 use Rattle.gos_model.specs.Terms.{Term, Skip, Par}
-use Rattle.gos_model.specs.Typing.{Imported, Typed}
+use Rattle.gos_model.specs.Typing.{Typed}
 use Rattle.gos_model.specs.Stores.{Store}
-use Rattle.gos_model.specs.Labels.{Given, Taken, Label, given}
+use Rattle.gos_model.specs.Labels.{Label, given}
 use Rattle.gos_model.specs.Moves.{Program, Config, Idle, Running, Act, Computing, Showing, Unfoldings, Move, Moves, labels, Stalled}
 use Rattle.gos_model.proofs.MoveLemmas.{moves_then, unfoldings_then, idle_is_stalled}
-use Rattle.gos_plan.specs.Kinds.{Contact, asks, contacts_of}
-use Rattle.gos_plan.specs.Firing.{Phase, Rest, Both, LeftOnly, RightOnly, Slot, Req, Ans, Row, at, quiet_row}
-use Rattle.gos_plan.specs.Plans.{PartEnd, ResultEnd, Plan, contact_at, turned_if}
-use Rattle.gos_plan.specs.Tokens.{Tokens, Element, Fire, Out, In, places_of, held_at, token_at, with_token, firing_of, fired, Passes, Does, Runs, IsIdle, IsQuiet}
-use Rattle.gos_plan.specs.TokenBits.{LiteralFits, AllFit}
+use Rattle.gos_plan.specs.Kinds.{Contact}
+use Rattle.gos_plan.specs.Firing.{Phase, Rest, Both, LeftOnly, RightOnly, Req, Ans, Row, at, quiet_row}
+use Rattle.gos_plan.specs.Plans.{ImportEnd, ResultEnd, Plan}
+use Rattle.gos_plan.specs.Tokens.{Tokens, Element, Fire, Out, In, held_at, with_token, firing_of, fired, Passes, Does, Runs, IsIdle, IsQuiet}
+use Rattle.gos_plan.specs.Orderly.{Open}
+use Rattle.gos_plan.specs.TokenBits.{LiteralFits}
 use Rattle.gos_plan.proofs.DecidedLemmas.{one_state}
 use Rattle.gos_joining.specs.webs.Cutting.{Cut, cut_tokens}
-use Rattle.gos_realises.specs.realises.Regular.{Pass, is_open}
-use Rattle.gos_realises.specs.realises.Matched.{port_if, event_number, shows, asks_on, GoesOn, Agrees, IsMatched, program_of}
-use Rattle.gos_realises.specs.realises.Realises.{AllGround}
+use Rattle.gos_realises.specs.realises.Regular.{Pass, is_open, InputsKeepTurns, IsRegular}
+use Rattle.gos_realises.specs.realises.Matched.{port_if, event_number, shows, GoesOn, Agrees, IsMatched, program_of}
 use Rattle.gos_realises.proofs.realises.RingLemmas.{after}
+use Rattle.gos_realises.proofs.realises.ToldLemmas.{there_is}
+use Rattle.gos_realises.proofs.realises.InputLemmas.{passed, first_turn, later_turns}
 use Rattle.gos_realises.proofs.realises.MatchedLemmas.{matched_agrees}
 use Rattle.gos_programs.specs.contexts.Contexts.{ParLeft, ParRight}
 use Rattle.gos_programs.specs.contexts.Renaming.{renamed, beside}
@@ -33,33 +35,29 @@ use Rattle.gos_programs.proofs.results.ResultLemmas.{results_are_typed}
 use Rattle.gos_programs.proofs.contexts.EndedLemmas.{right_waits_for_ended, left_waits_for_ended}
 use Rattle.gos_programs.proofs.variables.UnfoldedLemmas.{answers_value}
 use Rattle.gos_nodes.specs.parallel.Parallel.{IsSide, IsParallel}
+use Rattle.gos_nodes.proofs.parallel.GateLemmas.{gate, Same, result_gate, part_gate}
+use Rattle.gos_nodes.proofs.parallel.HungLemmas.{Unseen, Sees, Local, fires, puts_out, takes_in, import_real}
 use Rattle.gos_nodes.proofs.parallel.DriverLemmas.{begin_row, end_row}
-use Rattle.gos_nodes.proofs.windows.KeepingLemmas.{InTurn}
-use Rattle.gos_nodes.proofs.parallel.RegionLemmas as region
-use Rattle.gos_nodes.proofs.parallel.StepLemmas.{gate, Same, Local, fires, puts_out, takes_in, Step, of_left, of_right, asked, told, starts, left_ends, right_ends, left_ends_all, right_ends_all, lost, step, free_left, free_right, gate_at_result, gate_at_part}
-use Rattle.gos_nodes.proofs.parallel.LinkedLemmas.{Linked, Comes, first_comes, past_all, left_seen, right_seen, left_list, right_list, linked_step, fits_on, when_asking, not_lost, asked_turn}
-use Rattle.gos_nodes.proofs.parallel.OutputLemmas.{import_real}
-use Rattle.gos_nodes.proofs.parallel.OpenLemmas.{firing_same}
+use Rattle.gos_nodes.proofs.windows.MeetLemmas.{IsUnjoined, HasPorts}
+use Rattle.gos_nodes.proofs.parallel.StepLemmas.{Step, of_left, of_right, asked, told, starts, left_ends, right_ends, left_ends_all, right_ends_all, lost, IsSeen, hung_left, hung_right, is_run, result_contact}
+use Rattle.gos_nodes.proofs.parallel.LinkedLemmas.{Driven, Comes, left_seen, right_seen, when_asking, asked_turn}
+use Rattle.gos_nodes.proofs.parallel.RegularLemmas.{Holds, Went, is_seen, lost_left, lost_right, left_of, right_of, comes_of_turn}
+use Rattle.gos_nodes.proofs.parallel.WalkLemmas.{one_on, left_list, right_list}
 use Rattle.gos_nodes.proofs.parallel.OrderLemmas.{par_firing}
 use Rattle.gos_nodes.proofs.parallel.QuietLemmas.{Neat, neat_step, side_quiet, whole_idle}
-use Rattle.gos_nodes.proofs.parallel.MoveLemmas.{AllTaken, inner_from, request_begins, Ended, answer_ends}
+use Rattle.gos_nodes.proofs.parallel.MoveLemmas.{AllTaken, inner_from, Came, came_on, request_begins, Ended, answer_ends}
+use Rattle.gos_nodes.proofs.parallel.LocalLemmas.{local_shows, not_given, local_goes, quiet_goes}
 use Rattle.gos_nodes.proofs.parallel.StandLemmas.{One, Two, also_holds, Stand, rests, waits, both_run, left_alone, right_alone, is_done, one_moves, left_moves, right_moves, stand_left, stand_right}
-use Rattle.gos_nodes.proofs.nodes.SilentLemmas.{silent_inner}
-use Rattle.gos_nodes.proofs.nodes.MatchedLemmas.{both_silent}
+use Rattle.gos_programs.proofs.contexts.SilentLemmas.{silent_inner}
+use Rattle.gos_nodes.proofs.nodes.FollowedLemmas.{both_silent}
 
 -- the result of a command
 skip_of : (v : Term) → (k : ℕ) × IsResult Com v k → v ≡ Skip
 skip_of v (k, inl (same, is, none)) = is
 skip_of v (k, inr (w, wrong, is, fits)) = absurd (cc wrong)
 
-abbrev Came : Program → Config → Type 0
-Came g c = (acts : List Act) × Moves g acts Idle c
-
-came_on : (g : Program) (acts : List Act) (c e : Config) → Came g c → Moves g acts c e → Came g e
-came_on g acts c e (before, moves) more = (before ++ acts, moves_then g before acts Idle c e moves more)
-
 module _
-    (d : ℕ) (f g : Cut) (r p q : Plan) (is : IsParallel d f g r p q) (literals : All LiteralFits r.parts) (ground : AllGround r.imports) (m n : Term)
+    (d : ℕ) (f g : Cut) (r p q : Plan) (is : IsParallel d f g r p q) (literals : All LiteralFits r.parts) (m n : Term)
     (left_typed : Typed p.imports [] m Com) (right_typed : Typed q.imports [] n Com) where
   abbrev on_left : Program
   on_left = program_of p m
@@ -76,11 +74,11 @@ module _
   -- the regions are quiet where the whole is
   left_quiet : (row : Row) (s : Tokens) → IsQuiet r s → firing_of (slice_get r.parts d) (s.state d) (Ans 0) ≡ Some row → IsQuiet p (cut_tokens f p s)
   left_quiet row s quiet by =
-      side_quiet d 0 f r p is.left (free_left d f g r p q is) s quiet (λ v lies. (fired r d row v s, (v, row, lies, by, refl)))
+      side_quiet d 0 f r p is.left (hung_left d f g r p q is) s quiet (λ v lies. (fired r d row v s, (v, row, lies, by, refl)))
 
   right_quiet : (row : Row) (s : Tokens) → IsQuiet r s → firing_of (slice_get r.parts d) (s.state d) (Ans 1) ≡ Some row → IsQuiet q (cut_tokens g q s)
   right_quiet row s quiet by =
-      side_quiet d 1 g r q is.right (free_right d f g r p q is) s quiet (λ v lies. (fired r d row v s, (v, row, lies, by, refl)))
+      side_quiet d 1 g r q is.right (hung_right d f g r p q is) s quiet (λ v lies. (fired r d row v s, (v, row, lies, by, refl)))
 
   knows_left : (t : Term) (v : Store) → Came on_left (Running t v) → Knows p.imports t
   knows_left t v (acts, moves) = runs_known on_left acts t v (sources_known p.imports [] m Com left_typed) moves
@@ -96,7 +94,7 @@ module _
   whole_waits s left right c (waits rest some empty left_is right_is is_body) quiet left_agrees right_agrees left_came right_came =
       let row = begin_row (s.state d).number in
       absurd (quiet.0 d (Req 2) (fired r d row 0 s)
-      (0, row, ap (held_at s Request) (gate_at_part d f g r p q is) ∙ some, par_firing d f g r p q is literals (Req 2) row Rest s rest refl, refl))
+      (0, row, ap (held_at s Request) (part_gate (is_run d f g r p q is)) ∙ some, par_firing d f g r p q is literals (Req 2) row Rest s rest refl, refl))
   whole_waits s left right c (both_run phase none empty two) quiet left_agrees right_agrees left_came right_came =
       let one = quiet_row (Ans 0) (at RightOnly (s.state d).number) in
       let other = quiet_row (Ans 1) (at LeftOnly (s.state d).number) in
@@ -132,12 +130,11 @@ module _
       subst (Stalled on_both) (sym one.whole_is)
       (right_waits_for_ended on_both one.count one.whole one.other Skip (renamed one.naming one.term) one.has_ended (inl refl) within)
   whole_waits s left right c (is_done x rest none some left_is right_is is_skip) quiet left_agrees right_agrees left_came right_came =
-      let contact : contact_at r (ResultEnd 0) ≡ Some (asks 0 0) = ap (λ (t : Type'). turned_if (slice_get (contacts_of t) 0)) is.outcome in
       let next = with_token r (ResultEnd 0) Answer None s in
       absurd (quiet.1 (ResultEnd 0) 0 next (
         tt,
-        subst (λ (o : Option Contact). Passes r (Out (ResultEnd 0) 0) o s next) (sym contact)
-            (ap (held_at s Answer) (gate_at_result d f g r p q is) ∙ some, refl),
+        subst (λ (o : Option Contact). Passes r (Out (ResultEnd 0) 0) o s next) (sym (result_contact d f g r p q is))
+            (ap (held_at s Answer) (result_gate (is_run d f g r p q is)) ∙ some, refl),
       ))
 
   running_not_idle : (t : Term) (v : Store) (c : Config) → c ≡ Running t v → c ≡ Idle → ⊥
@@ -159,49 +156,12 @@ module _
       absurd (running_not_idle Skip x c is_skip same)
 
   -- what an element of a region shows
-  left_shows : (x y : Element) → Local f r p x y → shows p y ≡ shows r x
-  left_shows x y (fires i j k number) = refl
-  left_shows x y (puts_out i j k v stands leads slices) =
-      λ t. record { port = port_if (slices t); event = event_number Request k; value = v } ∷ []
-  left_shows x y (takes_in i j k v stands leads slices) =
-      λ t. record { port = port_if (slices t); event = event_number Answer k; value = v } ∷ []
-
-  right_shows : (x y : Element) → Local g r q x y → shows q y ≡ shows r x
-  right_shows x y (fires i j k number) = refl
-  right_shows x y (puts_out i j k v stands leads slices) =
-      λ t. record { port = port_if (slices t); event = event_number Request k; value = v } ∷ []
-  right_shows x y (takes_in i j k v stands leads slices) =
-      λ t. record { port = port_if (slices t); event = event_number Answer k; value = v } ∷ []
-
-  not_given : (o : Option Imported) (x : Imported) → o ≡ Some x → port_if o ≡ Given → ⊥
-  not_given o x at same = let bad : Taken x.name ≡ Given = sym (ap port_if at) ∙ same in cc bad
-
   local_taken : (h : ℕ) (c : Cut) (a : Plan) (side : IsSide d h c r a) (x y : Element) → Local c r a x y → AllTaken (shows a y)
   local_taken h c a side x y (fires i j k number) = tt
   local_taken h c a side x y (puts_out i j k v stands leads slices) =
-      let (z, at, low) = import_real a i k d h c r side stands in (not_given (slice_get a.imports i) z at, tt)
+      let (z, at, low) = import_real a side.cut.right i k stands in (not_given (slice_get a.imports i) z at, tt)
   local_taken h c a side x y (takes_in i j k v stands leads slices) =
-      let (z, at, low) = import_real a i k d h c r side stands in (not_given (slice_get a.imports i) z at, tt)
-
-  -- a firing that goes on in a region goes on in the whole
-  local_goes : (h : ℕ) (c : Cut) (a : Plan) (side : IsSide d h c r a) → (places_of a (ResultEnd 0) ≡ None → places_of r (PartEnd d h) ≡ None)
-      → (x y : Element) (s : Tokens) (acts : List Act) → Local c r a x y → GoesOn a (cut_tokens c a s) y acts → GoesOn r s x acts
-  local_goes h c a side free x y s acts (fires i j (Req k) number) goes = tt
-  local_goes h c a side free x y s acts (fires i j (Ans k) number) goes = λ v row lies by asks.
-      let (at_part, (part, there)) = side.cut.numbers i j number in
-      goes v row
-      (region.held_token d h c r a side free (PartEnd j k) (inl (part, there)) s Answer ∙ (ap (λ t. token_at r s (PartEnd t k) Answer) at_part ∙ lies))
-      (firing_same d h c r a side free j part there (Ans k) s ∙ (ap (λ t. firing_of (slice_get r.parts t) (s.state t) (Ans k)) at_part ∙ by)) asks
-  local_goes h c a side free x y s acts (puts_out i j k v stands leads slices) goes = tt
-  local_goes h c a side free x y s acts (takes_in i j k v stands leads slices) goes = tt
-
-  -- the part asks only when it begins
-  quiet_goes : (slot : Slot) (row : Row) (s : Tokens) (acts : List Act) → firing_of (slice_get r.parts d) (s.state d) slot ≡ Some row
-      → ((v : ℕ) → asks_on (row.puts v) ≡ false) → GoesOn r s (Fire d slot) acts
-  quiet_goes (Req h) row s acts by never = tt
-  quiet_goes (Ans h) row s acts by never = λ v other lies firing asks.
-      let same : row ≡ other = cc (by, firing) in
-      let clash : false ≡ true = sym (never v) ∙ (ap (λ (y : Row). asks_on (y.puts v)) same ∙ asks) in absurd (cc clash)
+      let (z, at, low) = import_real a side.cut.right i k stands in (not_given (slice_get a.imports i) z at, tt)
 
   stand_same : (s w : Tokens) (left right c : Config) → (w.state d).phase ≡ (s.state d).phase → gate w Request ≡ gate s Request → gate w Answer ≡ gate s Answer
       → Stood s left right c → Stood w left right c
@@ -332,12 +292,14 @@ module _
     abbrev Result : Element → Tokens → Tokens → Type 0
     Result x s w = Follows x s w c ys zs
 
-    follow_left : (x y : Element) (s w : Tokens) → Local f r p x y → Does p y (cut_tokens f p s) (cut_tokens f p w) → cut_tokens g q w ≡ cut_tokens g q s
-        → Same d s w → Stood s left right c → Came on_left left → Came on_right right → IsMatched p on_left (y ∷ ys) (cut_tokens f p s) left
-        → IsMatched q on_right zs (cut_tokens g q s) right → Result x s w
-    follow_left x y s w local sees unseen same stood left_came right_came (agrees, next) right_matched =
+    -- by an element of the region that shows the same
+    by_left : (x y : Element) (s w : Tokens) → AllTaken (shows p y) → shows p y ≡ shows r x
+        → ((acts : List Act) → GoesOn p (cut_tokens f p s) y acts → GoesOn r s x acts) → Does p y (cut_tokens f p s) (cut_tokens f p w)
+        → cut_tokens g q w ≡ cut_tokens g q s → Same d s w → Stood s left right c → Came on_left left → Came on_right right
+        → IsMatched p on_left (y ∷ ys) (cut_tokens f p s) left → IsMatched q on_right zs (cut_tokens g q s) right → Result x s w
+    by_left x y s w taken shows_same goes_too sees unseen same stood left_came right_came (agrees, next) right_matched =
         let (acts, to, moves, shown, goes, rest) = next (cut_tokens f p w) sees in
-        let inner = inner_from acts (shows p y) shown (local_taken 0 f p is.left x y local) in
+        let inner = inner_from acts (shows p y) shown taken in
         let now = stand_same s w left right c (ap (λ q. q.phase) same.state) (same.gates Request) (same.gates Answer) stood in
         let (e, made, stood_now) =
         stand_left (Par m n) (w.state d).phase (gate w Request) (gate w Answer) on_left on_both acts left right to c is.left.among inner now moves in
@@ -347,8 +309,8 @@ module _
           left_to = to;
           right_to = right;
           moves = made;
-          shown = shown ∙ left_shows x y local;
-          goes_on = local_goes 0 f p is.left (free_left d f g r p q is) x y s acts local goes;
+          shown = shown ∙ shows_same;
+          goes_on = goes_too acts goes;
           stood = stood_now;
           left_came = came_on on_left acts left to left_came moves;
           right_came = right_came;
@@ -356,12 +318,13 @@ module _
           right_matched = subst (λ a. IsMatched q on_right zs a right) (sym unseen) right_matched;
         }
 
-    follow_right : (x y : Element) (s w : Tokens) → Local g r q x y → Does q y (cut_tokens g q s) (cut_tokens g q w) → cut_tokens f p w ≡ cut_tokens f p s
-        → Same d s w → Stood s left right c → Came on_left left → Came on_right right → IsMatched p on_left ys (cut_tokens f p s) left
-        → IsMatched q on_right (y ∷ zs) (cut_tokens g q s) right → Result x s w
-    follow_right x y s w local sees unseen same stood left_came right_came left_matched (agrees, next) =
+    by_right : (x y : Element) (s w : Tokens) → AllTaken (shows q y) → shows q y ≡ shows r x
+        → ((acts : List Act) → GoesOn q (cut_tokens g q s) y acts → GoesOn r s x acts) → Does q y (cut_tokens g q s) (cut_tokens g q w)
+        → cut_tokens f p w ≡ cut_tokens f p s → Same d s w → Stood s left right c → Came on_left left → Came on_right right
+        → IsMatched p on_left ys (cut_tokens f p s) left → IsMatched q on_right (y ∷ zs) (cut_tokens g q s) right → Result x s w
+    by_right x y s w taken shows_same goes_too sees unseen same stood left_came right_came left_matched (agrees, next) =
         let (acts, to, moves, shown, goes, rest) = next (cut_tokens g q w) sees in
-        let inner = inner_from acts (shows q y) shown (local_taken 1 g q is.right x y local) in
+        let inner = inner_from acts (shows q y) shown taken in
         let now = stand_same s w left right c (ap (λ q. q.phase) same.state) (same.gates Request) (same.gates Answer) stood in
         let (e, made, stood_now) =
         stand_right (Par m n) (w.state d).phase (gate w Request) (gate w Answer) on_right on_both acts left right to c is.right.among inner now moves in
@@ -371,14 +334,28 @@ module _
           left_to = left;
           right_to = to;
           moves = made;
-          shown = shown ∙ right_shows x y local;
-          goes_on = local_goes 1 g q is.right (free_right d f g r p q is) x y s acts local goes;
+          shown = shown ∙ shows_same;
+          goes_on = goes_too acts goes;
           stood = stood_now;
           left_came = left_came;
           right_came = came_on on_right acts right to right_came moves;
           left_matched = subst (λ a. IsMatched p on_left ys a left) (sym unseen) left_matched;
           right_matched = rest;
         }
+
+    follow_left : (x y : Element) (s w : Tokens) → Local f r p x y → Does p y (cut_tokens f p s) (cut_tokens f p w) → cut_tokens g q w ≡ cut_tokens g q s
+        → Same d s w → Stood s left right c → Came on_left left → Came on_right right → IsMatched p on_left (y ∷ ys) (cut_tokens f p s) left
+        → IsMatched q on_right zs (cut_tokens g q s) right → Result x s w
+    follow_left x y s w local =
+        by_left x y s w (local_taken 0 f p is.left x y local) (local_shows f r p x y local)
+        (λ acts goes. local_goes (hung_left d f g r p q is) x y s acts local goes)
+
+    follow_right : (x y : Element) (s w : Tokens) → Local g r q x y → Does q y (cut_tokens g q s) (cut_tokens g q w) → cut_tokens f p w ≡ cut_tokens f p s
+        → Same d s w → Stood s left right c → Came on_left left → Came on_right right → IsMatched p on_left ys (cut_tokens f p s) left
+        → IsMatched q on_right (y ∷ zs) (cut_tokens g q s) right → Result x s w
+    follow_right x y s w local =
+        by_right x y s w (local_taken 1 g q is.right x y local) (local_shows g r q x y local)
+        (λ acts goes. local_goes (hung_right d f g r p q is) x y s acts local goes)
 
     follow_starts : (s w : Tokens) (v : ℕ) → Does p (In (ResultEnd 0) 0) (cut_tokens f p s) (cut_tokens f p w)
         → Does q (In (ResultEnd 0) 0) (cut_tokens g q s) (cut_tokens g q w) → gate s Request ≡ Some v → (w.state d).phase ≡ Both → gate w Request ≡ None
@@ -467,7 +444,7 @@ module _
           right_to = right;
           moves = made;
           shown = e.silent;
-          goes_on = quiet_goes (Ans 0) row s e.acts (par_firing d f g r p q is literals (Ans 0) row Both s both refl) (λ k. refl);
+          goes_on = quiet_goes r d (Ans 0) row s e.acts (par_firing d f g r p q is literals (Ans 0) row Both s both refl) (λ k. refl);
           stood = right_alone after' (gates Request ∙ none) (gates Answer ∙ empty) e.idle one;
           left_came = came_on on_left acts left to left_came moves;
           right_came = right_came;
@@ -509,7 +486,7 @@ module _
           right_to = to;
           moves = made;
           shown = e.silent;
-          goes_on = quiet_goes (Ans 1) row s e.acts (par_firing d f g r p q is literals (Ans 1) row Both s both refl) (λ k. refl);
+          goes_on = quiet_goes r d (Ans 1) row s e.acts (par_firing d f g r p q is literals (Ans 1) row Both s both refl) (λ k. refl);
           stood = left_alone after' (gates Request ∙ none) (gates Answer ∙ empty) e.idle one;
           left_came = left_came;
           right_came = came_on on_right acts right to right_came moves;
@@ -541,7 +518,7 @@ module _
               moves_then on_both e.acts (Computing ∷ []) c z (Running Skip now.whole) made
               (subst (λ (x : Config). Moves on_both (Computing ∷ []) x (Running Skip now.whole)) (sym now.whole_is) (Running Skip now.whole, last, refl));
           shown = both_silent e.acts (Computing ∷ []) e.silent refl;
-          goes_on = quiet_goes (Ans 0) row s (e.acts ++ Computing ∷ []) (par_firing d f g r p q is literals (Ans 0) row LeftOnly s only refl) (λ k. refl);
+          goes_on = quiet_goes r d (Ans 0) row s (e.acts ++ Computing ∷ []) (par_firing d f g r p q is literals (Ans 0) row LeftOnly s only refl) (λ k. refl);
           stood = is_done now.whole rest' (ask ∙ none) ans e.idle right_is refl;
           left_came = came_on on_left acts left to left_came moves;
           right_came = right_came;
@@ -573,7 +550,7 @@ module _
               moves_then on_both e.acts (Computing ∷ []) c z (Running Skip now.whole) made
               (subst (λ (x : Config). Moves on_both (Computing ∷ []) x (Running Skip now.whole)) (sym now.whole_is) (Running Skip now.whole, last, refl));
           shown = both_silent e.acts (Computing ∷ []) e.silent refl;
-          goes_on = quiet_goes (Ans 1) row s (e.acts ++ Computing ∷ []) (par_firing d f g r p q is literals (Ans 1) row RightOnly s only refl) (λ k. refl);
+          goes_on = quiet_goes r d (Ans 1) row s (e.acts ++ Computing ∷ []) (par_firing d f g r p q is literals (Ans 1) row RightOnly s only refl) (λ k. refl);
           stood = is_done now.whole rest' (ask ∙ none) ans left_is e.idle refl;
           left_came = left_came;
           right_came = came_on on_right acts right to right_came moves;
@@ -581,16 +558,16 @@ module _
           right_matched = rest;
         }
 
-    follow : (x : Element) (s w : Tokens) (z : Step d f g r p q x s w) → Linked d f g p q past lefts rights s → Comes r past x → Stood s left right c
+    follow : (x : Element) (s w : Tokens) (z : Step d f g r p q x s w) → IsSeen d f g r p q x s w z → Driven d past lefts rights s → Comes r past x → Stood s left right c
         → Came on_left left → Came on_right right → IsMatched p on_left (left_seen d f g r p q is literals x s w z ++ ys) (cut_tokens f p s) left
         → IsMatched q on_right (right_seen d f g r p q is literals x s w z ++ zs) (cut_tokens g q s) right → Result x s w
-    follow x s w (of_left x' y s' w' local sees unseen same) linked comes stood left_came right_came left_matched right_matched =
+    follow x s w (of_left x' y s' w' local sees unseen same) seen driven comes stood left_came right_came left_matched right_matched =
         follow_left x' y s' w' local sees unseen same stood left_came right_came left_matched right_matched
-    follow x s w (of_right x' y s' w' local sees unseen same) linked comes stood left_came right_came left_matched right_matched =
+    follow x s w (of_right x' y s' w' local sees unseen same) seen driven comes stood left_came right_came left_matched right_matched =
         follow_right x' y s' w' local sees unseen same stood left_came right_came left_matched right_matched
-    follow x s w (asked v s' w' small left_same right_same state ask ans) linked comes stood left_came right_came left_matched right_matched =
+    follow x s w (asked v s' w' small left_same right_same state ask ans) seen driven comes stood left_came right_came left_matched right_matched =
         let (rest, none, empty) =
-        when_asking (is_open past (ResultEnd 0)) (s'.state d).phase (gate s' Request) (gate s' Answer) linked.driven.stage
+        when_asking (is_open past (ResultEnd 0)) (s'.state d).phase (gate s' Request) (gate s' Answer) driven.stage
         (asked_turn d f g r p q is literals past comes) in
         let (left_is, right_is, is_idle) = at_rest (s'.state d).phase (gate s' Request) (gate s' Answer) left right c stood rest none empty in
         record {
@@ -608,7 +585,7 @@ module _
           left_matched = subst (λ a. IsMatched p on_left ys a left) (sym left_same) left_matched;
           right_matched = subst (λ a. IsMatched q on_right zs a right) (sym right_same) right_matched;
         }
-    follow x s w (told v s' w' left_same right_same state ans none ask) linked comes stood left_came right_came left_matched right_matched =
+    follow x s w (told v s' w' left_same right_same state ans none ask) seen driven comes stood left_came right_came left_matched right_matched =
         let (store, rest, empty, value, left_is, right_is, is_skip) = at_done (s'.state d).phase (gate s' Request) (gate s' Answer) left right c v stood ans in
         record {
           acts = Showing (given 1 0) ∷ [];
@@ -625,51 +602,106 @@ module _
           left_matched = subst (λ a. IsMatched p on_left ys a left) (sym left_same) left_matched;
           right_matched = subst (λ a. IsMatched q on_right zs a right) (sym right_same) right_matched;
         }
-    follow x s w (starts v s' w' left_does right_does rest ask both none ans) linked comes stood left_came right_came left_matched right_matched =
+    follow x s w (starts v s' w' left_does right_does rest ask both none ans) seen driven comes stood left_came right_came left_matched right_matched =
         follow_starts s' w' v left_does right_does ask both none ans stood left_came right_came left_matched right_matched
-    follow x s w (left_ends v s' w' does unseen both next gates) linked comes stood left_came right_came left_matched right_matched =
+    follow x s w (left_ends v s' w' does unseen both next gates) seen driven comes stood left_came right_came left_matched right_matched =
         follow_left_ends s' w' v does unseen both next gates stood left_came right_came left_matched right_matched
-    follow x s w (right_ends v s' w' does unseen both next gates) linked comes stood left_came right_came left_matched right_matched =
+    follow x s w (right_ends v s' w' does unseen both next gates) seen driven comes stood left_came right_came left_matched right_matched =
         follow_right_ends s' w' v does unseen both next gates stood left_came right_came left_matched right_matched
-    follow x s w (left_ends_all v s' w' does unseen only rest ask ans) linked comes stood left_came right_came left_matched right_matched =
+    follow x s w (left_ends_all v s' w' does unseen only rest ask ans) seen driven comes stood left_came right_came left_matched right_matched =
         follow_left_last s' w' v does unseen only rest ask ans stood left_came right_came left_matched right_matched
-    follow x s w (right_ends_all v s' w' does unseen only rest ask ans) linked comes stood left_came right_came left_matched right_matched =
+    follow x s w (right_ends_all v s' w' does unseen only rest ask ans) seen driven comes stood left_came right_came left_matched right_matched =
         follow_right_last s' w' v does unseen only rest ask ans stood left_came right_came left_matched right_matched
-    follow x s w (lost j k v s' w' t there not_left not_right left_same right_same same) linked comes stood left_came right_came left_matched right_matched =
-        absurd (not_lost d f g r p q is literals ground j k t past lefts rights s' there not_left not_right linked comes)
+    follow x s w (lost j k v s' w' t there not_left not_right left_same right_same same) seen driven comes stood left_came right_came left_matched right_matched =
+        absurd seen
 
-  pub matches : (xs : List Element) (s t : Tokens) (past lefts rights : List Pass) (fit : AllFit r s) (runs : Runs r xs s t)
-      → Linked d f g p q past lefts rights s → InTurn r past xs → Neat r s → (left right c : Config) → Stood s left right c → Came on_left left
-      → Came on_right right → IsMatched p on_left (left_list d f g r p q is literals xs s t fit runs) (cut_tokens f p s) left
-      → IsMatched q on_right (right_list d f g r p q is literals xs s t fit runs) (cut_tokens g q s) right → IsMatched r on_both xs s c
-  matches [] s t past lefts rights fit runs linked turn neat left right c stood left_came right_came left_matched right_matched = (
-    λ quiet. whole_waits s left right c stood quiet left_matched right_matched left_came right_came,
-    λ same. whole_rests s left right c stood neat left_matched right_matched same,
-  )
-  matches (x ∷ xs) s t past lefts rights fit (w, does, runs) linked turn neat left right c stood left_came right_came left_matched right_matched =
-      let z = step d f g r p q is literals x s w fit does in
-      let fit_on = fits_on d f g r p q is literals x s w fit does in
-      let (comes, later) = first_comes r past x xs turn in
-      let led = linked_step d f g r p q is literals ground x s w z past lefts rights linked comes in
-      let ys = left_list d f g r p q is literals xs w t fit_on runs in
-      let zs = right_list d f g r p q is literals xs w t fit_on runs in
-      let left_agrees = matched_agrees p on_left (left_seen d f g r p q is literals x s w z ++ ys) (cut_tokens f p s) left left_matched in
-      let right_agrees = matched_agrees q on_right (right_seen d f g r p q is literals x s w z ++ zs) (cut_tokens g q s) right right_matched in
-      let one = follow past lefts rights left right c ys zs x s w z linked comes stood left_came right_came left_matched right_matched in
-      let more =
-      matches xs w t (after r x past) (past_all p (left_seen d f g r p q is literals x s w z) lefts)
-      (past_all q (right_seen d f g r p q is literals x s w z) rights) fit_on runs led.linked later (neat_step r x s w does neat) one.left_to one.right_to one.to
-      one.stood one.left_came one.right_came one.left_matched one.right_matched in (
-        (
-          λ quiet. whole_waits s left right c stood quiet left_agrees right_agrees left_came right_came,
-          λ same. whole_rests s left right c stood neat left_agrees right_agrees same,
-        ),
-        λ u also. (
-          one.acts,
-          one.to,
-          one.moves,
-          one.shown,
-          one.goes_on,
-          subst (λ a. IsMatched r on_both xs a one.to) (one_state r x s w u does also) more,
-        ),
-      )
+    -- an input at an end that stands in no joint, of one of the regions
+    lost_shows : (a : Plan) (cut : Cut) (i k j v : ℕ) (none : IsUnjoined r cut a i j) → none.import ≡ k → shows a (In (ImportEnd i j) v) ≡ shows r (In (ImportEnd k j) v)
+    lost_shows a cut i k j v none import =
+        let same : slice_get a.imports i ≡ slice_get r.imports k = sym none.same ∙ ap (slice_get r.imports) import in
+        λ t. record { port = port_if (same t); event = event_number Answer j; value = v } ∷ []
+
+    lost_taken : (a : Plan) (cut : Cut) (i j v : ℕ) → IsUnjoined r cut a i j → AllTaken (shows a (In (ImportEnd i j) v))
+    lost_taken a cut i j v none = let (z, at) = there_is a.imports i j none.contact none.own in (not_given (slice_get a.imports i) z at, tt)
+
+    lost_on_left : (k j v i : ℕ) (none : IsUnjoined r f p i j) → none.import ≡ k → (s w : Tokens) → Sees f p (In (ImportEnd i j) v) s w → Unseen g q s w → Same d s w
+        → Stood s left right c → Came on_left left → Came on_right right → IsMatched p on_left (In (ImportEnd i j) v ∷ ys) (cut_tokens f p s) left
+        → IsMatched q on_right zs (cut_tokens g q s) right → Result (In (ImportEnd k j) v) s w
+    lost_on_left k j v i none import s w =
+        by_left (In (ImportEnd k j) v) (In (ImportEnd i j) v) s w (lost_taken p f i j v none) (lost_shows p f i k j v none import) (λ acts goes. tt)
+
+    lost_on_right : (k j v i : ℕ) (none : IsUnjoined r g q i j) → none.import ≡ k → (s w : Tokens) → Sees g q (In (ImportEnd i j) v) s w → Unseen f p s w → Same d s w
+        → Stood s left right c → Came on_left left → Came on_right right → IsMatched p on_left ys (cut_tokens f p s) left
+        → IsMatched q on_right (In (ImportEnd i j) v ∷ zs) (cut_tokens g q s) right → Result (In (ImportEnd k j) v) s w
+    lost_on_right k j v i none import s w =
+        by_right (In (ImportEnd k j) v) (In (ImportEnd i j) v) s w (lost_taken q g i j v none) (lost_shows q g i k j v none import) (λ acts goes. tt)
+
+  module _
+      (left_ports : HasPorts r f p) (right_ports : HasPorts r g q) (left_regular : IsRegular p) (right_regular : IsRegular q) (first : Tokens) (resting : IsIdle r first) where
+    abbrev HoldsHere : Tokens → List Pass → List Element → List Element → Open → Open → Open → Type 0
+    HoldsHere = Holds d f g r p q is literals left_ports right_ports left_regular right_regular first resting
+
+    abbrev WentHere : Element → Tokens → Tokens → Type 0
+    WentHere = Went d f g r p q is literals left_ports right_ports left_regular right_regular first resting
+
+    abbrev lefts_of : (x : Element) (s w : Tokens) → WentHere x s w → List Element
+    lefts_of = left_of d f g r p q is literals left_ports right_ports left_regular right_regular first resting
+
+    abbrev rights_of : (x : Element) (s w : Tokens) → WentHere x s w → List Element
+    rights_of = right_of d f g r p q is literals left_ports right_ports left_regular right_regular first resting
+
+    goes : (past lefts rights : List Pass) (left right c : Config) (ys zs : List Element) (x : Element) (s w : Tokens) (z : WentHere x s w) → Driven d past lefts rights s
+        → Comes r past x → Stood s left right c → Came on_left left → Came on_right right → IsMatched p on_left (lefts_of x s w z ++ ys) (cut_tokens f p s) left
+        → IsMatched q on_right (rights_of x s w z ++ zs) (cut_tokens g q s) right → Follows x s w c ys zs
+    goes past lefts rights left right c ys zs x s w (is_seen z seen) driven comes stood left_came right_came left_matched right_matched =
+        follow past lefts rights left right c ys zs x s w z seen driven comes stood left_came right_came left_matched right_matched
+    goes past lefts rights left right c ys zs x s w (lost_left k j v i none import at sees unseen same) driven comes stood left_came right_came left_matched right_matched =
+        subst (λ (e : Element). Follows e s w c ys zs) (sym at)
+        (lost_on_left past lefts rights left right c ys zs k j v i none import s w sees unseen same stood left_came right_came left_matched right_matched)
+    goes past lefts rights left right c ys zs x s w (lost_right k j v i none import at sees unseen same) driven comes stood left_came right_came left_matched right_matched =
+        subst (λ (e : Element). Follows e s w c ys zs) (sym at)
+        (lost_on_right past lefts rights left right c ys zs k j v i none import s w sees unseen same stood left_came right_came left_matched right_matched)
+
+    pub matches : (xs : List Element) (s t : Tokens) (past : List Pass) (hs ks : List Element) (o lo ro : Open) (holds : HoldsHere s past hs ks o lo ro) (runs : Runs r xs s t)
+        (turns : InputsKeepTurns r past xs) → Neat r s → (left right c : Config) → Stood s left right c → Came on_left left → Came on_right right
+        → IsMatched p on_left
+        (left_list d f g r p q is literals left_ports right_ports left_regular right_regular first resting xs s t past hs ks o lo ro holds runs turns) (cut_tokens f p s) left
+        → IsMatched q on_right
+        (right_list d f g r p q is literals left_ports right_ports left_regular right_regular first resting xs s t past hs ks o lo ro holds runs turns) (cut_tokens g q s) right
+        → IsMatched r on_both xs s c
+    matches [] s t past hs ks o lo ro holds runs turns neat left right c stood left_came right_came left_matched right_matched = (
+      λ quiet. whole_waits s left right c stood quiet left_matched right_matched left_came right_came,
+      λ same. whole_rests s left right c stood neat left_matched right_matched same,
+    )
+    matches (x ∷ xs) s t past hs ks o lo ro holds (w, does, runs) turns neat left right c stood left_came right_came left_matched right_matched =
+        let one = one_on d f g r p q is literals left_ports right_ports left_regular right_regular first resting x xs s w past hs ks o lo ro holds does turns in
+        let hs_on = hs ++ lefts_of x s w one.went in
+        let ks_on = ks ++ rights_of x s w one.went in
+        let later = later_turns r past x xs turns in
+        let ys =
+        left_list d f g r p q is literals left_ports right_ports left_regular right_regular first resting xs w t (after r x past) hs_on ks_on one.now one.lo one.ro one.holds runs
+        later in
+        let zs =
+        right_list d f g r p q is literals left_ports right_ports left_regular right_regular first resting xs w t (after r x past) hs_on ks_on one.now one.lo one.ro one.holds runs
+        later in
+        let left_agrees = matched_agrees p on_left (lefts_of x s w one.went ++ ys) (cut_tokens f p s) left left_matched in
+        let right_agrees = matched_agrees q on_right (rights_of x s w one.went ++ zs) (cut_tokens g q s) right right_matched in
+        let on =
+        goes past (passed p [] hs) (passed q [] ks) left right c ys zs x s w one.went holds.driven (comes_of_turn r past x (first_turn r past x xs turns)) stood left_came
+        right_came left_matched right_matched in
+        let more =
+        matches xs w t (after r x past) hs_on ks_on one.now one.lo one.ro one.holds runs later (neat_step r x s w does neat) on.left_to on.right_to on.to on.stood
+        on.left_came on.right_came on.left_matched on.right_matched in (
+          (
+            λ quiet. whole_waits s left right c stood quiet left_agrees right_agrees left_came right_came,
+            λ same. whole_rests s left right c stood neat left_agrees right_agrees same,
+          ),
+          λ u also. (
+            on.acts,
+            on.to,
+            on.moves,
+            on.shown,
+            on.goes_on,
+            subst (λ a. IsMatched r on_both xs a on.to) (one_state r x s w u does also) more,
+          ),
+        )

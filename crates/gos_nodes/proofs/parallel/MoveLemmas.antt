@@ -1,15 +1,16 @@
 -- Lists of moves that match one element: how they begin and end by the labels that they show.
-use Rattle.std.specs.Prelude.{◌≡◌, ◌≢◌, ℕ, List, [], ◌∷◌}
+use Rattle.std.specs.Prelude.{◌≡◌, ◌≢◌, ℕ, List, [], ◌∷◌, ◌++◌}
 use Rattle.std.proofs.Common.{refl, sym, ap, subst, ◌∙◌}
 use Rattle.gos_model.specs.Terms.{Term}
 use Rattle.gos_model.specs.Stores.{Store}
 use Rattle.gos_model.specs.Labels.{Given, Label, given, taken}
 use Rattle.gos_model.specs.Moves.{Program, Config, Idle, Running, Act, Computing, Showing, Acts, Answers, Unfoldings, Moves, labels}
+use Rattle.gos_model.proofs.MoveLemmas.{moves_then}
 use Rattle.gos_programs.specs.contexts.Plugged.{AreInner}
 use Rattle.gos_programs.proofs.contexts.BackwardLemmas.{OneLabel}
 use Rattle.gos_programs.proofs.contexts.PluggedLemmas.{acts_of}
 use Rattle.gos_programs.proofs.contexts.ReachedLemmas.{reached_lifted}
-use Rattle.gos_nodes.proofs.nodes.SilentLemmas.{port_is_taken}
+use Rattle.gos_programs.proofs.contexts.SilentLemmas.{port_is_taken}
 
 -- none of these labels is of the given port
 abbrev pub AllTaken : List Label → Type 0
@@ -37,6 +38,13 @@ idle_taken g (Showing o ∷ acts) c l (b, (is, to), moves) none taken =
     let one : o ≡ given 0 0 = cc is in
     let same : o ≡ l = cc none in
     taken (sym (ap (λ (x : Label). x.port) same) ∙ ap (λ (x : Label). x.port) one)
+
+-- a program that was idle has come so far
+abbrev pub Came : Program → Config → Type 0
+Came g c = (acts : List Act) × Moves g acts Idle c
+
+pub came_on : (g : Program) (acts : List Act) (c e : Config) → Came g c → Moves g acts c e → Came g e
+came_on g acts c e (before, moves) more = (before ++ acts, moves_then g before acts Idle c e moves more)
 
 pub record Began (g : Program) (c : Config) : Type 0 where
   pub acts : List Act

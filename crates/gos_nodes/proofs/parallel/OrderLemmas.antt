@@ -2,35 +2,35 @@
 --
 -- No two ends of the regions are one, so what one opens and closes leaves the handshakes of the other as they are (`Opened`). The part
 -- that asks opens and closes the handshakes at which it waits, by its phase.
-use Rattle.std.specs.Prelude.{◌≡◌, ◌⊎◌, ℕ, zero, suc, Bool, true, false, List, [], ◌∷◌, ◌++◌, Option, Some, None, All, slice_get, if◌then◌else◌}
+use Rattle.std.specs.Prelude.{◌≡◌, ◌⊎◌, ℕ, zero, suc, Bool, true, false, List, [], ◌∷◌, ◌++◌, Option, Some, None, All, slice_get}
 use Rattle.std.proofs.Common.{arith, refl, sym, ap, subst, inl, inr, ◌∙◌}
 use Rattle.std.proofs.lemmas.Option.{none-some, same_Some}
-use Rattle.gos_types.specs.Types.{Type', Com}
 use Rattle.gos_types.specs.declared.shakes.Role.TheVariants.{Serve, Ask}
-use Rattle.gos_types.specs.Events.{Direction, Request, Answer}
+use Rattle.gos_types.specs.Events.{Request, Answer}
 use Rattle.gos_plan.specs.Kinds as kinds
 use Rattle.gos_plan.specs.Kinds.{Part, Contact, asks, serves, part_contacts, contacts_of}
 use Rattle.gos_plan.specs.Firing.{Phase, Rest, Both, LeftOnly, RightOnly, Slot, Req, Ans, Row, at, row_for, rows, quiet_row}
-use Rattle.gos_plan.specs.Plans.{End, PartEnd, ImportEnd, ResultEnd, Plan, contact_at, contacts_of_part, same_end, turned_if}
-use Rattle.gos_plan.specs.Tokens.{Tokens, Element, Fire, Out, In, places_of, held_at, token_at, with_token, with_state, end_of, shake_of, way_of, way_taken, way_put, firing_of, Does, IsIdle}
+use Rattle.gos_plan.specs.Plans.{End, PartEnd, ImportEnd, ResultEnd, Plan, contacts_of_part}
+use Rattle.gos_plan.specs.Tokens.{Tokens, Element, Fire, Out, In, places_of, held_at, token_at, end_of, shake_of, way_of, way_taken, way_put, firing_of, Does, IsIdle}
 use Rattle.gos_plan.specs.Orderly.{Open, named_by, handshake_at, none_open, with_open, after_taken, after_put, ComesWell, ComesInOrder, AllWelcome, OrderlyFrom}
 use Rattle.gos_plan.specs.TokenBits.{LiteralFits}
-use Rattle.gos_plan.proofs.JointLemmas.{same_itself, apart_is_not_same}
+use Rattle.gos_plan.proofs.JointLemmas.{apart_is_not_same}
 use Rattle.gos_plan.proofs.HeldLemmas as held
 use Rattle.gos_plan.proofs.HeldLemmas.{nothing_there}
-use Rattle.gos_plan.proofs.DecidedLemmas.{one_state}
 use Rattle.gos_plan.proofs.ProjectionLemmas.{named}
 use Rattle.gos_joining.specs.webs.Cutting.{Cut, lies_at, cut_tokens}
 use Rattle.gos_realises.specs.realises.Regular.{Pass, is_request, is_open}
 use Rattle.gos_realises.proofs.realises.RingLemmas.{after}
 use Rattle.gos_sharing.proofs.cores.VariableLemmas.{apart_shakes}
-use Rattle.gos_nodes.specs.parallel.Parallel.{IsSide, IsPartOf, IsParallel}
-use Rattle.gos_nodes.proofs.parallel.RegionLemmas as region
-use Rattle.gos_nodes.proofs.parallel.RegionLemmas.{Held, result_held}
+use Rattle.gos_nodes.specs.parallel.Parallel.{IsPartOf, IsParallel}
+use Rattle.gos_nodes.proofs.parallel.EndLemmas.{Lies, in_part, at_import, at_driver, lies}
+use Rattle.gos_nodes.proofs.parallel.GateLemmas.{gate, Same, result_gate, part_gate}
+use Rattle.gos_nodes.proofs.parallel.HungLemmas.{Held, Local, Sees, Unseen}
 use Rattle.gos_nodes.proofs.parallel.DriverLemmas.{begin_row, end_row}
-use Rattle.gos_nodes.proofs.parallel.StepLemmas.{gate, Same, Local, fires, puts_out, takes_in, Step, of_left, of_right, asked, told, starts, left_ends, right_ends, left_ends_all, right_ends_all, lost, Sees, Unseen, IsSeen, Differ, free_left, free_right, not_both_inner, gate_at_result, gate_at_part, gate_apart}
+use Rattle.gos_nodes.proofs.parallel.StepLemmas.{Step, of_left, of_right, asked, told, starts, left_ends, right_ends, left_ends_all, right_ends_all, lost, IsSeen, Differ, hung_left, hung_right, not_both_inner, is_run, result_contact}
 use Rattle.gos_nodes.proofs.parallel.LinkedLemmas.{left_runs, right_runs, Stage, Driven, Comes, left_seen, right_seen, when_starting, when_working, way_asked, way_told, asked_turn}
-use Rattle.gos_nodes.proofs.parallel.OpenLemmas.{OpenAgree, IsApart, opened_so, put_agrees, taken_agrees, Lies, in_part, at_import, at_driver, lies, comes_by, firing_same, side_step}
+use Rattle.gos_nodes.proofs.parallel.OpenLemmas.{OpenAgree, IsApart, comes_by, side_step}
+use Rattle.gos_nodes.proofs.parallel.AskedLemmas.{with_itself, with_other, peel, local_past, contact_part, asked_next, told_next, asked_agrees, told_agrees, welcome_inside, last_well}
 
 -- a token that lies at an end under its own name
 pub lies_open : (r : Plan) (e : End) (o : Open) (s : Tokens) (v : ℕ) → handshake_at r e ≡ e → held.AllFit o s → token_at r s e Answer ≡ Some v → o e ≡ true
@@ -92,12 +92,6 @@ module _
   result_apart_right : IsApart g q (ResultEnd 0)
   result_apart_right n held = apart_is_not_same (ResultEnd 0) (lies_at g n) (λ e. not_result 1 g (lies_at g n) (lies d 1 g r q is.right n held) (sym e))
 
-  free_p : places_of p (ResultEnd 0) ≡ None → places_of r (PartEnd d 0) ≡ None
-  free_p = free_left d f g r p q is
-
-  free_q : places_of q (ResultEnd 0) ≡ None → places_of r (PartEnd d 1) ≡ None
-  free_q = free_right d f g r p q is
-
   -- what is open in the whole and in its regions
   pub record Opened (past : List Pass) (o left_open right_open : Open) (s : Tokens) : Type 0 where
     pub left : OpenAgree f p o left_open
@@ -123,10 +117,7 @@ module _
   right_name = not_serving 1 (λ c e serve. asks_only (asks 0 0) c e refl serve)
 
   result_name : handshake_at r (ResultEnd 0) ≡ ResultEnd 0
-  result_name = ap (λ o. named_by o (ResultEnd 0)) (gate_at_result d f g r p q is)
-
-  run_name : handshake_at r (PartEnd d 2) ≡ ResultEnd 0
-  run_name = ap (λ o. named_by o (PartEnd d 2)) (gate_at_part d f g r p q is)
+  result_name = ap (λ o. named_by o (ResultEnd 0)) (result_gate (is_run d f g r p q is))
 
   -- the rows of the part
   pub par_firing : (slot : Slot) (row : Row) (ph : Phase) (s : Tokens) → (s.state d).phase ≡ ph → row_for slot (rows kinds.Par ph (s.state d).number) ≡ Some row
@@ -145,7 +136,7 @@ module _
   welcome_part s o up stage left_waits right_waits fit (Req (suc zero)) c v there way lies =
       let bad : Answer ≡ Request = ap (λ (x : Contact). way_taken x.role) (same_Some (asks 0 0) c there) ∙ way in absurd (cc bad)
   welcome_part s o up stage left_waits right_waits fit (Req (suc (suc zero))) c v there way lies =
-      let some : gate s Request ≡ Some v = sym (ap (held_at s Request) (gate_at_part d f g r p q is)) ∙ lies in
+      let some : gate s Request ≡ Some v = sym (ap (held_at s Request) (part_gate (is_run d f g r p q is))) ∙ lies in
       let (opened, rest, empty) = when_starting up (s.state d).phase (gate s Request) (gate s Answer) v stage some in
       (begin_row (s.state d).number, par_firing (Req 2) (begin_row (s.state d).number) Rest s rest refl)
   welcome_part s o up stage left_waits right_waits fit (Req (suc (suc (suc n)))) c v there way lies = absurd (none-some c there)
@@ -171,23 +162,6 @@ module _
       let bad : Request ≡ Answer = ap (λ (x : Contact). way_taken x.role) (same_Some (serves 0 0) c there) ∙ way in absurd (cc bad)
   welcome_part s o up stage left_waits right_waits fit (Ans (suc (suc (suc n)))) c v there way lies = absurd (none-some c there)
 
-  welcome_side : (h : ℕ) (c : Cut) (a : Plan) (side : IsSide d h c r a) → (places_of a (ResultEnd 0) ≡ None → places_of r (PartEnd d h) ≡ None)
-      → (s : Tokens) → AllWelcome a (cut_tokens c a s)
-      → (i : ℕ) → IsPartOf c i → (t : Slot) (x : Contact) (v : ℕ) → contact_at r (end_of i t) ≡ Some x → way_taken x.role ≡ way_of t
-      → token_at r s (end_of i t) (way_of t) ≡ Some v → (row : Row) × (firing_of (slice_get r.parts i) (s.state i) t ≡ Some row)
-  welcome_side h c a side free s welcome i (j, number) t x v there way lies =
-      let (at, (k, part)) = side.cut.numbers i j number in
-      let whole = (side.cut.parts j k part).0 in
-      let same_part : slice_get a.parts j ≡ slice_get r.parts i = part ∙ (sym whole ∙ ap (λ n. slice_get r.parts n) at) in
-      let (row, by) = welcome j t x v (ap (λ o. slice_get (contacts_of_part o) (shake_of t)) same_part ∙ there) way
-      (region.held_token d h c r a side free (end_of j t) (inl (k, part)) s (way_of t)
-      ∙ (ap (λ n. token_at r s (PartEnd n (shake_of t)) (way_of t)) at ∙ lies)) in
-      (row, ap (λ n. firing_of (slice_get r.parts n) (s.state n) t) (sym at) ∙ (sym (firing_same d h c r a side free j k part t s) ∙ by))
-
-  contact_part : (o : Option Part) (h : ℕ) (c : Contact) → slice_get (contacts_of_part o) h ≡ Some c → (k : Part) × (o ≡ Some k)
-  contact_part None h c e = absurd (none-some c e)
-  contact_part (Some k) h c e = (k, refl)
-
   pub welcome_all : (s : Tokens) (past : List Pass) (o left_open right_open : Open) (up : Bool)
       → Stage up (s.state d).phase (gate s Request) (gate s Answer) → Opened past o left_open right_open s
       → AllWelcome p (cut_tokens f p s) → AllWelcome q (cut_tokens g q s) → AllWelcome r s
@@ -195,8 +169,8 @@ module _
       let (k, part) = contact_part (slice_get r.parts i) (shake_of t) c there in by_part (is.parts i k part)
     where
       by_part : (IsPartOf f i ⊎ IsPartOf g i) ⊎ (i ≡ d) → (row : Row) × (firing_of (slice_get r.parts i) (s.state i) t ≡ Some row)
-      by_part (inl (inl one)) = welcome_side 0 f p is.left free_p s left_welcome i one t c v there way lies
-      by_part (inl (inr other)) = welcome_side 1 g q is.right free_q s right_welcome i other t c v there way lies
+      by_part (inl (inl one)) = welcome_inside (hung_left d f g r p q is) s left_welcome i one t c v there way lies
+      by_part (inl (inr other)) = welcome_inside (hung_right d f g r p q is) s right_welcome i other t c v there way lies
       by_part (inr same) =
           let here : slice_get (part_contacts kinds.Par) (shake_of t) ≡ Some c =
           sym (ap (λ o. slice_get (contacts_of_part o) (shake_of t)) (ap (λ n. slice_get r.parts n) same ∙ is.driver)) ∙ there in
@@ -216,30 +190,6 @@ module _
     pub left_rest : OrderlyFrom p ys left_now (cut_tokens f p w) lu lt
     pub right_rest : OrderlyFrom q zs right_now (cut_tokens g q w) ru rt
 
-  -- the first element of a region's list
-  pub peel : (a : Plan) (y : Element) (ys : List Element) (own u : Open) (b w t : Tokens) → Does a y b w → OrderlyFrom a (y ∷ ys) own b u t
-      → (next : Open) × ComesInOrder a y b own next × AllWelcome a w × OrderlyFrom a ys next w u t
-  peel a y ys own u b w t does (next, v, also, comes, welcome, rest) =
-      let same : v ≡ w = one_state a y b v w also does in
-      (next, comes, subst (AllWelcome a) same welcome, subst (λ (z : Tokens). OrderlyFrom a ys next z u t) same rest)
-
-  contact_of : (a : Plan) → a.outcome ≡ Com → contact_at a (ResultEnd 0) ≡ Some (asks 0 0)
-  contact_of a outcome = ap (λ (t : Type'). turned_if (slice_get (contacts_of t) 0)) outcome
-
-  asked_own : (a : Plan) → a.outcome ≡ Com → (b : Tokens) (own next : Open) → ComesInOrder a (In (ResultEnd 0) 0) b own next
-      → next ≡ after_put a (ResultEnd 0) Request own
-  asked_own a outcome b own next comes = (comes (asks 0 0) (contact_of a outcome)).1
-
-  told_own : (a : Plan) → a.outcome ≡ Com → (v : ℕ) (b : Tokens) (own next : Open) → ComesInOrder a (Out (ResultEnd 0) v) b own next
-      → next ≡ after_taken a (ResultEnd 0) Answer own
-  told_own a outcome v b own next comes = comes (asks 0 0) (contact_of a outcome)
-
-  with_itself : (e : End) (b : Bool) (o : Open) → with_open e b o e ≡ b
-  with_itself e b o = ap (λ (t : Bool). if t then b else o e) (same_itself e)
-
-  with_other : (e n : End) (b : Bool) (o : Open) → (n ≡ e → ⊥) → with_open e b o n ≡ o n
-  with_other e n b o other = opened_so (same_end n e) b (o n) (apart_is_not_same n e other)
-
   one_not_zero : PartEnd d 1 ≡ PartEnd d 0 → ⊥
   one_not_zero = apart_shakes d 1 0 (λ e. omega (arith, e))
 
@@ -253,30 +203,6 @@ module _
   right_not_zero : (n : End) → Held q n → lies_at g n ≡ PartEnd d 0 → ⊥
   right_not_zero n held e = apart_ends (lies_at g n) (at_driver e) (lies d 1 g r q is.right n held)
 
-  left_put_agrees : (o own : Open) → OpenAgree f p o own → OpenAgree f p (with_open (PartEnd d 0) true o) (after_put p (ResultEnd 0) Request own)
-  left_put_agrees o own agree =
-      subst (λ (x : Open). OpenAgree f p x (after_put p (ResultEnd 0) Request own))
-      (ap (λ (e : End). after_put r e Request o) is.left.result ∙ ap (λ (n : End). with_open n true o) left_name)
-      (put_agrees d 0 f r p is.left free_p (ResultEnd 0) Request o own (result_held p) agree)
-
-  right_put_agrees : (o own : Open) → OpenAgree g q o own → OpenAgree g q (with_open (PartEnd d 1) true o) (after_put q (ResultEnd 0) Request own)
-  right_put_agrees o own agree =
-      subst (λ (x : Open). OpenAgree g q x (after_put q (ResultEnd 0) Request own))
-      (ap (λ (e : End). after_put r e Request o) is.right.result ∙ ap (λ (n : End). with_open n true o) right_name)
-      (put_agrees d 1 g r q is.right free_q (ResultEnd 0) Request o own (result_held q) agree)
-
-  left_taken_agrees : (o own : Open) → OpenAgree f p o own → OpenAgree f p (with_open (PartEnd d 0) false o) (after_taken p (ResultEnd 0) Answer own)
-  left_taken_agrees o own agree =
-      subst (λ (x : Open). OpenAgree f p x (after_taken p (ResultEnd 0) Answer own))
-      (ap (λ (e : End). after_taken r e Answer o) is.left.result ∙ ap (λ (n : End). with_open n false o) left_name)
-      (taken_agrees d 0 f r p is.left free_p (ResultEnd 0) Answer o own (result_held p) agree)
-
-  right_taken_agrees : (o own : Open) → OpenAgree g q o own → OpenAgree g q (with_open (PartEnd d 1) false o) (after_taken q (ResultEnd 0) Answer own)
-  right_taken_agrees o own agree =
-      subst (λ (x : Open). OpenAgree g q x (after_taken q (ResultEnd 0) Answer own))
-      (ap (λ (e : End). after_taken r e Answer o) is.right.result ∙ ap (λ (n : End). with_open n false o) right_name)
-      (taken_agrees d 1 g r q is.right free_q (ResultEnd 0) Answer o own (result_held q) agree)
-
   module _ (past lefts rights : List Pass) (o lo ro lu ru : Open) (lt rt : Tokens) (ys zs : List Element) where
     abbrev Result : Element → Tokens → Tokens → Type 0
     Result x s w = Next x s w past o ys zs lu lt ru rt
@@ -286,7 +212,7 @@ module _
         → is_open past (ResultEnd 0) ≡ is_open (after r x past) (ResultEnd 0) → Result x s w
     on_left x y s w local does sees unseen same opened welcome left_list right_list past_same =
         let (next, own_comes, left_welcome, rest) = peel p y ys lo lu (cut_tokens f p s) (cut_tokens f p w) lt sees left_list in
-        let one = side_step d 0 f r p is.left free_p x y s w o lo next local opened.left does own_comes in
+        let one = side_step (hung_left d f g r p q is) x y s w o lo next local opened.left does own_comes in
         record {
           open_now = one.now;
           left_now = next;
@@ -312,7 +238,7 @@ module _
         → is_open past (ResultEnd 0) ≡ is_open (after r x past) (ResultEnd 0) → Result x s w
     on_right x y s w local does sees unseen same opened welcome left_list right_list past_same =
         let (next, own_comes, right_welcome, rest) = peel q y zs ro ru (cut_tokens g q s) (cut_tokens g q w) rt sees right_list in
-        let one = side_step d 1 g r q is.right free_q x y s w o ro next local opened.right does own_comes in
+        let one = side_step (hung_right d f g r p q is) x y s w o ro next local opened.right does own_comes in
         record {
           open_now = one.now;
           left_now = lo;
@@ -370,8 +296,8 @@ module _
         peel p (In (ResultEnd 0) 0) ys lo lu (cut_tokens f p s) (cut_tokens f p w) lt left left_list in
         let (right_next, right_comes, right_welcome, right_rest) =
         peel q (In (ResultEnd 0) 0) zs ro ru (cut_tokens g q s) (cut_tokens g q w) rt right right_list in
-        let left_is = asked_own p is.left.outcome (cut_tokens f p s) lo left_next left_comes in
-        let right_is = asked_own q is.right.outcome (cut_tokens g q s) ro right_next right_comes in
+        let left_is = asked_next (hung_left d f g r p q is) (cut_tokens f p s) lo left_next left_comes in
+        let right_is = asked_next (hung_right d f g r p q is) (cut_tokens g q s) ro right_next right_comes in
         let n = (s.state d).number in
         let shut_left : o (PartEnd d 0) ≡ false = opened.left_waits ∙ ap left_runs rest in
         let shut_right : o (PartEnd d 1) ≡ false = opened.right_waits ∙ ap right_runs rest in
@@ -396,9 +322,9 @@ module _
               record {
                 left = λ n held.
                     with_other (PartEnd d 1) (lies_at f n) true first (left_not_one n held)
-                    ∙ (left_put_agrees o lo opened.left n held ∙ ap (λ (x : Open). x n) (sym left_is));
+                    ∙ (asked_agrees (hung_left d f g r p q is) left_name o lo opened.left n held ∙ ap (λ (x : Open). x n) (sym left_is));
                 right = λ n held.
-                    right_put_agrees first ro (λ m also. with_other (PartEnd d 0) (lies_at g m) true o (right_not_zero m also) ∙ opened.right m also) n held
+                    asked_agrees (hung_right d f g r p q is) right_name first ro (λ m also. with_other (PartEnd d 0) (lies_at g m) true o (right_not_zero m also) ∙ opened.right m also) n held
                     ∙ ap (λ (x : Open). x n) (sym right_is);
                 result = opened.result;
                 left_waits = with_other (PartEnd d 1) (PartEnd d 0) true first zero_not_one ∙ (with_itself (PartEnd d 0) true o ∙ sym (ap left_runs both));
@@ -425,7 +351,7 @@ module _
     left_answers v s w does sees unseen opened welcome left_list right_list shut same comes =
         let (next, own_comes, left_welcome, rest) =
         peel p (Out (ResultEnd 0) v) ys lo lu (cut_tokens f p s) (cut_tokens f p w) lt sees left_list in
-        let next_is = told_own p is.left.outcome v (cut_tokens f p s) lo next own_comes in
+        let next_is = told_next (hung_left d f g r p q is) v (cut_tokens f p s) lo next own_comes in
         record {
           open_now = with_open (PartEnd d 0) false o;
           left_now = next;
@@ -433,7 +359,7 @@ module _
           comes = comes;
           opened =
               record {
-                left = λ n held. left_taken_agrees o lo opened.left n held ∙ ap (λ (x : Open). x n) (sym next_is);
+                left = λ n held. told_agrees (hung_left d f g r p q is) left_name o lo opened.left n held ∙ ap (λ (x : Open). x n) (sym next_is);
                 right = λ n held. with_other (PartEnd d 0) (lies_at g n) false o (right_not_zero n held) ∙ opened.right n held;
                 result = opened.result;
                 left_waits = with_itself (PartEnd d 0) false o ∙ sym shut;
@@ -453,7 +379,7 @@ module _
     right_answers v s w does sees unseen opened welcome left_list right_list shut same comes =
         let (next, own_comes, right_welcome, rest) =
         peel q (Out (ResultEnd 0) v) zs ro ru (cut_tokens g q s) (cut_tokens g q w) rt sees right_list in
-        let next_is = told_own q is.right.outcome v (cut_tokens g q s) ro next own_comes in
+        let next_is = told_next (hung_right d f g r p q is) v (cut_tokens g q s) ro next own_comes in
         record {
           open_now = with_open (PartEnd d 1) false o;
           left_now = lo;
@@ -462,7 +388,7 @@ module _
           opened =
               record {
                 left = λ n held. with_other (PartEnd d 1) (lies_at f n) false o (left_not_one n held) ∙ opened.left n held;
-                right = λ n held. right_taken_agrees o ro opened.right n held ∙ ap (λ (x : Open). x n) (sym next_is);
+                right = λ n held. told_agrees (hung_right d f g r p q is) right_name o ro opened.right n held ∙ ap (λ (x : Open). x n) (sym next_is);
                 result = opened.result;
                 left_waits = with_other (PartEnd d 1) (PartEnd d 0) false o zero_not_one ∙ (opened.left_waits ∙ sym same);
                 right_waits = with_itself (PartEnd d 1) false o ∙ sym shut;
@@ -474,45 +400,20 @@ module _
           right_rest = rest;
         }
 
-    -- the last answer is passed on, where the result is open and nothing lies on its joint
-    last_well : (h : ℕ) (s : Tokens) → Differ h 2 → handshake_at r (PartEnd d h) ≡ PartEnd d h → o (ResultEnd 0) ≡ true
-        → gate s Request ≡ None → gate s Answer ≡ None
-        → ComesWell r (PartEnd d 2) Answer (after_taken r (PartEnd d h) Answer o) (with_state d (at Rest (s.state d).number) (with_token r (PartEnd d h) Answer None s))
-    last_well h s other name up none empty = (
-      (λ i. with_open (name i) false o (run_name i)) ∙ up,
-      λ way.
-          ap (held_at (with_state d (at Rest (s.state d).number) (with_token r (PartEnd d h) Answer None s)) way) (gate_at_part d f g r p q is)
-          ∙ (gate_apart d f g r p q is h other Answer None s way ∙ nothing way),
-    )
-      where
-        nothing : (way : Direction) → gate s way ≡ None
-        nothing Request = none
-        nothing Answer = empty
-
     pub order_step : (x : Element) (s w : Tokens) (z : Step d f g r p q x s w) → IsSeen d f g r p q x s w z → Does r x s w → Driven d past lefts rights s → Comes r past x
         → Opened past o lo ro s
         → AllWelcome p (cut_tokens f p s) → AllWelcome q (cut_tokens g q s)
         → OrderlyFrom p (left_seen d f g r p q is literals x s w z ++ ys) lo (cut_tokens f p s) lu lt
         → OrderlyFrom q (right_seen d f g r p q is literals x s w z ++ zs) ro (cut_tokens g q s) ru rt → Result x s w
     order_step x s w (of_left x' y s' t' local sees unseen same) seen does driven comes opened left_welcome right_welcome left_list right_list =
-        on_left x' y s' t' local does sees unseen same opened right_welcome left_list right_list (local_past f p x' y local)
-      where
-        local_past : (c : Cut) (a : Plan) (x y : Element) → Local c r a x y → is_open past (ResultEnd 0) ≡ is_open (after r x past) (ResultEnd 0)
-        local_past c a x y (fires i j k number) = refl
-        local_past c a x y (puts_out i j k v stands leads slices) = refl
-        local_past c a x y (takes_in i j k v stands leads slices) = refl
+        on_left x' y s' t' local does sees unseen same opened right_welcome left_list right_list (local_past f r p past x' y local)
     order_step x s w (of_right x' y s' t' local sees unseen same) seen does driven comes opened left_welcome right_welcome left_list right_list =
-        on_right x' y s' t' local does sees unseen same opened left_welcome left_list right_list (local_past g q x' y local)
-      where
-        local_past : (c : Cut) (a : Plan) (x y : Element) → Local c r a x y → is_open past (ResultEnd 0) ≡ is_open (after r x past) (ResultEnd 0)
-        local_past c a x y (fires i j k number) = refl
-        local_past c a x y (puts_out i j k v stands leads slices) = refl
-        local_past c a x y (takes_in i j k v stands leads slices) = refl
+        on_right x' y s' t' local does sees unseen same opened left_welcome left_list right_list (local_past g r q past x' y local)
     order_step x s w (asked v s' t' small left right state ask ans) seen does driven comes opened left_welcome right_welcome left_list right_list =
         at_result (In (ResultEnd 0) v) s' t' true does left right state opened left_welcome right_welcome left_list right_list
         (sym (ap is_request (way_asked d f g r p q is literals r is.outcome)))
         (λ c there.
-        let same : asks 0 0 ≡ c = same_Some (asks 0 0) c (sym (contact_of r is.outcome) ∙ there) in
+        let same : asks 0 0 ≡ c = same_Some (asks 0 0) c (sym (result_contact d f g r p q is) ∙ there) in
         subst (λ (y : Contact). ComesWell r (ResultEnd 0) (way_put y.role) o s' × (with_open (ResultEnd 0) true o ≡ after_put r (ResultEnd 0) (way_put y.role) o)) same (
           ap o result_name ∙ (opened.result ∙ asked_turn d f g r p q is literals past comes),
           ap (λ (n : End). with_open n true o) (sym result_name),
@@ -521,7 +422,7 @@ module _
         at_result (Out (ResultEnd 0) v) s' t' false does left right state opened left_welcome right_welcome left_list right_list
         (sym (ap is_request (way_told d f g r p q is literals r is.outcome)))
         (λ c there.
-        let same : asks 0 0 ≡ c = same_Some (asks 0 0) c (sym (contact_of r is.outcome) ∙ there) in
+        let same : asks 0 0 ≡ c = same_Some (asks 0 0) c (sym (result_contact d f g r p q is) ∙ there) in
         subst (λ (y : Contact). with_open (ResultEnd 0) false o ≡ after_taken r (ResultEnd 0) (way_taken y.role) o) same
         (ap (λ (n : End). with_open n false o) (sym result_name)))
     order_step x s w (starts v s' t' left right rest ask both none ans) seen does driven comes opened left_welcome right_welcome left_list right_list =
@@ -544,7 +445,7 @@ module _
         left_answers v s' t' does left right opened right_welcome left_list right_list (ap left_runs rest) (ap right_runs rest ∙ sym (ap right_runs phase))
         (comes_by r d (Ans 0) s' t' o (with_open (PartEnd d 0) false o) row does (par_firing (Ans 0) row LeftOnly s' phase refl)
         (λ v. (
-          (last_well 0 s' (λ e. omega (arith, e)) left_name (opened.result ∙ up) none empty, tt),
+          (last_well (is_run d f g r p q is) 0 s' (at Rest (s'.state d).number) o (λ e. omega (arith, e)) left_name (opened.result ∙ up) none empty, tt),
           ap (λ (n : End). with_open n false o) (sym left_name),
         )))
     order_step x s w (right_ends_all v s' t' right left phase rest ask ans) seen does driven comes opened left_welcome right_welcome left_list right_list =
@@ -555,7 +456,7 @@ module _
         right_answers v s' t' does right left opened left_welcome left_list right_list (ap right_runs rest) (ap left_runs rest ∙ sym (ap left_runs phase))
         (comes_by r d (Ans 1) s' t' o (with_open (PartEnd d 1) false o) row does (par_firing (Ans 1) row RightOnly s' phase refl)
         (λ v. (
-          (last_well 1 s' (λ e. omega (arith, e)) right_name (opened.result ∙ up) none empty, tt),
+          (last_well (is_run d f g r p q is) 1 s' (at Rest (s'.state d).number) o (λ e. omega (arith, e)) right_name (opened.result ∙ up) none empty, tt),
           ap (λ (n : End). with_open n false o) (sym right_name),
         )))
     order_step x s w (lost j k v s' t' c there not_left not_right left right same) seen does driven comes opened left_welcome right_welcome left_list right_list =

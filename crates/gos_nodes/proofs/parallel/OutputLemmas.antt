@@ -1,32 +1,21 @@
 -- The outputs of the whole keep turns where those of its regions do.
-use Rattle.std.specs.Prelude.{◌≡◌, ◌<◌, ℕ, List, ◌∷◌, ◌++◌, Option, Some, All, slice_get}
-use Rattle.std.proofs.Common.{sym, ap, subst, ◌∙◌}
-use Rattle.std.proofs.lemmas.Option.{slice_get_within}
+use Rattle.std.specs.Prelude.{◌≡◌, ℕ, List, ◌∷◌, ◌++◌, All}
+use Rattle.std.proofs.Common.{sym, subst, ◌∙◌}
 use Rattle.gos_types.specs.Events.{Direction, Request, Answer}
-use Rattle.gos_model.specs.Typing.{Imported}
-use Rattle.gos_plan.specs.Plans.{End, ImportEnd, ResultEnd, Plan, contact_at, contacts_of_import}
+use Rattle.gos_plan.specs.Plans.{End, ImportEnd, ResultEnd, Plan, contact_at}
 use Rattle.gos_plan.specs.Tokens.{Tokens, Element}
 use Rattle.gos_plan.specs.TokenBits.{LiteralFits}
-use Rattle.gos_plan.proofs.JointLemmas.{contained, joined, stands_there}
-use Rattle.gos_joining.specs.webs.Cutting.{Cut, StandsIn}
-use Rattle.gos_realises.specs.realises.Regular.{Pass, way_out, is_open, count, ComesInTurn, OutputsKeepTurns}
+use Rattle.gos_joining.specs.webs.Cutting.{Cut}
+use Rattle.gos_realises.specs.realises.Regular.{Pass, way_out, is_open, ComesInTurn, OutputsKeepTurns}
 use Rattle.gos_realises.proofs.realises.RingLemmas.{after, OutputTurns}
-use Rattle.gos_realises.proofs.realises.ToldLemmas.{there_is}
+use Rattle.gos_nodes.proofs.parallel.GateLemmas.{gate}
+use Rattle.gos_nodes.proofs.parallel.HungLemmas.{Local, fires, puts_out, takes_in, import_contact}
 use Rattle.gos_nodes.proofs.windows.MeetLemmas.{HasPorts, met_joined}
 use Rattle.gos_nodes.proofs.windows.TurnLemmas.{Turned}
-use Rattle.gos_nodes.specs.parallel.Parallel.{IsSide, IsParallel}
-use Rattle.gos_nodes.proofs.parallel.StepLemmas.{gate, Local, fires, puts_out, takes_in, Step, of_left, of_right, asked, told, starts, left_ends, right_ends, left_ends_all, right_ends_all, lost}
+use Rattle.gos_nodes.specs.parallel.Parallel.{IsParallel}
+use Rattle.gos_nodes.proofs.parallel.StepLemmas.{Step, of_left, of_right, asked, told, starts, left_ends, right_ends, left_ends_all, right_ends_all, lost, hung_left, hung_right}
 use Rattle.gos_nodes.proofs.parallel.SharedLemmas.{Shared}
-use Rattle.gos_nodes.proofs.parallel.LinkedLemmas.{Driven, left_seen, right_seen, when_told, way_told, ways_left, ways_right}
-
--- an import that stands in a joint is there
-pub import_real : (o : Plan) (i k : ℕ) → (d h : ℕ) (f : Cut) (r : Plan) → IsSide d h f r o → StandsIn o (ImportEnd i k)
-    → (x : Imported) × (slice_get o.imports i ≡ Some x) × (k < count x.ty)
-import_real o i k d h f r side (j, listing, stands) =
-    let place = stands_there o j (ImportEnd i k) side.cut.right (contained o.joints j listing) stands in
-    let one = joined o (ImportEnd i k) j.asking side.cut.right place in
-    let (x, at) = there_is o.imports i k one.here one.is_here in
-    (x, at, slice_get_within _ k one.here (sym (ap (λ (n : Option Imported). slice_get (contacts_of_import n) k) at) ∙ one.is_here))
+use Rattle.gos_nodes.proofs.parallel.LinkedLemmas.{Driven, left_seen, right_seen, when_told, way_told}
 
 module _
     (d : ℕ) (f g : Cut) (r p q : Plan) (is : IsParallel d f g r p q) (literals : All LiteralFits r.parts) (left_ports : HasPorts r f p)
@@ -40,7 +29,7 @@ module _
       → OutputsKeepTurns p lefts (y ∷ zs) → Turned r (after r x past) → OutputTurns r past x
   local_left_turn x y past lefts rights s zs (fires i j k number) shared keeps turned = tt
   local_left_turn x y past lefts rights s zs (puts_out i j k v stands leads slices) shared keeps turned = (
-    subst (λ o. ComesInTurn past (ImportEnd j k) (way_out o)) (sym (ways_left d f g r p q is literals i j k stands leads))
+    subst (λ o. ComesInTurn past (ImportEnd j k) (way_out o)) (sym (import_contact (hung_left d f g r p q is) i j k stands leads))
         (back_turn past lefts (ImportEnd j k) (ImportEnd i k) (way_out (contact_at p (ImportEnd i k))) (sym (shared.left.same i k j (met_joined r f p i k j stands leads) leads)) keeps.0.0),
     turned,
   )
@@ -50,7 +39,7 @@ module _
       → OutputsKeepTurns q rights (y ∷ zs) → Turned r (after r x past) → OutputTurns r past x
   local_right_turn x y past lefts rights s zs (fires i j k number) shared keeps turned = tt
   local_right_turn x y past lefts rights s zs (puts_out i j k v stands leads slices) shared keeps turned = (
-    subst (λ o. ComesInTurn past (ImportEnd j k) (way_out o)) (sym (ways_right d f g r p q is literals i j k stands leads))
+    subst (λ o. ComesInTurn past (ImportEnd j k) (way_out o)) (sym (import_contact (hung_right d f g r p q is) i j k stands leads))
         (back_turn past rights (ImportEnd j k) (ImportEnd i k) (way_out (contact_at q (ImportEnd i k))) (sym (shared.right.same i k j (met_joined r g q i k j stands leads) leads)) keeps.0.0),
     turned,
   )

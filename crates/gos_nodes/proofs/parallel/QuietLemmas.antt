@@ -1,5 +1,5 @@
 -- Where the whole is quiet its regions are, and where they and the part that asks them are idle the whole is.
-use Rattle.std.specs.Prelude.{◌≡◌, ◌⊎◌, ◌&&◌, ℕ, Bool, true, false, List, [], ◌∷◌, Option, Some, None, nat_eq, nat_lt, length, slice_get, if◌then◌else◌}
+use Rattle.std.specs.Prelude.{◌≡◌, ◌⊎◌, ◌&&◌, ℕ, Bool, true, false, List, [], ◌∷◌, Option, Some, None, nat_eq, nat_lt, length, Contains, slice_get, if◌then◌else◌}
 use Rattle.std.proofs.Common.{arith, refl, sym, ap, subst, inl, inr, ◌∙◌}
 use Rattle.std.proofs.lemmas.Option.{slice_get_within}
 use Rattle.gos_types.specs.Types.{IsDone}
@@ -16,11 +16,10 @@ use Rattle.gos_joining.specs.webs.Webs.{joint}
 use Rattle.gos_joining.specs.webs.Cutting.{Cut, lies_at, StandsIn, asks_in, cut_tokens}
 use Rattle.gos_joining.proofs.webs.MovedLemmas.{listed}
 use Rattle.gos_joining.proofs.webs.CutLemmas.{asker_asks, asks_one, asks_there}
-use Rattle.gos_realises.proofs.realises.InputLemmas.{result_asks}
 use Rattle.gos_nodes.specs.parallel.Parallel.{IsSide, IsJointOf, IsPartOf, IsParallel}
-use Rattle.gos_nodes.proofs.parallel.RegionLemmas as region
-use Rattle.gos_nodes.proofs.parallel.RegionLemmas.{result_held}
-use Rattle.gos_nodes.proofs.parallel.StepLemmas.{gate, passes_out, passes_in}
+use Rattle.gos_nodes.proofs.parallel.GateLemmas.{gate, passes_out, passes_in, there_contact, first_shake}
+use Rattle.gos_nodes.proofs.parallel.HungLemmas.{IsHung, result_held, held_token, import_contact}
+use Rattle.gos_nodes.proofs.parallel.StepLemmas.{hung_left, hung_right}
 use Rattle.gos_nodes.proofs.parallel.OpenLemmas.{firing_same}
 
 -- what is no place of a joint is empty, and what is no part is at rest
@@ -87,115 +86,118 @@ neat_step r (In e v) s w does neat =
 pub neat_first : (r : Plan) (s : Tokens) → IsIdle r s → Neat r s
 neat_first r s rests = record { places = λ way a none. rests.0 way a; states = λ i none. rests.1 i }
 
-module _ (d h : ℕ) (c : Cut) (r a : Plan) (side : IsSide d h c r a) where
+-- a port at which a token lies stands in a joint
+pub token_stands : (a : Plan) (i k : ℕ) (way : Direction) (v : ℕ) (s : Tokens) → token_at a s (ImportEnd i k) way ≡ Some v → StandsIn a (ImportEnd i k)
+token_stands a i k way v s lies = by_place (places_of a (ImportEnd i k)) refl
+  where
+    by_place : (o : Option End) → places_of a (ImportEnd i k) ≡ o → StandsIn a (ImportEnd i k)
+    by_place None none = absurd (nothing_there a (ImportEnd i k) way v s lies none)
+    by_place (Some n) named =
+        let there = found a.joints (ImportEnd i k) n named in (there.joint, listed a.joints there.joint there.is_in, there.stands)
+
+-- a whole is idle where its places are empty and its parts are at rest
+pub idle_by_parts : (r : Plan) (s : Tokens) → Neat r s
+    → ((x y : End) → Contains r.joints (joint x y) → (way : Direction) → s.in_place way x ≡ None)
+    → ((i : ℕ) (k : Part) → slice_get r.parts i ≡ Some k → (s.state i).phase ≡ Rest) → IsIdle r s
+idle_by_parts r s neat empty at_rest = (places, λ i. by_slice i (slice_get r.parts i) refl)
+  where
+    places : (way : Direction) (a : End) → s.in_place way a ≡ None
+    places way a = by_test (asks_in r.joints a) refl
+      where
+        by_test : (b : Bool) → asks_in r.joints a ≡ b → s.in_place way a ≡ None
+        by_test false e = neat.places way a e
+        by_test true e =
+            let one = asks_one r.joints a e in
+            ap (s.in_place way) one.asker ∙ empty one.joint.asking one.joint.serving (listed r.joints one.joint one.is_in) way
+
+    by_slice : (i : ℕ) (o : Option Part) → slice_get r.parts i ≡ o → (s.state i).phase ≡ Rest
+    by_slice i None e = neat.states i e
+    by_slice i (Some k) e = at_rest i k e
+
+module _ {d h w : ℕ} {f : Cut} {r p : Plan} (hung : IsHung d h w f r p) where
   -- a region that is idle leaves its places empty and its parts at rest
-  joint_empty : (s : Tokens) → IsIdle a (cut_tokens c a s) → (x y : End) → IsJointOf c a x y → (way : Direction) → s.in_place way x ≡ None
+  pub joint_empty : (s : Tokens) → IsIdle p (cut_tokens f p s) → (x y : End) → IsJointOf f p x y → (way : Direction) → s.in_place way x ≡ None
   joint_empty s rests x y (e, u, has, at, beyond) way =
-      let asks = asks_there a.joints (joint e u) (contained a.joints (joint e u) has) in
-      ap (s.in_place way) (sym at) ∙ (sym (ap (λ (b : Bool). if b then s.in_place way (lies_at c e) else None) asks) ∙ rests.0 way e)
+      let asks = asks_there p.joints (joint e u) (contained p.joints (joint e u) has) in
+      ap (s.in_place way) (sym at) ∙ (sym (ap (λ (b : Bool). if b then s.in_place way (lies_at f e) else None) asks) ∙ rests.0 way e)
 
-  part_rests : (s : Tokens) → IsIdle a (cut_tokens c a s) → (i : ℕ) → IsPartOf c i → (s.state i).phase ≡ Rest
+  pub part_rests : (s : Tokens) → IsIdle p (cut_tokens f p s) → (i : ℕ) → IsPartOf f i → (s.state i).phase ≡ Rest
   part_rests s rests i (j, number) =
-      let (at_part, (k, there)) = side.cut.numbers i j number in
-      let low = slice_get_within a.parts j k there in
-      let within : nat_lt j (length a.parts) ≡ true = grind (arith, low) in
+      let (at_part, (k, there)) = hung.cut.numbers i j number in
+      let low = slice_get_within p.parts j k there in
+      let within : nat_lt j (length p.parts) ≡ true = grind (arith, low) in
       ap (λ n. (s.state n).phase) (sym at_part)
-      ∙ (sym (ap (λ (b : Bool). (if b then s.state (c.part j) else at Rest 0).phase) within) ∙ rests.1 j)
+      ∙ (sym (ap (λ (b : Bool). (if b then s.state (f.part j) else at Rest 0).phase) within) ∙ rests.1 j)
 
-module _
-    (d h : ℕ) (c : Cut) (r a : Plan) (side : IsSide d h c r a)
-    (free : places_of a (ResultEnd 0) ≡ None → places_of r (PartEnd d h) ≡ None) where
-  some_contact : (x : Element) (o : Option Contact) (s t : Tokens) → Passes a x o s t → (y : Contact) × (o ≡ Some y)
-  some_contact x None s t passes = absurd passes
-  some_contact x (Some y) s t passes = (y, refl)
+  -- what lies at a port of the region lies in the whole
+  pub lies_there : (i k : ℕ) (way : Direction) (v : ℕ) (s : Tokens) → token_at p (cut_tokens f p s) (ImportEnd i k) way ≡ Some v
+      → token_at r s (f.outer (ImportEnd i k)) way ≡ Some v
+  lies_there i k way v s lies = sym (held_token hung (ImportEnd i k) (inl (token_stands p i k way v (cut_tokens f p s) lies)) s way) ∙ lies
 
-  token_stands : (i k : ℕ) (way : Direction) (v : ℕ) (s : Tokens) → token_at a s (ImportEnd i k) way ≡ Some v → StandsIn a (ImportEnd i k)
-  token_stands i k way v s lies = by_place (places_of a (ImportEnd i k)) refl
-    where
-      by_place : (o : Option End) → places_of a (ImportEnd i k) ≡ o → StandsIn a (ImportEnd i k)
-      by_place None none = absurd (nothing_there a (ImportEnd i k) way v s lies none)
-      by_place (Some n) named =
-          let there = found a.joints (ImportEnd i k) n named in (there.joint, listed a.joints there.joint there.is_in, there.stands)
-
-  import_out : (i k v : ℕ) (s u : Tokens) (t : Contact) → contact_at a (ImportEnd i k) ≡ Some t
-      → token_at a (cut_tokens c a s) (ImportEnd i k) (way_taken t.role) ≡ Some v
-      → (j : ℕ) × (w : Tokens) × Does r (Out (ImportEnd j k) v) s w
-  import_out i k v s u t there lies =
-      let stands = token_stands i k (way_taken t.role) v (cut_tokens c a s) lies in
-      let (j, leads, same) = side.imports i k stands in
-      let contact : contact_at r (ImportEnd j k) ≡ Some t = ap (contact_at r) (sym leads) ∙ (side.cut.contacts (ImportEnd i k) tt stands ∙ there) in
-      let here : token_at r s (ImportEnd j k) (way_taken t.role) ≡ Some v =
-      ap (λ (e : End). token_at r s e (way_taken t.role)) (sym leads)
-      ∙ (sym (region.held_token d h c r a side free (ImportEnd i k) (inl stands) s (way_taken t.role)) ∙ lies) in
+  -- an output of the region at an import of the whole is one of the whole
+  pub import_quiet : (i k v : ℕ) (s u : Tokens) → IsQuiet r s → (StandsIn p (ImportEnd i k) → (j : ℕ) × (f.outer (ImportEnd i k) ≡ ImportEnd j k))
+      → Passes p (Out (ImportEnd i k) v) (contact_at p (ImportEnd i k)) (cut_tokens f p s) u → ⊥
+  import_quiet i k v s u quiet leads passes =
+      let (t, there) = there_contact p (Out (ImportEnd i k) v) (contact_at p (ImportEnd i k)) (cut_tokens f p s) u passes in
+      let lies = (subst (λ (o : Option Contact). Passes p (Out (ImportEnd i k) v) o (cut_tokens f p s) u) there passes).0 in
+      let stands = token_stands p i k (way_taken t.role) v (cut_tokens f p s) lies in
+      let (j, at) = leads stands in
+      let here = ap (λ (e : End). token_at r s e (way_taken t.role)) (sym at) ∙ lies_there i k (way_taken t.role) v s lies in
       let next = with_token r (ImportEnd j k) (way_taken t.role) None s in
-      (j, next, (tt, subst (λ (o : Option Contact). Passes r (Out (ImportEnd j k) v) o s next) (sym contact) (here, refl)))
+      quiet.1 (ImportEnd j k) v next
+      (tt, subst (λ (o : Option Contact). Passes r (Out (ImportEnd j k) v) o s next) (sym (import_contact hung i j k stands at ∙ there)) (here, refl))
 
-  pub side_quiet : (s : Tokens) → IsQuiet r s
-      → ((v : ℕ) → token_at r s (PartEnd d h) Answer ≡ Some v → (w : Tokens) × Does r (Fire d (Ans h)) s w) → IsQuiet a (cut_tokens c a s)
-  side_quiet s quiet answered = (no_fire, no_out)
+  -- where the whole is quiet so is the region, if the part takes its answer, and its outputs at imports are taken
+  pub region_quiet : IsDone p.outcome → (s : Tokens) → IsQuiet r s
+      → ((v : ℕ) → token_at r s (PartEnd d h) Answer ≡ Some v → (u : Tokens) × Does r (Fire d (Ans h)) s u)
+      → ((i k v : ℕ) (u : Tokens) → Passes p (Out (ImportEnd i k) v) (contact_at p (ImportEnd i k)) (cut_tokens f p s) u → ⊥)
+      → IsQuiet p (cut_tokens f p s)
+  region_quiet done s quiet answered imports = (no_fire, no_out)
     where
-      no_fire : (j : ℕ) (t : Slot) (u : Tokens) → Does a (Fire j t) (cut_tokens c a s) u → ⊥
+      no_fire : (j : ℕ) (t : Slot) (u : Tokens) → Does p (Fire j t) (cut_tokens f p s) u → ⊥
       no_fire j t u (v, row, lies, by, leads) =
-          let (k, there) = firing_part (slice_get a.parts j) ((cut_tokens c a s).state j) t row by in
-          quiet.0 (c.part j) t (fired r (c.part j) row v s) (
+          let (k, there) = firing_part (slice_get p.parts j) ((cut_tokens f p s).state j) t row by in
+          quiet.0 (f.part j) t (fired r (f.part j) row v s) (
             v,
             row,
-            sym (region.held_token d h c r a side free (end_of j t) (inl (k, there)) s (way_of t)) ∙ lies,
-            sym (firing_same d h c r a side free j k there t s) ∙ by,
+            sym (held_token hung (end_of j t) (inl (k, there)) s (way_of t)) ∙ lies,
+            sym (firing_same hung j k there t s) ∙ by,
             refl,
           )
 
-      at_result : (v : ℕ) (u : Tokens) → Passes a (Out (ResultEnd 0) v) (contact_at a (ResultEnd 0)) (cut_tokens c a s) u → ⊥
+      at_result : (v : ℕ) (u : Tokens) → Passes p (Out (ResultEnd 0) v) (contact_at p (ResultEnd 0)) (cut_tokens f p s) u → ⊥
       at_result v u passes =
-          let here = subst (λ (o : Option Contact). Passes a (Out (ResultEnd 0) v) o (cut_tokens c a s) u) (region.result_there d h c r a side) passes in
+          let here = subst (λ (o : Option Contact). Passes p (Out (ResultEnd 0) v) o (cut_tokens f p s) u) hung.there passes in
           let lies : token_at r s (PartEnd d h) Answer ≡ Some v =
-          ap (λ (e : End). token_at r s e Answer) (sym side.result)
-          ∙ (sym (region.held_token d h c r a side free (ResultEnd 0) (result_held a) s Answer) ∙ here.0) in
-          let (w, does) = answered v lies in quiet.0 d (Ans h) w does
+          ap (λ (e : End). token_at r s e Answer) (sym hung.result) ∙ (sym (held_token hung (ResultEnd 0) (result_held p) s Answer) ∙ here.0) in
+          let (next, does) = answered v lies in quiet.0 d (Ans h) next does
 
-      no_out : (e : End) (v : ℕ) (u : Tokens) → Does a (Out e v) (cut_tokens c a s) u → ⊥
+      no_out : (e : End) (v : ℕ) (u : Tokens) → Does p (Out e v) (cut_tokens f p s) u → ⊥
       no_out (PartEnd i k) v u (port, passes) = port
-      no_out (ImportEnd i k) v u (port, passes) =
-          let (t, there) = some_contact (Out (ImportEnd i k) v) (contact_at a (ImportEnd i k)) (cut_tokens c a s) u passes in
-          let here = subst (λ (o : Option Contact). Passes a (Out (ImportEnd i k) v) o (cut_tokens c a s) u) there passes in
-          let (j, w, does) = import_out i k v s u t there here.0 in quiet.1 (ImportEnd j k) v w does
+      no_out (ImportEnd i k) v u (port, passes) = imports i k v u passes
       no_out (ResultEnd k) v u (port, passes) =
-          let (t, there) = some_contact (Out (ResultEnd k) v) (contact_at a (ResultEnd k)) (cut_tokens c a s) u passes in
-          let (none, role) = result_asks a.outcome (subst IsDone (sym side.outcome) tt) k t there in
-          at_result v u (subst (λ n. Passes a (Out (ResultEnd n) v) (contact_at a (ResultEnd n)) (cut_tokens c a s) u) none passes)
+          let none = first_shake p done k (Out (ResultEnd k) v) (cut_tokens f p s) u passes in
+          at_result v u (subst (λ n. Passes p (Out (ResultEnd n) v) (contact_at p (ResultEnd n)) (cut_tokens f p s) u) none passes)
+
+pub side_quiet : (d h : ℕ) (f : Cut) (r p : Plan) → IsSide d h f r p → IsHung d h 0 f r p → (s : Tokens) → IsQuiet r s
+    → ((v : ℕ) → token_at r s (PartEnd d h) Answer ≡ Some v → (u : Tokens) × Does r (Fire d (Ans h)) s u) → IsQuiet p (cut_tokens f p s)
+side_quiet d h f r p side hung s quiet answered =
+    region_quiet hung (subst IsDone (sym side.outcome) tt) s quiet answered
+    (λ i k v u passes. import_quiet hung i k v s u quiet (λ stands. let (j, leads, same) = side.imports i k stands in (j, leads)) passes)
 
 module _ (d : ℕ) (f g : Cut) (r p q : Plan) (is : IsParallel d f g r p q) where
   pub whole_idle : (s : Tokens) → Neat r s → IsIdle p (cut_tokens f p s) → IsIdle q (cut_tokens g q s) → (s.state d).phase ≡ Rest
       → gate s Request ≡ None → gate s Answer ≡ None → IsIdle r s
-  whole_idle s neat left right rest none empty = (places, states)
+  whole_idle s neat left right rest none empty =
+      idle_by_parts r s neat (λ x y has way. by_joint way x y (is.joints x y has)) (λ i k there. by_part i (is.parts i k there))
     where
-      nothing : (way : Direction) → gate s way ≡ None
-      nothing Request = none
-      nothing Answer = empty
-
       by_joint : (way : Direction) (x y : End) → (IsJointOf f p x y ⊎ IsJointOf g q x y) ⊎ ((x ≡ ResultEnd 0) × (y ≡ PartEnd d 2)) → s.in_place way x ≡ None
-      by_joint way x y (inl (inl one)) = joint_empty d 0 f r p is.left s left x y one way
-      by_joint way x y (inl (inr one)) = joint_empty d 1 g r q is.right s right x y one way
-      by_joint way x y (inr (at, beyond)) = ap (s.in_place way) at ∙ nothing way
-
-      places : (way : Direction) (a : End) → s.in_place way a ≡ None
-      places way a = by_test (asks_in r.joints a) refl
-        where
-          by_test : (b : Bool) → asks_in r.joints a ≡ b → s.in_place way a ≡ None
-          by_test false e = neat.places way a e
-          by_test true e =
-              let one = asks_one r.joints a e in
-              ap (s.in_place way) one.asker
-              ∙ by_joint way one.joint.asking one.joint.serving (is.joints one.joint.asking one.joint.serving (listed r.joints one.joint one.is_in))
+      by_joint way x y (inl (inl one)) = joint_empty (hung_left d f g r p q is) s left x y one way
+      by_joint way x y (inl (inr one)) = joint_empty (hung_right d f g r p q is) s right x y one way
+      by_joint Request x y (inr (at, beyond)) = ap (s.in_place Request) at ∙ none
+      by_joint Answer x y (inr (at, beyond)) = ap (s.in_place Answer) at ∙ empty
 
       by_part : (i : ℕ) → (IsPartOf f i ⊎ IsPartOf g i) ⊎ (i ≡ d) → (s.state i).phase ≡ Rest
-      by_part i (inl (inl one)) = part_rests d 0 f r p is.left s left i one
-      by_part i (inl (inr one)) = part_rests d 1 g r q is.right s right i one
+      by_part i (inl (inl one)) = part_rests (hung_left d f g r p q is) s left i one
+      by_part i (inl (inr one)) = part_rests (hung_right d f g r p q is) s right i one
       by_part i (inr same) = ap (λ n. (s.state n).phase) same ∙ rest
-
-      states : (i : ℕ) → (s.state i).phase ≡ Rest
-      states i = by_slice (slice_get r.parts i) refl
-        where
-          by_slice : (o : Option Part) → slice_get r.parts i ≡ o → (s.state i).phase ≡ Rest
-          by_slice None e = neat.states i e
-          by_slice (Some k) e = by_part i (is.parts i k e)

@@ -23,18 +23,21 @@ use Rattle.gos_realises.proofs.realises.IdleLemmas.{idle_welcome}
 use Rattle.gos_realises.proofs.realises.RingLemmas.{after, OutputTurns}
 use Rattle.gos_sharing.proofs.behind.StepLemmas.{out_joined}
 use Rattle.gos_nodes.specs.windows.Nodes.{IsRestful}
+use Rattle.gos_nodes.proofs.parallel.GateLemmas.{gate, Same}
+use Rattle.gos_nodes.proofs.parallel.HungLemmas.{Unseen, Sees, Local, fires, puts_out, takes_in}
 use Rattle.gos_nodes.proofs.windows.RestLemmas.{closed_rests}
 use Rattle.gos_nodes.proofs.windows.OpenLemmas.{ground_heard}
 use Rattle.gos_nodes.proofs.windows.ClosingLemmas.{Ports, ports_after}
 use Rattle.gos_nodes.proofs.windows.MeetLemmas.{Meets, IsUnjoined, HasPorts, heard_meets}
 use Rattle.gos_nodes.proofs.windows.TurnLemmas.{Turned, closed_turned, open_before}
 use Rattle.gos_nodes.specs.parallel.Parallel.{IsParallel, OpenParallelIsRegular, OpenParallelIsRestful, ParallelIsRegular}
-use Rattle.gos_nodes.proofs.parallel.StepLemmas.{gate, Same, Unseen, Sees, Local, fires, puts_out, takes_in, Step, of_left, of_right, asked, told, starts, left_ends, right_ends, left_ends_all, right_ends_all, lost, IsSeen, step}
+use Rattle.gos_nodes.proofs.parallel.StepLemmas.{Step, of_left, of_right, asked, told, starts, left_ends, right_ends, left_ends_all, right_ends_all, lost, IsSeen, step}
 use Rattle.gos_nodes.proofs.parallel.LinkedLemmas.{left_runs, right_runs, Stage, when_told, Driven, Comes, past_all, left_seen, right_seen, seen_left_runs, seen_right_runs, fits_on, driven_step, driven_first}
 use Rattle.gos_nodes.proofs.parallel.SharedLemmas.{side_ports, left_done, right_done, Owner, on_left, on_right, Shared, shared_first, left_pass, right_pass, whole_turned, shared_step, left_input, right_input, seen_inputs}
 use Rattle.gos_nodes.proofs.parallel.HistoryLemmas.{passed_append, History, Grown, grow, grown, at_first}
 use Rattle.gos_nodes.proofs.parallel.OutputLemmas.{output_turn}
-use Rattle.gos_nodes.proofs.parallel.OrderLemmas.{Opened, welcome_all, peel, Next, order_step, opened_first}
+use Rattle.gos_nodes.proofs.parallel.OrderLemmas.{Opened, welcome_all, Next, order_step, opened_first}
+use Rattle.gos_nodes.proofs.parallel.AskedLemmas.{peel}
 use Rattle.gos_nodes.proofs.parallel.QuietLemmas.{Neat, neat_step, neat_first, whole_idle}
 use Rattle.gos_nodes.proofs.parallel.LooseLemmas.{loose_comes, loose_contact, loose_does, own_now, opened_left, opened_right}
 
@@ -56,24 +59,43 @@ module _
   SharedHere = Shared d f g r p q is left_ports right_ports
 
   -- where the whole is, and its regions are
-  record Holds (s : Tokens) (past : List Pass) (hs ks : List Element) (o lo ro : Open) : Type 0 where
-    driven : Driven d past (passed p [] hs) (passed q [] ks) s
+  pub record Holds (s : Tokens) (past : List Pass) (hs ks : List Element) (o lo ro : Open) : Type 0 where
+    pub driven : Driven d past (passed p [] hs) (passed q [] ks) s
     shared : SharedHere past (passed p [] hs) (passed q [] ks)
-    left : History p (Lefts first) (Lefts s) hs lo
-    right : History q (Rights first) (Rights s) ks ro
+    pub left : History p (Lefts first) (Lefts s) hs lo
+    pub right : History q (Rights first) (Rights s) ks ro
     opened : Opened d f g r p q is literals past o lo ro s
-    fit : AllFit r s
+    pub fit : AllFit r s
     ports : Ports r is.left.cut.whole_right o past
 
-  record After (x : Element) (s w : Tokens) (past : List Pass) (o : Open) : Type 0 where
-    hs : List Element
-    ks : List Element
-    now : Open
-    lo : Open
-    ro : Open
+  -- which step an element is: one that the regions see by itself, or an input at an end in no joint, which is of one of them
+  pub data Went (x : Element) (s w : Tokens) : Type 0 where
+    is_seen : (z : Step d f g r p q x s w) → IsSeen d f g r p q x s w z → Went x s w
+    lost_left :
+        (k n v i : ℕ) (none : IsUnjoined r f p i n)
+        → none.import ≡ k → x ≡ In (ImportEnd k n) v → Sees f p (In (ImportEnd i n) v) s w → Unseen g q s w → Same d s w → Went x s w
+    lost_right :
+        (k n v i : ℕ) (none : IsUnjoined r g q i n)
+        → none.import ≡ k → x ≡ In (ImportEnd k n) v → Sees g q (In (ImportEnd i n) v) s w → Unseen f p s w → Same d s w → Went x s w
+
+  abbrev pub left_of : (x : Element) (s w : Tokens) → Went x s w → List Element
+  left_of x s w (is_seen z seen) = left_seen d f g r p q is literals x s w z
+  left_of x s w (lost_left k n v i none import at sees unseen same) = In (ImportEnd i n) v ∷ []
+  left_of x s w (lost_right k n v i none import at sees unseen same) = []
+
+  abbrev pub right_of : (x : Element) (s w : Tokens) → Went x s w → List Element
+  right_of x s w (is_seen z seen) = right_seen d f g r p q is literals x s w z
+  right_of x s w (lost_left k n v i none import at sees unseen same) = []
+  right_of x s w (lost_right k n v i none import at sees unseen same) = In (ImportEnd i n) v ∷ []
+
+  pub record After (x : Element) (s w : Tokens) (past : List Pass) (hs ks : List Element) (o : Open) : Type 0 where
+    pub went : Went x s w
+    pub now : Open
+    pub lo : Open
+    pub ro : Open
     comes : ComesInOrder r x s o now
     welcome : AllWelcome r w
-    holds : Holds w (after r x past) hs ks now lo ro
+    pub holds : Holds w (after r x past) (hs ++ left_of x s w went) (ks ++ right_of x s w went) now lo ro
     output : OutputTurns r past x
 
   -- one element more
@@ -84,15 +106,16 @@ module _
     abbrev rights : List Pass
     rights = passed q [] ks
 
-    finish : (ys zs : List Element) (left : Grown p (Lefts first) (Lefts s) (Lefts w) hs ys lo) (right : Grown q (Rights first) (Rights s) (Rights w) ks zs ro)
-        → Driven d (after r x past) (past_all p ys lefts) (past_all q zs rights) w → SharedHere (after r x past) (past_all p ys lefts) (past_all q zs rights)
+    finish : (went : Went x s w)
+        → (left : Grown p (Lefts first) (Lefts s) (Lefts w) hs (left_of x s w went) lo) (right : Grown q (Rights first) (Rights s) (Rights w) ks (right_of x s w went) ro)
+        → Driven d (after r x past) (past_all p (left_of x s w went) lefts) (past_all q (right_of x s w went) rights) w
+        → SharedHere (after r x past) (past_all p (left_of x s w went) lefts) (past_all q (right_of x s w went) rights)
         → (now left_now right_now : Open) → ComesInOrder r x s o now → Opened d f g r p q is literals (after r x past) now left_now right_now w
         → left.now ≡ left_now → right.now ≡ right_now → AllWelcome p (Lefts w) → AllWelcome q (Rights w) → (Turned r (after r x past) → OutputTurns r past x)
-        → After x s w past o
-    finish ys zs left right driven shared now left_now right_now comes opened left_is right_is left_welcome right_welcome output =
+        → After x s w past hs ks o
+    finish went left right driven shared now left_now right_now comes opened left_is right_is left_welcome right_welcome output =
         record {
-          hs = hs ++ ys;
-          ks = ks ++ zs;
+          went = went;
           now = now;
           lo = left_now;
           ro = right_now;
@@ -114,6 +137,12 @@ module _
               (whole_turned d f g r p q is left_ports right_ports (after r x past) (passed p [] (hs ++ ys)) (passed q [] (ks ++ zs)) w driven_on shared_on left.turned right.turned);
         }
       where
+        ys : List Element
+        ys = left_of x s w went
+
+        zs : List Element
+        zs = right_of x s w went
+
         left_past : past_all p ys lefts ≡ passed p [] (hs ++ ys)
         left_past = sym (passed_append p [] hs ys)
 
@@ -136,9 +165,9 @@ module _
     right_idle : IsIdle q (Rights first)
     right_idle = idle_is_cut g r q first rests
 
-    seen_step : (z : Step d f g r p q x s w) → IsSeen d f g r p q x s w z → InputTurns r past x → After x s w past o
+    seen_step : (z : Step d f g r p q x s w) → IsSeen d f g r p q x s w z → InputTurns r past x → After x s w past hs ks o
     seen_step z seen turn =
-        finish ys zs left right (driven_step d f g r p q is literals x s w z past lefts rights holds.driven comes_in)
+        finish (is_seen z seen) left right (driven_step d f g r p q is literals x s w z past lefts rights holds.driven comes_in)
         (shared_step d f g r p q is left_ports right_ports literals x s w z seen past lefts rights holds.shared) one.open_now one.left_now one.right_now one.comes one.opened
         one.left_rest.0 one.right_rest.0 one.left_welcome one.right_welcome
         (λ turned.
@@ -203,9 +232,9 @@ module _
         holds.driven turn.0 in
         record { left_result = left_so ∙ now.left_result; right_result = right_so ∙ now.right_result; stage = now.stage }
 
-    lost_left : (i : ℕ) → (none : IsUnjoined r f p i n) → none.import ≡ k → After (In (ImportEnd k n) v) s w past o
-    lost_left i none import =
-        finish (In (ImportEnd k n) v) s w past hs ks o lo ro holds does ys [] left right
+    input_left : (i : ℕ) → (none : IsUnjoined r f p i n) → none.import ≡ k → After (In (ImportEnd k n) v) s w past hs ks o
+    input_left i none import =
+        finish (In (ImportEnd k n) v) s w past hs ks o lo ro holds does (lost_left k n v i none import refl own_does right_same same) left right
         (driven (pass (ImportEnd i n) (way_in (contact_at p (ImportEnd i n))) ∷ passed p [] hs) (passed q [] ks) refl refl) shared opened_now (with_open (ImportEnd i n) true lo) ro
         comes (opened_left d f g r p q is literals k n v s w past o lo ro holds.opened same not_left not_right does comes i none.own_none) own_is right.piece.0
         one.2 (subst (AllWelcome q) (sym right_same) holds.right.welcome) (λ turned. tt)
@@ -246,14 +275,14 @@ module _
             (left_pass d f g r p q is left_ports right_ports past (passed p [] hs) (passed q [] ks) holds.shared i n k (inr none) leads (way_in (contact_at r (ImportEnd k n))))
 
         one : (next : Open) × ComesInOrder p (In (ImportEnd i n) v) (Lefts s) lo next × AllWelcome p (Lefts w) × OrderlyFrom p [] next (Lefts w) left.now (Lefts w)
-        one = peel d f g r p q is literals p (In (ImportEnd i n) v) [] lo left.now (Lefts s) (Lefts w) (Lefts w) own_does left.piece
+        one = peel p (In (ImportEnd i n) v) [] lo left.now (Lefts s) (Lefts w) (Lefts w) own_does left.piece
 
         own_is : left.now ≡ with_open (ImportEnd i n) true lo
         own_is = one.3.0 ∙ own_now r f p i n none v (Lefts s) lo one.0 one.1
 
-    lost_right : (i : ℕ) → (none : IsUnjoined r g q i n) → none.import ≡ k → After (In (ImportEnd k n) v) s w past o
-    lost_right i none import =
-        finish (In (ImportEnd k n) v) s w past hs ks o lo ro holds does [] ys left right
+    input_right : (i : ℕ) → (none : IsUnjoined r g q i n) → none.import ≡ k → After (In (ImportEnd k n) v) s w past hs ks o
+    input_right i none import =
+        finish (In (ImportEnd k n) v) s w past hs ks o lo ro holds does (lost_right k n v i none import refl own_does left_same same) left right
         (driven (passed p [] hs) (pass (ImportEnd i n) (way_in (contact_at q (ImportEnd i n))) ∷ passed q [] ks) refl refl) shared opened_now lo (with_open (ImportEnd i n) true ro)
         comes (opened_right d f g r p q is literals k n v s w past o lo ro holds.opened same not_left not_right does comes i none.own_none) left.piece.0 own_is
         (subst (AllWelcome p) (sym left_same) holds.left.welcome) one.2 (λ turned. tt)
@@ -294,7 +323,7 @@ module _
             (right_pass d f g r p q is left_ports right_ports past (passed p [] hs) (passed q [] ks) holds.shared i n k (inr none) leads (way_in (contact_at r (ImportEnd k n))))
 
         one : (next : Open) × ComesInOrder q (In (ImportEnd i n) v) (Rights s) ro next × AllWelcome q (Rights w) × OrderlyFrom q [] next (Rights w) right.now (Rights w)
-        one = peel d f g r p q is literals q (In (ImportEnd i n) v) [] ro right.now (Rights s) (Rights w) (Rights w) own_does right.piece
+        one = peel q (In (ImportEnd i n) v) [] ro right.now (Rights s) (Rights w) (Rights w) own_does right.piece
 
         own_is : right.now ≡ with_open (ImportEnd i n) true ro
         own_is = one.3.0 ∙ own_now r g q i n none v (Rights s) ro one.0 one.1
@@ -308,19 +337,19 @@ module _
     standing_right i stands leads =
         let clash : None ≡ Some (ImportEnd i n) = sym not_right ∙ (ap g.inner (sym leads) ∙ (is.right.cut.ports (ImportEnd i n) tt stands).1) in cc clash
 
-    met_left : (i : ℕ) → Meets r f p i n → f.outer (ImportEnd i n) ≡ ImportEnd k n → After (In (ImportEnd k n) v) s w past o
+    met_left : (i : ℕ) → Meets r f p i n → f.outer (ImportEnd i n) ≡ ImportEnd k n → After (In (ImportEnd k n) v) s w past hs ks o
     met_left i (inl joined) leads = absurd (standing_left i joined.stands leads)
     met_left i (inr none) leads =
         let both : ImportEnd none.import n ≡ ImportEnd k n = sym none.outer ∙ leads in
-        let import : none.import ≡ k = cc both in lost_left i none import
+        let import : none.import ≡ k = cc both in input_left i none import
 
-    met_right : (i : ℕ) → Meets r g q i n → g.outer (ImportEnd i n) ≡ ImportEnd k n → After (In (ImportEnd k n) v) s w past o
+    met_right : (i : ℕ) → Meets r g q i n → g.outer (ImportEnd i n) ≡ ImportEnd k n → After (In (ImportEnd k n) v) s w past hs ks o
     met_right i (inl joined) leads = absurd (standing_right i joined.stands leads)
     met_right i (inr none) leads =
         let both : ImportEnd none.import n ≡ ImportEnd k n = sym none.outer ∙ leads in
-        let import : none.import ≡ k = cc both in lost_right i none import
+        let import : none.import ≡ k = cc both in input_right i none import
 
-    by_owner : (m : ℕ) → (m ≡ n) ⊎ (c.role ≡ Ask) → Owner d f g r p q is left_ports right_ports k m → After (In (ImportEnd k n) v) s w past o
+    by_owner : (m : ℕ) → (m ≡ n) ⊎ (c.role ≡ Ask) → Owner d f g r p q is left_ports right_ports k m → After (In (ImportEnd k n) v) s w past hs ks o
     by_owner m (inl same) (on_left i meets leads) =
         met_left i (subst (λ (y : ℕ). Meets r f p i y) same meets) (subst (λ (y : ℕ). f.outer (ImportEnd i y) ≡ ImportEnd k y) same leads)
     by_owner m (inr asks) (on_left i meets leads) = let (here, at) = heard_meets r f p left_ports i m k n c meets leads there asks in met_left i here at
@@ -328,12 +357,12 @@ module _
         met_right i (subst (λ (y : ℕ). Meets r g q i y) same meets) (subst (λ (y : ℕ). g.outer (ImportEnd i y) ≡ ImportEnd k y) same leads)
     by_owner m (inr asks) (on_right i meets leads) = let (here, at) = heard_meets r g q right_ports i m k n c meets leads there asks in met_right i here at
 
-    lost_step : After (In (ImportEnd k n) v) s w past o
+    lost_step : After (In (ImportEnd k n) v) s w past hs ks o
     lost_step =
         let (m, up, which) = open_before r past k n c there turn in by_owner m which (holds.shared.only k m up)
 
-  next : (x : Element) (s w : Tokens) (past : List Pass) (hs ks : List Element) (o lo ro : Open) → Holds s past hs ks o lo ro → Does r x s w → InputTurns r past x
-      → Step d f g r p q x s w → After x s w past o
+  pub next : (x : Element) (s w : Tokens) (past : List Pass) (hs ks : List Element) (o lo ro : Open) → Holds s past hs ks o lo ro → Does r x s w → InputTurns r past x
+      → Step d f g r p q x s w → After x s w past hs ks o
   next x s w past hs ks o lo ro holds does turn (lost k n v s' w' c there not_left not_right left right same) =
       lost_step k n v s' w' past hs ks o lo ro holds does turn c there not_left not_right left right same
   next x s w past hs ks o lo ro holds does turn (of_left x' y s' w' local sees unseen same) =
@@ -361,10 +390,11 @@ module _
   along (x ∷ xs) s t past hs ks o lo ro holds (w, does, runs) turns =
       let one =
       next x s w past hs ks o lo ro holds does (first_turn r past x xs turns) (step d f g r p q is literals x s w holds.fit does) in
-      let ((u, z, rest), outputs) = along xs w t (after r x past) one.hs one.ks one.now one.lo one.ro one.holds runs (later_turns r past x xs turns) in
+      let ((u, z, rest), outputs) =
+      along xs w t (after r x past) (hs ++ left_of x s w one.went) (ks ++ right_of x s w one.went) one.now one.lo one.ro one.holds runs (later_turns r past x xs turns) in
       ((u, z, (one.now, w, does, one.comes, one.welcome, rest)), out_joined r past x xs one.output outputs)
 
-  holds_first : Holds first [] [] [] none_open none_open none_open
+  pub holds_first : Holds first [] [] [] none_open none_open none_open
   holds_first =
       record {
         driven = driven_first d f g r p q is literals first rests;
@@ -411,7 +441,7 @@ module _
   reach (y ∷ ys) x s t past hs ks o lo ro holds neat (w, does, runs) turns =
       let one =
       next y s w past hs ks o lo ro holds does (first_turn r past y (ys ++ x ∷ []) turns) (step d f g r p q is literals y s w holds.fit does) in
-      reach ys x w t (after r y past) one.hs one.ks one.now one.lo one.ro one.holds (neat_step r y s w does neat) runs (later_turns r past y (ys ++ x ∷ []) turns)
+      reach ys x w t (after r y past) (hs ++ left_of y s w one.went) (ks ++ right_of y s w one.went) one.now one.lo one.ro one.holds (neat_step r y s w does neat) runs (later_turns r past y (ys ++ x ∷ []) turns)
 
   -- the answer leads to rest
   local_apart : (c : Cut) (a : Plan) (x y : Element) (v : ℕ) → Local c r a x y → x ≡ Out (ResultEnd 0) v → ⊥

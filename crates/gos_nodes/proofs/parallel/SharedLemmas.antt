@@ -18,6 +18,8 @@ use Rattle.gos_realises.specs.realises.Realises.{NamesDiffer}
 use Rattle.gos_realises.proofs.realises.RingLemmas.{after}
 use Rattle.gos_realises.proofs.realises.ToldLemmas.{contains_at}
 use Rattle.gos_nodes.specs.windows.OpenNodes.{IsHeard}
+use Rattle.gos_nodes.proofs.parallel.GateLemmas.{gate}
+use Rattle.gos_nodes.proofs.parallel.HungLemmas.{Local, fires, puts_out, takes_in, import_contact}
 use Rattle.gos_nodes.proofs.windows.PortLemmas.{stands_place}
 use Rattle.gos_nodes.proofs.windows.MeetLemmas.{Meets, met_joined, HasPorts, AreFollowed, met_contact, met_contacts, met_import, own_import, followed_pass, alike}
 use Rattle.gos_realises.proofs.realises.InputLemmas.{InputTurns}
@@ -25,8 +27,8 @@ use Rattle.gos_realises.proofs.realises.PassLemmas.{open_otherwise}
 use Rattle.gos_sharing.proofs.buffers.BranchLemmas.{place_stands}
 use Rattle.gos_nodes.proofs.windows.TurnLemmas.{Turned, closed_turned, import_kept, imports_turned, open_before, comes_so, import_result, region_turned}
 use Rattle.gos_nodes.specs.parallel.Parallel.{IsSide, IsParallel}
-use Rattle.gos_nodes.proofs.parallel.StepLemmas.{gate, Local, fires, puts_out, takes_in, Step, of_left, of_right, asked, told, starts, left_ends, right_ends, left_ends_all, right_ends_all, lost, IsSeen}
-use Rattle.gos_nodes.proofs.parallel.LinkedLemmas.{left_runs, right_runs, Driven, past_all, when_working, left_seen, right_seen, ways_left, ways_right, way_asked}
+use Rattle.gos_nodes.proofs.parallel.StepLemmas.{Step, of_left, of_right, asked, told, starts, left_ends, right_ends, left_ends_all, right_ends_all, lost, IsSeen, hung_left, hung_right}
+use Rattle.gos_nodes.proofs.parallel.LinkedLemmas.{left_runs, right_runs, Driven, past_all, when_working, left_seen, right_seen, way_asked}
 
 pub side_ports : (d h : ℕ) (f : Cut) (r p : Plan) → IsSide d h f r p → IsHeard f r p → NamesDiffer r.imports → NamesDiffer p.imports → HasPorts r f p
 side_ports d h f r p side heard whole_names names =
@@ -206,22 +208,22 @@ module _
     local_left x y past lefts rights (fires i j k number) shared = shared
     local_left x y past lefts rights (puts_out i j k v stands leads slices) shared =
         subst (λ o. Shared (pass (ImportEnd j k) (way_out (contact_at r (ImportEnd j k))) ∷ past) (pass (ImportEnd i k) (way_out o) ∷ lefts) rights)
-        (ways_left d f g r p q is literals i j k stands leads)
+        (import_contact (hung_left d f g r p q is) i j k stands leads)
         (left_pass past lefts rights shared i k j (met_joined r f p i k j stands leads) leads (way_out (contact_at r (ImportEnd j k))))
     local_left x y past lefts rights (takes_in i j k v stands leads slices) shared =
         subst (λ o. Shared (pass (ImportEnd j k) (way_in (contact_at r (ImportEnd j k))) ∷ past) (pass (ImportEnd i k) (way_in o) ∷ lefts) rights)
-        (ways_left d f g r p q is literals i j k stands leads)
+        (import_contact (hung_left d f g r p q is) i j k stands leads)
         (left_pass past lefts rights shared i k j (met_joined r f p i k j stands leads) leads (way_in (contact_at r (ImportEnd j k))))
 
     local_right : (x y : Element) (past lefts rights : List Pass) → Local g r q x y → Shared past lefts rights → Shared (after r x past) lefts (after q y rights)
     local_right x y past lefts rights (fires i j k number) shared = shared
     local_right x y past lefts rights (puts_out i j k v stands leads slices) shared =
         subst (λ o. Shared (pass (ImportEnd j k) (way_out (contact_at r (ImportEnd j k))) ∷ past) lefts (pass (ImportEnd i k) (way_out o) ∷ rights))
-        (ways_right d f g r p q is literals i j k stands leads)
+        (import_contact (hung_right d f g r p q is) i j k stands leads)
         (right_pass past lefts rights shared i k j (met_joined r g q i k j stands leads) leads (way_out (contact_at r (ImportEnd j k))))
     local_right x y past lefts rights (takes_in i j k v stands leads slices) shared =
         subst (λ o. Shared (pass (ImportEnd j k) (way_in (contact_at r (ImportEnd j k))) ∷ past) lefts (pass (ImportEnd i k) (way_in o) ∷ rights))
-        (ways_right d f g r p q is literals i j k stands leads)
+        (import_contact (hung_right d f g r p q is) i j k stands leads)
         (right_pass past lefts rights shared i k j (met_joined r g q i k j stands leads) leads (way_in (contact_at r (ImportEnd j k))))
 
     same_shared : (past lefts rights before own other : List Pass) → Shared before own other

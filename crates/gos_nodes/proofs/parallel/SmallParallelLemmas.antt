@@ -26,6 +26,7 @@ use Rattle.gos_realises.proofs.realises.NameLemmas.{name_is_realised}
 use Rattle.gos_sharing.proofs.cores.VariableLemmas.{apart_shakes}
 use Rattle.gos_nodes.specs.parallel.Parallel.{IsSide, IsJointOf, IsPartOf}
 use Rattle.gos_nodes.specs.parallel.SmallParallel.{call_and_skip, call_outer, call_inner, call_out, skip_number, skip_inner, skip_out, CallAndSkipIsParallel, CallAndSkipRealises, SkipIsNotLeft, SkipIsNotBoth, OtherPartIsNot}
+use Rattle.gos_nodes.proofs.windows.OpenLemmas.{ground_heard}
 use Rattle.gos_nodes.proofs.parallel.RealisesLemmas.{parallel_realises}
 
 whole_is_right : IsRight call_and_skip
@@ -186,7 +187,8 @@ typed = (refl, refl, refl, λ t one other. none_in_empty t other)
 
 pub call_and_skip_realises : CallAndSkipRealises
 call_and_skip_realises =
-    parallel_realises 0 call_out skip_out call_and_skip call_plan skip_plan (Import c) terms.Skip call_and_skip_is_parallel literals (tt, tt)
+    parallel_realises 0 call_out skip_out call_and_skip call_plan skip_plan (Import c) terms.Skip call_and_skip_is_parallel
+    (ground_heard call_out call_and_skip call_plan (tt, tt) tt) (ground_heard skip_out call_and_skip skip_plan tt tt) literals (inl tt, tt)
     (λ j has. absurd (none_in_empty j has), tt) typed name_is_realised skip_is_realised
 
 -- what it is not made of

@@ -16,7 +16,7 @@ use Rattle.gos_programs.specs.contexts.Widening.{AreAmong}
 use Rattle.gos_programs.specs.contexts.Together.{Holds}
 use Rattle.gos_programs.proofs.contexts.TogetherLemmas.{holds_both, moves_together}
 use Rattle.gos_programs.proofs.contexts.InnerLemmas.{idle_inner}
-use Rattle.gos_nodes.proofs.nodes.SilentLemmas.{inner_stays}
+use Rattle.gos_programs.proofs.contexts.SilentLemmas.{inner_stays}
 
 -- one side runs, and the other has ended
 pub record One (ctx : Term → Context) (own c : Config) : Type 0 where

@@ -10,7 +10,7 @@ use Rattle.gos_plan.specs.TokenBits.{LiteralFits}
 use Rattle.gos_realises.specs.realises.Regular.{count}
 use Rattle.gos_realises.specs.realises.Links.{IsJoined}
 use Rattle.gos_realises.specs.realises.Wirings.{side}
-use Rattle.gos_realises.specs.realises.Realises.{AllGround, NamesDiffer, Suits, Realises}
+use Rattle.gos_realises.specs.realises.Realises.{AllPorts, NamesDiffer, Suits, Realises}
 use Rattle.gos_supplies.proofs.unjoined.ImportLemmas.{among, typed_more}
 use Rattle.gos_supplies.proofs.unfoldings.PairLemmas.{both_is_realised}
 use Rattle.gos_sharing.proofs.cores.HigherLemmas.{core_realises}
@@ -21,7 +21,7 @@ use Rattle.gos_nodes.proofs.products.CoreLemmas.{sides_are_cores}
 use Rattle.gos_nodes.proofs.products.SideLemmas.{same_parts, same_imports}
 
 pub sides_realise_both : SidesRealiseBoth
-sides_realise_both a b r g e m n both regular literals ground one other =
+sides_realise_both a b r g e m n both regular literals ports one other =
     both_is_realised a b r m n suits
     (λ s joined. of_core 0 a s m g.plan joined (cores_so.0 s joined) one)
     (λ s joined. of_core (count a) b s n e.plan joined (cores_so.1 s joined) other)
@@ -36,7 +36,7 @@ sides_realise_both a b r g e m n both regular literals ground one other =
           right = both.first.region.whole_right;
           literals = literals;
           outcome = both.outcome;
-          all_ground = ground;
+          all_ports = ports;
           names = both.names;
           typed = (a, b, refl, typed 0 g a m both.first one, typed (count a) e b n both.second other);
           regular = regular;
@@ -48,7 +48,7 @@ sides_realise_both a b r g e m n both regular literals ground one other =
     of_core : (k : ℕ) (t : Type') (s : Plan) (x : Term) (c : Plan) → IsJoined (side k t r) s → IsStillCore s c → Realises t c x → Realises t s x
     of_core k t s x c joined (f, core, still) realised =
         core_realises f s c t x core still (subst (λ (ks : List Part). All LiteralFits ks) parts literals)
-        (subst (λ (is : List Imported). AllGround is) imports ground) (subst (λ (is : List Imported). NamesDiffer is) imports both.names) realised
+        (subst (λ (is : List Imported). AllPorts is) imports ports) (subst (λ (is : List Imported). NamesDiffer is) imports both.names) realised
       where
         imports : r.imports ≡ s.imports
         imports = sym (same_imports k t r both.first.region.whole_right s joined.joining)

@@ -11,7 +11,7 @@ use Rattle.gos_model.specs.Typing.{Imported}
 use Rattle.gos_model.proofs.NumberLemmas.{nat_eq_itself}
 use Rattle.gos_plan.specs.Kinds.{Contact, asks, contacts_of}
 use Rattle.gos_plan.specs.Plans.{End, PartEnd, ImportEnd, ResultEnd, Plan, contact_at, contacts_of_import, turned_if}
-use Rattle.gos_plan.specs.Tokens.{IsPortEnd, In}
+use Rattle.gos_plan.specs.Tokens.{IsPortEnd}
 use Rattle.gos_plan.proofs.ContactLemmas.{turned_some}
 use Rattle.gos_realises.specs.realises.Regular.{count, Pass, pass, way_in, way_out, is_open, beyond, KeepsTurnsOf, whole_type, whole_end}
 use Rattle.gos_realises.specs.realises.Realises.{AllGround}
@@ -20,8 +20,8 @@ use Rattle.gos_realises.proofs.realises.InputLemmas.{import_serves, one_ground}
 use Rattle.gos_realises.proofs.realises.ToldLemmas.{there_is}
 use Rattle.gos_nodes.proofs.windows.TurnLemmas.{Turned, ports_turned, whole_index}
 use Rattle.gos_joining.proofs.renumbered.TurnLemmas.{of_result}
-use Rattle.gos_nodes.specs.windows.OneSession.{IsAsked, Stays}
-use Rattle.gos_joining.specs.webs.Cutting.{Cut, StandsIn}
+use Rattle.gos_nodes.specs.windows.OneSession.{IsAsked}
+use Rattle.gos_joining.specs.webs.Cutting.{Cut}
 use Rattle.gos_nodes.specs.windows.OpenNodes.{IsHeard}
 
 -- a result of a ground type asks
@@ -92,10 +92,6 @@ not_asked p ground done i h (c, there, asks) =
       | inl result ↦ (let clash : ImportEnd i h ≡ ResultEnd result.0 = result.1 in cc clash)
       | inr import ↦ (let clash : Ask ≡ Serve = sym asks ∙ import.3 in cc clash)
     ]
-
-pub ground_in : (p : Plan) → AllGround p.imports → IsGround p.outcome → (i h v : ℕ) → Stays p (In (ImportEnd i h) v) → StandsIn p (ImportEnd i h)
-ground_in p ground done i h v (inl stands) = stands
-ground_in p ground done i h v (inr asked) = absurd (not_asked p ground done i h asked)
 
 pub ground_heard : (f : Cut) (r p : Plan) → AllGround p.imports → IsGround p.outcome → IsHeard f r p
 ground_heard f r p ground done i h n k c stands at is asks = absurd (not_asked p ground done i n (c, is, asks))

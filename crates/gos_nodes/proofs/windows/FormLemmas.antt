@@ -12,7 +12,7 @@ use Rattle.gos_realises.proofs.realises.InputLemmas.{result_asks}
 use Rattle.gos_nodes.specs.sessions.Sessions as forms
 use Rattle.gos_nodes.specs.sessions.Sessions.{Form, Session, bits, own_part, own_term, session_of, value_of}
 use Rattle.gos_nodes.proofs.sessions.TableLemmas.{tables_are_right}
-use Rattle.gos_nodes.specs.windows.Nodes.{Stage, IsStage, IsNode, NodeKeepsTurns, NodeIsRegular}
+use Rattle.gos_nodes.specs.windows.Nodes.{Stage, IsStage, NodeKeepsTurns, NodeIsRegular}
 use Rattle.gos_nodes.specs.windows.OpenNodes.{IsOpenNode, OpenNodeIsRegular}
 use Rattle.gos_nodes.specs.windows.Windows.{session_at, form_runner, ListsAreStaged, QuietIsWithin, OwnPartCan}
 use Rattle.gos_nodes.proofs.windows.PortLemmas.{stands_contact}
@@ -106,29 +106,22 @@ module _ (r : Plan) (d : ℕ) (f : Form) (gs : List Stage) (node : IsOpenNode r 
         joints = node.joints;
       }
 
--- with ground imports
-module _ (r : Plan) (d : ℕ) (f : Form) (gs : List Stage) (node : IsNode r d f gs) where
-  pub ground_runs : RunsStages r d (form_runner f) gs
-  ground_runs = node_runs r d f gs (ground_node_is_open r d f gs node)
-
-  pub ground_restful : AreRestful (form_runner f) gs
-  ground_restful = are_restful r d f gs (ground_node_is_open r d f gs node)
-
 pub lists_are_staged : ListsAreStaged
 lists_are_staged r d f gs s t xs node idle runs turns =
-    along r d (form_runner f) gs (ground_runs r d f gs node) (ground_restful r d f gs node) xs AtRest s t [] (idle_fits r s idle)
+    along r d (form_runner f) gs (node_runs r d f gs node) (are_restful r d f gs node) xs AtRest s t [] (idle_fits r s idle)
     (idle, (refl, λ k h. refl)) runs turns
 
 pub quiet_is_within : QuietIsWithin
-quiet_is_within r d f gs g s node has stirs quiet = stage_is_quiet r d (form_runner f) gs g s (ground_runs r d f gs node) has stirs quiet
+quiet_is_within r d f gs g s node has stirs quiet = stage_is_quiet r d (form_runner f) gs g s (node_runs r d f gs node) has stirs quiet
 
 pub own_part_can : OwnPartCan
-own_part_can r d f gs s node = part_can r d (form_runner f) gs s (ground_runs r d f gs node)
+own_part_can r d f gs s node = part_can r d (form_runner f) gs s (node_runs r d f gs node)
 
 pub node_keeps_turns : NodeKeepsTurns
 node_keeps_turns r d f gs node =
-    let runs = ground_runs r d f gs node in
-    let rests = ground_restful r d f gs node in (outputs_in_turn r d (form_runner f) gs runs rests, is_restful r d (form_runner f) gs runs rests)
+    let whole = ground_node_is_open r d f gs node in
+    let runs = node_runs r d f gs whole in
+    let rests = are_restful r d f gs whole in (outputs_in_turn r d (form_runner f) gs runs rests, is_restful r d (form_runner f) gs runs rests)
 
 pub open_node_is_regular : OpenNodeIsRegular
 open_node_is_regular r d f gs node = runner_is_regular r d (form_runner f) gs (node_runs r d f gs node) (are_restful r d f gs node)

@@ -1,13 +1,14 @@
 -- The joints of a region, as they lie in the whole. The whole with these joints alone has the region as a cut.
 --
 -- So what is known of cuts is known of regions, where the places of an end are those of its joint in the region (`Agree`).
-use Rattle.std.specs.Prelude.{None, not, ◌||◌, ◌&&◌, map}
+use Rattle.std.specs.Prelude.{None, map}
 use Rattle.std.proofs.Common.{◌≡◌, ℕ, true, List, [], ◌∷◌, ◌⊎◌, Option, Some, inl, inr, refl, sym, ◌∙◌, ap, subst}
 use Rattle.gos_types.specs.Events.{Direction}
 use Rattle.gos_types.proofs.BoolLemmas.{same_tests}
 use Rattle.gos_plan.specs.Firing.{Token, Row}
-use Rattle.gos_plan.specs.Plans.{End, PartEnd, ImportEnd, ResultEnd, Joint, Plan, contact_at, same_end, stands_in, is_free, Fits, AreRight}
+use Rattle.gos_plan.specs.Plans.{End, PartEnd, ImportEnd, ResultEnd, Joint, Plan, contact_at, same_end, stands_in, Fits}
 use Rattle.gos_plan.specs.Tokens.{Tokens, places_of, held_at, with_held, with_token, with_state, token_at, with_puts, end_of, way_of, fired}
+use Rattle.gos_plan.proofs.MovedJointLemmas.{map_in, in_map, right_where_fit}
 use Rattle.gos_plan.proofs.JointLemmas.{IsIn, same_itself, same_is, fits, Found, found, one_joint, stands_there, contained, asking_stands, serving_stands, which_end}
 use Rattle.gos_joining.specs.webs.Webs.{joint}
 use Rattle.gos_joining.specs.webs.Cutting.{Cut, lies_at, IsInside, StandsIn, IsCut, asks_in}
@@ -25,16 +26,6 @@ pub same_contact : (f : Cut) (r c : Plan) (e : End) → contact_at (inlay f r c)
 same_contact f r c (PartEnd i h) = refl
 same_contact f r c (ImportEnd i h) = refl
 same_contact f r c (ResultEnd h) = refl
-
-laid_in : (f : Cut) (js : List Joint) (j : Joint) → IsIn j js → IsIn (laid f j) (map (laid f) js)
-laid_in f [] j is_in = absurd is_in
-laid_in f (x ∷ xs) j (inl is) = inl (ap (laid f) is)
-laid_in f (x ∷ xs) j (inr later) = inr (laid_in f xs j later)
-
-pub from_laid : (f : Cut) (js : List Joint) (y : Joint) → IsIn y (map (laid f) js) → (j : Joint) × IsIn j js × (y ≡ laid f j)
-from_laid f [] y is_in = absurd is_in
-from_laid f (x ∷ xs) y (inl is) = (x, inl refl, is)
-from_laid f (x ∷ xs) y (inr later) = let (j, is_in, is) = from_laid f xs y later in (j, inr is_in, is)
 
 module _
     (f : Cut) (ss : List Serving) (r c : Plan) (is : IsRegion f ss r c) where
@@ -68,36 +59,14 @@ module _
       let fit = fits r [] r.joints (laid f j) is.whole_right (laid_there j is_in) in
       (fit.0, fit.1, same_contact f r c (lies_at f j.asking) ∙ fit.2, same_contact f r c (lies_at f j.serving) ∙ fit.3)
 
-  free_laid : (a : End) → Owns c a → (before : List Joint) → ((x : Joint) → IsIn x before → IsIn x c.joints)
-      → is_free (lies_at f a) (map (laid f) before) ≡ is_free a before
-  free_laid a own [] within = refl
-  free_laid a own (x ∷ xs) within =
-      let here = within x (inl refl) in
-      let first = same_laid a x.asking own (stands_own c x x.asking is.right here (asking_stands x)) in
-      let last = same_laid a x.serving own (stands_own c x x.serving is.right here (serving_stands x)) in
-      let rest = free_laid a own xs (λ y later. within y (inr later)) in λ i. not (first i || last i) && rest i
-
-  right_laid : (before js : List Joint) → ((x : Joint) → IsIn x before → IsIn x c.joints) → ((x : Joint) → IsIn x js → IsIn x c.joints)
-      → AreRight c before js → AreRight (inlay f r c) (map (laid f) before) (map (laid f) js)
-  right_laid before [] within also right = tt
-  right_laid before (j ∷ js) within also ((fit, first, last), rest) = (
-    (
-      fits_laid j (also j (inl refl)),
-      free_laid j.asking (stands_own c j j.asking is.right (also j (inl refl)) (asking_stands j)) before within ∙ first,
-      free_laid j.serving (stands_own c j j.serving is.right (also j (inl refl)) (serving_stands j)) before within ∙ last,
-    ),
-    right_laid (j ∷ before) js onto (λ x later. also x (inr later)) rest,
-  )
-    where
-      onto : (x : Joint) → IsIn x (j ∷ before) → IsIn x c.joints
-      onto x (inl same) = subst (λ (y : Joint). IsIn y c.joints) (sym same) (also j (inl refl))
-      onto x (inr later) = within x later
+  own_ends : (j : Joint) → IsIn j c.joints → Owns c j.asking × Owns c j.serving
+  own_ends j is_in = (stands_own c j j.asking is.right is_in (asking_stands j), stands_own c j j.serving is.right is_in (serving_stands j))
 
   -- the region is a cut of that plan
   pub inlay_cut : IsCut f (inlay f r c) c
   inlay_cut =
       record {
-        whole_right = right_laid [] c.joints (λ x none. absurd none) (λ x is_in. is_in) is.right;
+        whole_right = right_where_fit c (inlay f r c) (lies_at f) (Owns c) own_ends same_laid fits_laid is.right;
         right = is.right;
         parts = is.parts;
         numbers = is.numbers;
@@ -105,9 +74,9 @@ module _
         inners = is.inners;
         contacts = λ e port stands. same_contact f r c (f.outer e) ∙ is.contacts e port stands;
         joints = λ a b here.
-            listed (map (laid f) c.joints) (joint (lies_at f a) (lies_at f b)) (laid_in f c.joints (joint a b) (contained c.joints (joint a b) here));
+            listed (map (laid f) c.joints) (joint (lies_at f a) (lies_at f b)) (map_in (laid f) c.joints (joint a b) (contained c.joints (joint a b) here));
         all = λ a b here inside.
-            let (j, is_in, same) = from_laid f c.joints (joint a b) (contained (map (laid f) c.joints) (joint a b) here) in
+            let (j, is_in, same) = in_map (laid f) c.joints (joint a b) (contained (map (laid f) c.joints) (joint a b) here) in
             (j.asking, j.serving, listed c.joints j is_in, sym (ap (λ (x : Joint). x.asking) same), sym (ap (λ (x : Joint). x.serving) same));
       }
 
@@ -118,7 +87,7 @@ module _
   pub inlay_place : (e a : End) → places_of (inlay f r c) e ≡ Some a → places_of r e ≡ Some a
   inlay_place e a h =
       let at = found (map (laid f) c.joints) e a h in
-      let (j, is_in, same) = from_laid f c.joints at.joint at.is_in in
+      let (j, is_in, same) = in_map (laid f) c.joints at.joint at.is_in in
       let here : IsIn at.joint r.joints = subst (λ (x : Joint). IsIn x r.joints) (sym same) (laid_there j is_in) in
       stands_there r at.joint e is.whole_right here at.stands ∙ ap Some at.named
 
@@ -127,7 +96,7 @@ module _
 
   -- what a joint of the region has at its ends
   pub laid_place : (j : Joint) (e : End) → IsIn j c.joints → stands_in e (laid f j) ≡ true → places_of (inlay f r c) e ≡ Some (lies_at f j.asking)
-  laid_place j e is_in stands = stands_there (inlay f r c) (laid f j) e inlay_cut.whole_right (laid_in f c.joints j is_in) stands
+  laid_place j e is_in stands = stands_there (inlay f r c) (laid f j) e inlay_cut.whole_right (map_in (laid f) c.joints j is_in) stands
 
   pub agree_token : (e : End) → Agree e → (s : Tokens) (way : Direction) → token_at (inlay f r c) s e way ≡ token_at r s e way
   agree_token e same s way = ap (held_at s way) same

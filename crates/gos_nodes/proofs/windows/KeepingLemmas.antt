@@ -13,12 +13,11 @@ use Rattle.gos_model.specs.Protocol as protocol
 use Rattle.gos_model.specs.Protocol.{event_of, FitsAnswer, Allowed, KeepsAfter, KeepsProtocol}
 use Rattle.gos_plan.specs.Kinds.{Contact, contacts_of}
 use Rattle.gos_plan.specs.Plans.{End, ImportEnd, ResultEnd, Plan, contact_at, contacts_of_import}
-use Rattle.gos_plan.specs.Tokens.{Tokens, Element, Fire, Out, In, IsPortEnd, Passes, way_taken, way_put, bits_of, Runs, IsIdle}
-use Rattle.gos_realises.specs.realises.Regular.{Pass, pass, way_in, way_out, ComesInTurn, InputsKeepTurns, IsRegular}
+use Rattle.gos_plan.specs.Tokens.{Tokens, Element, Fire, Out, In, IsPortEnd, Passes, way_taken, way_put, bits_of, Runs}
+use Rattle.gos_realises.specs.realises.Regular.{Pass, pass, way_in, way_out, ComesInTurn, InputsKeepTurns}
 use Rattle.gos_realises.specs.realises.Matched.{port_if, event_number, outward, inward, label_at, all_shown}
 use Rattle.gos_realises.specs.realises.Realises.{AllGround, NamesDiffer}
 use Rattle.gos_realises.proofs.realises.InputLemmas.{in_there, out_there, one_ground, outward_way, inward_way, OpenAlike, alike_first, alike_out, alike_in}
-use Rattle.gos_realises.proofs.realises.PortInputLemmas.{protocol_keeps_turns}
 use Rattle.gos_realises.proofs.realises.ToldLemmas.{one_name, shake_event, asks_event, there_is}
 use Rattle.gos_nodes.specs.windows.Keeping.{TurnsKeepProtocol}
 use Rattle.gos_nodes.proofs.windows.PortLemmas.{port_role}
@@ -148,9 +147,3 @@ module _ (p : Plan) (ground : AllGround p.imports) (differ : NamesDiffer p.impor
 
 pub turns_keep_protocol : TurnsKeepProtocol
 turns_keep_protocol p xs s t ground differ done runs turns = in_turn_keeps p ground differ done xs s t runs (turns_in_turn p [] xs turns)
-
--- so the inputs of a regular plan that come in turn keep turns
-pub own_turns : (p : Plan) → IsRegular p → AllGround p.imports → NamesDiffer p.imports → IsDone p.outcome → (xs : List Element) (s t : Tokens)
-    → IsIdle p s → Runs p xs s t → InTurn p [] xs → InputsKeepTurns p [] xs
-own_turns p regular ground differ done xs s t idle runs turn =
-    protocol_keeps_turns p xs s t regular ground differ done idle runs (in_turn_keeps p ground differ done xs s t runs turn)

@@ -1,14 +1,15 @@
 -- What a stage does, the whole does: where the tokens of the whole are those of the stage.
 use Rattle.std.specs.Prelude.{None, slice_get, Contains, length}
-use Rattle.std.proofs.Common.{◌≡◌, ℕ, Bool, List, Option, Some, refl, sym, ◌∙◌, ap, subst, if◌then◌else◌}
+use Rattle.std.proofs.Common.{◌≡◌, ℕ, Bool, List, Option, Some, inl, inr, refl, sym, ◌∙◌, ap, subst, if◌then◌else◌}
 use Rattle.std.proofs.lemmas.Option.{same_Some, slice_get_within}
 use Rattle.std.proofs.lemmas.Bool.{lt-ltb}
 use Rattle.gos_types.specs.Events.{Direction, Answer}
 use Rattle.gos_plan.specs.Kinds.{Part, Contact}
+use Rattle.gos_model.specs.Typing.{Imported}
 use Rattle.gos_model.specs.Moves.{Act}
 use Rattle.gos_plan.specs.Firing.{Rest, Slot, Req, Ans, Row, at}
-use Rattle.gos_plan.specs.Plans.{End, PartEnd, ImportEnd, Plan, contact_at}
-use Rattle.gos_plan.specs.Tokens.{Tokens, Element, Fire, Out, In, IsPortEnd, places_of, token_at, with_token, end_of, way_of, way_taken, way_put, fired, firing_of, Passes, Does}
+use Rattle.gos_plan.specs.Plans.{End, PartEnd, ImportEnd, Plan, contact_at, contacts_of_import}
+use Rattle.gos_plan.specs.Tokens.{Tokens, Element, Fire, Out, In, IsPortEnd, places_of, token_at, with_held, with_token, end_of, way_of, way_taken, way_put, fired, firing_of, Passes, Does}
 use Rattle.gos_plan.proofs.DecidedLemmas.{one_state}
 use Rattle.gos_plan.proofs.HeldLemmas.{nothing_there}
 use Rattle.gos_plan.proofs.ElementLemmas.{firing_part}
@@ -21,7 +22,8 @@ use Rattle.gos_nodes.specs.windows.Nodes.{Stage}
 use Rattle.gos_nodes.specs.windows.Windows.{Runner, seen}
 use Rattle.gos_nodes.proofs.windows.InlayLemmas.{inlay, place_agrees, agree_token}
 use Rattle.gos_nodes.proofs.windows.RunnerLemmas.{IsAskedStage, HasStages}
-use Rattle.gos_nodes.proofs.windows.StageLemmas.{stage, cut, InStage, Ran, fires_in, out_in, in_in}
+use Rattle.gos_nodes.proofs.windows.StageLemmas.{stage, cut, InStage, Ran, fires_in, out_in, in_in, in_none}
+use Rattle.gos_nodes.proofs.windows.MeetLemmas.{IsUnjoined, Meets}
 
 module _ (r : Plan) (d : ℕ) (runner : Runner) (gs : List Stage) (base : HasStages r d runner gs) (g : Stage) (has : Contains gs g) where
   abbrev there : IsAskedStage r d runner g
@@ -143,6 +145,35 @@ module _ (r : Plan) (d : ℕ) (runner : Runner) (gs : List Stage) (base : HasSta
 
       own : Does g.plan (In (ImportEnd i h) v) (seen g s) (seen g to) × InStage r d runner gs base g has to
       own = in_in r d runner gs base g has (g.cut.outer (ImportEnd i h)) v s to i h within stands refl does
+
+  -- where no joint is nothing comes in
+  lost_up : (s : Tokens) → InStage r d runner gs base g has s → (i h v : ℕ) (u : Tokens) → IsUnjoined r g.cut g.plan i h
+      → Does g.plan (In (ImportEnd i h) v) (seen g s) u → Lifted (In (g.cut.outer (ImportEnd i h)) v) s u
+  lost_up s within i h v u none own_does =
+      record { to = s; does = does; same = one_state g.plan (In (ImportEnd i h) v) (seen g s) (seen g s) u own.0 own_does; within = own.1 }
+    where
+      contacts : contact_at r (g.cut.outer (ImportEnd i h)) ≡ contact_at g.plan (ImportEnd i h)
+      contacts = ap (contact_at r) none.outer ∙ ap (λ (o : Option Imported). slice_get (contacts_of_import o) h) none.same
+
+      nowhere : places_of r (g.cut.outer (ImportEnd i h)) ≡ None
+      nowhere = ap (places_of r) none.outer ∙ none.none
+
+      does : Does r (In (g.cut.outer (ImportEnd i h)) v) s s
+      does = (
+        subst (λ (x : End). IsPortEnd x) (sym none.outer) tt,
+        subst (λ (o : Option Contact). Passes r (In (g.cut.outer (ImportEnd i h)) v) o s s) (sym (contacts ∙ none.own)) (
+          (subst (λ (o : Option Contact). Passes g.plan (In (ImportEnd i h) v) o (seen g s) u) none.own own_does.1).0,
+          sym (ap (λ (o : Option End). with_held (way_put none.contact.role) o (Some v) s) nowhere),
+        ),
+      )
+
+      own : Does g.plan (In (ImportEnd i h) v) (seen g s) (seen g s) × InStage r d runner gs base g has s
+      own = in_none r d runner gs base g has (g.cut.outer (ImportEnd i h)) v s s i h within contacts nowhere none.own_none does
+
+  pub met_up : (s : Tokens) → InStage r d runner gs base g has s → (i h v : ℕ) (u : Tokens) → Meets r g.cut g.plan i h
+      → Does g.plan (In (ImportEnd i h) v) (seen g s) u → Lifted (In (g.cut.outer (ImportEnd i h)) v) s u
+  met_up s within i h v u (inl joined) own_does = in_up s within i h v u joined.stands own_does
+  met_up s within i h v u (inr none) own_does = lost_up s within i h v u none own_does
 
   -- a firing of the stage goes on where that of the whole does
   pub goes_down : (s u : Tokens) (j : ℕ) (slot : Slot) (acts : List Act) → Does g.plan (Fire j slot) (seen g s) u → GoesOn r s (Fire (g.cut.part j) slot) acts

@@ -10,6 +10,7 @@ use Rattle.gos_plan.specs.Kinds.{Part, Share, Contact}
 use Rattle.gos_plan.specs.Firing.{Rest, State, Slot, Token, Row, at}
 use Rattle.gos_plan.specs.Plans.{End, PartEnd, Joint, Plan, contact_at, same_end}
 use Rattle.gos_plan.specs.Tokens.{Tokens, Fire, Out, In, IsPortEnd, places_of, same_way, held_at, with_held, with_token, with_state, token_at, with_puts, end_of, way_of, shake_of, way_taken, way_put, fired, firing_of, Passes, Does, IsIdle}
+use Rattle.gos_plan.proofs.MovedJointLemmas.{in_map}
 use Rattle.gos_plan.proofs.JointLemmas.{found, same_is}
 use Rattle.gos_plan.proofs.HeldLemmas.{nothing_there, takes_of}
 use Rattle.gos_realises.specs.realises.Regular.{count}
@@ -17,7 +18,7 @@ use Rattle.gos_realises.proofs.realises.InputLemmas.{in_there, out_there}
 use Rattle.gos_joining.specs.webs.Cutting.{Cut, cut_tokens, lies_at, StandsIn, IsCut, asks_in}
 use Rattle.gos_joining.proofs.webs.CutLemmas.{Owns, port_own, token_cut, token_put, asks_there, place_there, fire_cut}
 use Rattle.gos_nodes.specs.windows.Regions.{Serving, IsOther, IsRegion}
-use Rattle.gos_nodes.proofs.windows.InlayLemmas.{laid, inlay, from_laid, inlay_cut, place_agrees, Agree, agree_token, agree_put, AllAgree, agree_fired, agrees_or_other, LiesOn, lies_on}
+use Rattle.gos_nodes.proofs.windows.InlayLemmas.{laid, inlay, inlay_cut, place_agrees, Agree, agree_token, agree_put, AllAgree, agree_fired, agrees_or_other, LiesOn, lies_on}
 use Rattle.gos_nodes.proofs.windows.PortLemmas.{stands_place}
 use Rattle.gos_nodes.proofs.windows.ShareLemmas.{share_puts, not_source, not_branch}
 
@@ -75,7 +76,7 @@ module _ (f : Cut) (ss : List Serving) (r p : Plan) (region : IsRegion f ss r p)
               → (a : End) × (asks_in p.joints a ≡ true) × (lies_at f a ≡ y)
           by_test w y v true t is =
               let at = found (map (laid f) p.joints) e x named in
-              let from = from_laid f p.joints at.joint at.is_in in
+              let from = in_map (laid f) p.joints at.joint at.is_in in
               let here : y ≡ x = same_is y x (and_second (same_way w way) (same_end y x) t) in
               (from.0.asking, asks_there p.joints from.0 from.1, sym (ap (λ (j : Joint). j.asking) from.2) ∙ (at.named ∙ sym here))
           by_test w y v false t is = within w y v is

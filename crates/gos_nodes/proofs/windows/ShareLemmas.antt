@@ -1,14 +1,15 @@
 -- What a Share puts: at its source, or, of what it takes from its source, at the caller of its branch.
 use Rattle.std.specs.Prelude.{◌+◌, ◌-◌, ◌*◌, ◌<◌}
-use Rattle.std.proofs.Common.{◌≡◌, ℕ, zero, suc, List, [], ◌∷◌, ◌⊎◌, Some, length, inl, inr, refl, arith}
+use Rattle.std.proofs.Common.{◌≡◌, ℕ, zero, suc, [], ◌∷◌, ◌⊎◌, Some, inl, inr, refl, arith}
+use Rattle.std.proofs.lemmas.Option.{slice_get_within}
 use Rattle.gos_types.specs.declared.shakes.Role.{Role}
 use Rattle.gos_types.specs.declared.shakes.Role.TheVariants.{Serve, Ask}
 use Rattle.gos_types.specs.Types.{Type'}
-use Rattle.gos_plan.specs.Kinds.{Share, Contact, contacts_of}
-use Rattle.gos_plan.specs.Firing.{Phase, Rest, State, Slot, Req, Ans, Token, Row, put, rows, shared_rows, share_rows, firing}
+use Rattle.gos_plan.specs.Kinds.{Share, contacts_of}
+use Rattle.gos_plan.specs.Firing.{State, Slot, Req, Ans, Token, Row, put, shared_rows, firing}
 use Rattle.gos_plan.specs.Tokens.{shake_of}
-use Rattle.gos_plan.proofs.RowLemmas.{EachRow, row_with}
-use Rattle.gos_plan.proofs.AskingLemmas.{each_append}
+use Rattle.gos_plan.proofs.RowLemmas.{EachRow}
+use Rattle.gos_plan.proofs.ShareTableLemmas.{share_row}
 use Rattle.gos_realises.specs.realises.Regular.{count}
 
 abbrev pub ShareRow : Type' → ℕ → Row → Type 0
@@ -27,18 +28,8 @@ of_role t b j Ask low = (
   ((λ v. (put (Ans j) v, refl, inl low)), tt),
 )
 
-each : (t : Type') (b : ℕ) (cs : List Contact) (j : ℕ) → j + length cs ≡ count t → EachRow (ShareRow t b) (share_rows cs (count t) j b)
-each t b [] j e = tt
-each t b (c ∷ cs) j e =
-    each_append (ShareRow t b) (shared_rows c.role (count t) j b) (share_rows cs (count t) (suc j) b)
-    (of_role t b j c.role (omega (arith, e))) (each t b cs (suc j) (omega (arith, e)))
-
-all_rows : (t : Type') (p : Phase) (b : ℕ) → EachRow (ShareRow t b) (rows (Share t) p b)
-all_rows t Rest b = each t b (contacts_of t) 0 (omega arith)
-all_rows t p b = tt
-
 pub share_puts : (t : Type') (q : State) (slot : Slot) (r : Row) → firing (Share t) q slot ≡ Some r → (r.takes ≡ slot) × ShareRow t q.number r
-share_puts t q slot r e = row_with (ShareRow t q.number) slot (rows (Share t) q.phase q.number) r (all_rows t q.phase q.number) e
+share_puts t q slot r e = share_row (ShareRow t q.number) t q slot r (λ j c at. of_role t q.number j c.role (slice_get_within (contacts_of t) j c at)) e
 
 -- the other caller's handshakes are neither the source's nor those of the branch
 pub not_source : (n side m h : ℕ) → side < 2 → h ≡ n + (1 - side) * n + m → h < n → ⊥

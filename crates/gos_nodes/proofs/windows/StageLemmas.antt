@@ -9,7 +9,6 @@ use Rattle.gos_plan.specs.Plans.{End, PartEnd, ImportEnd, ResultEnd, Plan, conta
 use Rattle.gos_plan.specs.Tokens.{Tokens, Element, Fire, Out, In, IsPortEnd, places_of, with_held, with_token, token_at, end_of, way_of, way_taken, way_put, bits_of, firing_of, Passes, Does, Runs, IsIdle}
 use Rattle.gos_plan.specs.TokenBits.{AllFit}
 use Rattle.gos_realises.specs.realises.Regular.{InputsKeepTurns}
-use Rattle.gos_realises.specs.realises.Realises.{AllGround}
 use Rattle.gos_realises.proofs.realises.InputLemmas.{out_there}
 use Rattle.gos_joining.specs.webs.Cutting.{lies_at, StandsIn, IsCut, asks_in, out_if, in_if}
 use Rattle.gos_joining.proofs.webs.CutLemmas.{Owns, outside_name, place_there, number_at, taken_out, put_in}
@@ -22,7 +21,7 @@ use Rattle.gos_nodes.proofs.windows.InlayLemmas.{inlay, same_contact, inlay_cut,
 use Rattle.gos_nodes.proofs.windows.RegionLemmas as regions
 use Rattle.gos_nodes.proofs.windows.RegionLemmas.{InRegion, OnRegion, IsFaithful}
 use Rattle.gos_nodes.proofs.windows.AskedLemmas.{asked_is, asked_role}
-use Rattle.gos_nodes.proofs.windows.PortLemmas.{stands_contact, stands_place, ground_within, run_one}
+use Rattle.gos_nodes.proofs.windows.PortLemmas.{stands_contact, stands_place, run_one}
 
 -- All is idle but for the part of this number.
 pub record Emptied (d : ℕ) (s : Tokens) : Type 0 where
@@ -33,9 +32,6 @@ module _
     (r : Plan) (d : ℕ) (runner : Runner) (gs : List Stage) (node : HasStages r d runner gs) (g : Stage) (has : Contains gs g) where
   pub stage : IsAskedStage r d runner g
   stage = node.stages g has
-
-  pub ground_stage : AllGround r.imports → AllGround g.plan.imports
-  ground_stage ground = ground_within g.plan.imports r.imports ground stage.imports
 
   -- the end of its result that is asked
   abbrev result_end : End

@@ -17,8 +17,8 @@ use Rattle.gos_realises.proofs.realises.RingLemmas.{after}
 use Rattle.gos_joining.specs.webs.Cutting.{StandsIn}
 use Rattle.gos_nodes.specs.windows.Regions.{whole_element}
 use Rattle.gos_nodes.specs.windows.Nodes.{Stage}
-use Rattle.gos_nodes.specs.windows.Windows.{Runner, seen, HoldsOnly, Where, Resting, Asked, Within, Answered, to_session, to_answer, Staged, rests, waits, stays, holds, is_asked, begins, stirs, goes_on}
-use Rattle.gos_nodes.proofs.windows.MeetLemmas.{Meets, met_contact, met_contacts}
+use Rattle.gos_nodes.specs.windows.Windows.{Runner, seen, HoldsOnly, Where, Resting, Asked, Within, Answered, to_session, to_answer, IsAtPort, PassesPort, Staged, rests, waits, stays, holds, is_asked, begins, stirs, goes_on}
+use Rattle.gos_nodes.proofs.windows.MeetLemmas.{Meets, met_at, met_contact, met_contacts}
 use Rattle.gos_nodes.proofs.windows.TurnLemmas.{Turned, turns_before, OnlyResult, NoneOpen}
 use Rattle.gos_nodes.proofs.windows.WholeLemmas.{in_turn_at, Going, Led, asks, own_leads}
 use Rattle.gos_nodes.proofs.windows.NodeLemmas.{Place, AtRest, AtAsked, AtStage, AtAnswer, Holds, Result, rest_step, asked_step, answer_step, own_fired, own_firing}
@@ -46,6 +46,14 @@ Standing r g (Out e v) = StandsIn g.plan e
 Standing r g (In e v) = (i n : ℕ) × (e ≡ ImportEnd i n) × Meets r g.cut g.plan i n
 
 module _ (r : Plan) (d : ℕ) (runner : Runner) (gs : List Stage) (node : RunsStages r d runner gs) (restful : AreRestful runner gs) where
+  passes_port : (g : Stage) → Contains gs g → (y : Element) → Stays g.plan y → Standing r g y → PassesPort r g y
+  passes_port g has (Fire i t) remains at = tt
+  passes_port g has (Out (PartEnd i h) v) remains at = tt
+  passes_port g has (Out (ImportEnd i h) v) remains at = (stage r d runner gs node.base g has).ports i h remains
+  passes_port g has (Out (ResultEnd h) v) remains at = tt
+  passes_port g has (In e v) remains (i, n, is, meets) =
+      subst (IsAtPort r g) (sym is) (met_at r g.cut g.plan (has_ports r d runner gs node.base g has) i n meets)
+
   -- what an element of a stage is: one of its plan, in turn, after which the stage still runs
   pub record StageStep (g : Stage) (has : Contains gs g) (hs : List Element) (before s t : Tokens) (past : List Pass) (x : Element) : Type 0 where
     pub y : Element
@@ -379,7 +387,7 @@ module _ (r : Plan) (d : ℕ) (runner : Runner) (gs : List Stage) (node : RunsSt
               step.y ∷ ys,
               end,
               subst (λ (z : Element). Staged r d runner gs (Within g (step.y ∷ ys)) (z ∷ xs) s) step.is
-                  (stirs s w xs ys g step.y has going.stirs step.does step.stays (subst (λ (z : Element). Does r z s w) (sym step.is) does) staged),
+                  (stirs s w xs ys g step.y has going.stirs step.does step.stays (passes_port g has step.y step.stays step.standing) (subst (λ (z : Element). Does r z s w) (sym step.is) does) staged),
               (seen g w, step.does, ran),
               turns_before g.plan (passed g.plan [] hs) step.y ys step.turn (subst (λ (l : List Pass). InputsKeepTurns g.plan l ys) (passed_then g.plan [] hs step.y) kept),
               well_before (runner.asked g) g.plan step.y ys step.stays well,

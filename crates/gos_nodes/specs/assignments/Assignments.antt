@@ -8,7 +8,7 @@ use Rattle.gos_model.specs.Typing.{Imported, Typed}
 use Rattle.gos_plan.specs.Kinds as kinds
 use Rattle.gos_plan.specs.Plans.{End, PartEnd, ImportEnd, ResultEnd, Plan, IsRight}
 use Rattle.gos_plan.specs.TokenBits.{LiteralFits}
-use Rattle.gos_realises.specs.realises.Realises.{AllGround, NamesDiffer, Realises}
+use Rattle.gos_realises.specs.realises.Realises.{AllPorts, NamesDiffer, Realises}
 use Rattle.gos_joining.specs.webs.Webs.{joint}
 use Rattle.gos_joining.specs.webs.Cutting.{StandsIn}
 use Rattle.gos_nodes.specs.windows.Regions.{Serving, IsRegion, IsLoyal}
@@ -28,13 +28,13 @@ pub record IsLaid (r : Plan) (d : ℕ) (g : Stage) (p : Plan) : Type 0 where
       → (k : ℕ) × (g.cut.outer (ImportEnd i h) ≡ ImportEnd k h) × (slice_get r.imports k ≡ slice_get g.plan.imports i)
 
 -- The whole r is an Assign of w bits, its part d, and two stages: N's, with the plan of N, and M's, with the plan p of M but for the
--- joint by which it is read.
+-- joint by which it is read. The stages are asked where imports of theirs ask.
 pub record IsAssignment (r : Plan) (d w : ℕ) (number variable : Stage) (p : Plan) : Type 0 where
   pub right : IsRight r
   pub own : slice_get r.parts d ≡ Some (kinds.Assign w)
   pub outcome : r.outcome ≡ Com
   pub literals : All LiteralFits r.parts
-  pub ground : AllGround r.imports
+  pub open_imports : AllPorts r.imports
   pub names : NamesDiffer r.imports
   pub asked : number.asked_at ≡ 0
   pub written : variable.asked_at ≡ 1
@@ -42,12 +42,14 @@ pub record IsAssignment (r : Plan) (d w : ℕ) (number variable : Stage) (p : Pl
   pub own_literals : All LiteralFits p.parts
   pub laid_number : IsLaid r d number number.plan
   pub laid_variable : IsLaid r d variable p
+  pub number_heard : IsHeard number.cut r number.plan
+  pub variable_heard : IsHeard variable.cut r variable.plan
   pub result : Contains r.joints (joint (ResultEnd 0) (PartEnd d 2))
   pub joints :
       (a b : End) → Contains r.joints (joint a b)
       → ((a ≡ ResultEnd 0) × (b ≡ PartEnd d 2)) ⊎ IsOfStage (number ∷ variable ∷ []) a b
 
--- The same with imports of any types: the stages are asked where their imports ask.
+-- The same with imports of any types, and of the two plans no more than their names.
 pub record IsOpenAssignment (r : Plan) (d w : ℕ) (number variable : Stage) (p : Plan) : Type 0 where
   pub right : IsRight r
   pub own : slice_get r.parts d ≡ Some (kinds.Assign w)

@@ -11,7 +11,7 @@ use Rattle.gos_plan.specs.Plans.{ResultEnd, Plan}
 use Rattle.gos_plan.specs.Tokens.{Tokens, Element, Out, In, Does, Runs, IsIdle}
 use Rattle.gos_realises.specs.realises.Regular.{InputsKeepTurns}
 use Rattle.gos_realises.specs.realises.Matched.{shows, GoesOn, Agrees, program_of, RealisesInTurn}
-use Rattle.gos_realises.specs.realises.Realises.{AllGround, Realises}
+use Rattle.gos_realises.specs.realises.Realises.{AllPorts, Realises}
 use Rattle.gos_nodes.specs.windows.Nodes.{Stage}
 use Rattle.gos_nodes.specs.windows.OneSession.{IsTidy, EndsWell}
 use Rattle.gos_nodes.specs.assignments.Writes.{IsWrite, AreRestful}
@@ -45,13 +45,13 @@ pub record AreWritten (w : ℕ) (m n : Term) (gs : List Stage) : Type 0 where
       (g : Stage) → Contains gs g → g.asked_at ≡ 1
       → (k : ℕ) → k < 2 ^ w → Typed g.plan.imports [] (Assign m (Lit k w)) Com × SessionIsRealised g.plan 1 k (Assign m (Lit k w))
 
--- Then the plan realises `M := N`, with ground imports.
+-- Then the plan realises `M := N`, with imports of any types; by its type where these are ports.
 abbrev pub WriteRealises : Type 0
 WriteRealises =
     (r : Plan) (d w : ℕ) (gs : List Stage) (m n : Term)
-    → IsWrite r d w gs → AllGround r.imports → AreRestful gs → AreWritten w m n gs → RealisesInTurn r (Assign m n)
+    → IsWrite r d w gs → AreRestful gs → AreWritten w m n gs → RealisesInTurn r (Assign m n)
 
 abbrev pub WriteRealisesByType : Type 0
 WriteRealisesByType =
     (r : Plan) (d w : ℕ) (gs : List Stage) (m n : Term)
-    → IsWrite r d w gs → AllGround r.imports → AreRestful gs → AreWritten w m n gs → Typed r.imports [] (Assign m n) Com → Realises Com r (Assign m n)
+    → IsWrite r d w gs → AllPorts r.imports → AreRestful gs → AreWritten w m n gs → Typed r.imports [] (Assign m n) Com → Realises Com r (Assign m n)

@@ -10,7 +10,6 @@ use Rattle.gos_plan.specs.Kinds.{Lit}
 use Rattle.gos_plan.specs.Plans.{PartEnd, ResultEnd, Plan}
 use Rattle.gos_realises.specs.realises.Regular.{IsRegular}
 use Rattle.gos_realises.specs.realises.Matched.{RealisesInTurn}
-use Rattle.gos_realises.specs.realises.Realises.{AllGround}
 use Rattle.gos_joining.specs.webs.Webs.{joint}
 use Rattle.gos_joining.specs.webs.Cutting.{Cut, StandsIn}
 use Rattle.gos_nodes.specs.windows.Nodes.{Stage}
@@ -26,7 +25,6 @@ lone_stage f p = record { cut = f; sides = []; plan = p; asked_at = 1 }
 pub record IsLoneWrite (q : Plan) (d l w k : ℕ) (f : Cut) (p : Plan) : Type 0 where
   pub base : HasStages q d w (lone_stage f p ∷ [])
   pub outcome : q.outcome ≡ Com
-  pub ground : AllGround q.imports
   pub imports : q.imports ≡ p.imports
   pub lit : slice_get q.parts l ≡ Some (Lit w k)
   pub beside : f.number l ≡ None

@@ -16,7 +16,7 @@ use Rattle.gos_nodes.specs.sessions.Sessions.{bits}
 use Rattle.gos_joining.specs.webs.Webs.{joint}
 use Rattle.gos_joining.specs.webs.Cutting.{Cut, StandsIn, IsCut}
 use Rattle.gos_realises.specs.realises.Regular.{IsRegular}
-use Rattle.gos_realises.specs.realises.Realises.{AllGround, NamesDiffer, Realises}
+use Rattle.gos_realises.specs.realises.Realises.{AllGround, AllPorts, NamesDiffer, Realises}
 use Rattle.gos_nodes.specs.windows.Nodes.{IsRestful}
 use Rattle.gos_nodes.specs.windows.OpenNodes.{IsHeard}
 use Rattle.gos_nodes.specs.parallel.Parallel.{IsJointOf, IsPartOf}
@@ -83,10 +83,10 @@ BlockIsRegular =
     → IsRegular b.body → IsRegular r
 
 -- Where the server is a local variable, and the body's plan realises M with the import in the place of the bound variable, the whole
--- realises `new x : w in M`.
+-- realises `new x : w in M`, with imports that are ports.
 abbrev pub BlockRealises : Type 0
 BlockRealises =
     (r : Plan) (b : Block) (w : ℕ) (m : Term)
-    → IsBlock r b → b.server ≡ local_server w (bits r.outcome) → All LiteralFits r.parts → AllGround r.imports → NamesDiffer r.imports
+    → IsBlock r b → IsHeard b.cut r b.body → b.server ≡ local_server w (bits r.outcome) → All LiteralFits r.parts → AllPorts r.imports → NamesDiffer r.imports
     → Typed r.imports [] (New w m) r.outcome
     → Realises r.outcome b.body (instantiate m (Import b.variable.name)) → Realises r.outcome r (New w m)

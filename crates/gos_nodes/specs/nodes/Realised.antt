@@ -1,4 +1,4 @@
--- That a node realises its term, where the plans of its stages realise theirs.
+-- That a node realises its term, where the plans of its stages realise theirs. Its imports may have any types.
 --
 -- Read first: Windows of windows; Sessions of sessions; Matched, Realises of gos_realises.
 use Rattle.std.specs.Prelude.{◌≡◌, ℕ, List, [], Some, Contains}
@@ -11,9 +11,10 @@ use Rattle.gos_plan.specs.Plans.{Plan}
 use Rattle.gos_plan.specs.Tokens.{Tokens, Element, Runs, IsIdle}
 use Rattle.gos_realises.specs.realises.Regular.{InputsKeepTurns}
 use Rattle.gos_realises.specs.realises.Matched.{IsMatched, program_of, RealisesInTurn}
-use Rattle.gos_realises.specs.realises.Realises.{Realises}
+use Rattle.gos_realises.specs.realises.Realises.{AllPorts, Realises}
 use Rattle.gos_nodes.specs.sessions.Sessions.{Form, Session, session_of, own_term, own_type}
-use Rattle.gos_nodes.specs.windows.Nodes.{Stage, IsRestful, IsNode}
+use Rattle.gos_nodes.specs.windows.Nodes.{Stage, IsRestful}
+use Rattle.gos_nodes.specs.windows.OpenNodes.{IsOpenNode}
 
 -- each session of the form has a stage whose plan realises the session's term
 abbrev pub AreRealised : Form → List Stage → Type 0
@@ -26,17 +27,17 @@ AreRealised f gs =
 abbrev pub NodeIsMatched : Type 0
 NodeIsMatched =
     (r : Plan) (d : ℕ) (f : Form) (gs : List Stage) (s t : Tokens) (xs : List Element)
-    → IsNode r d f gs → AreRealised f gs → IsIdle r s → Runs r xs s t → InputsKeepTurns r [] xs
+    → IsOpenNode r d f gs → AreRealised f gs → IsIdle r s → Runs r xs s t → InputsKeepTurns r [] xs
     → IsMatched r (program_of r (own_term f)) xs s Idle
 
 -- So the node realises the term: its lists are orderly too, since a node is regular.
 abbrev pub NodeRealises : Type 0
-NodeRealises = (r : Plan) (d : ℕ) (f : Form) (gs : List Stage) → IsNode r d f gs → AreRealised f gs → RealisesInTurn r (own_term f)
+NodeRealises = (r : Plan) (d : ℕ) (f : Form) (gs : List Stage) → IsOpenNode r d f gs → AreRealised f gs → RealisesInTurn r (own_term f)
 
--- The plan suits the term too, so it realises it by its type.
+-- The plan suits the term too, where its imports are ports, so it realises it by its type.
 abbrev pub NodeRealisesByType : Type 0
 NodeRealisesByType =
-    (r : Plan) (d : ℕ) (f : Form) (gs : List Stage) → IsNode r d f gs → AreRealised f gs → Realises (own_type f) r (own_term f)
+    (r : Plan) (d : ℕ) (f : Form) (gs : List Stage) → IsOpenNode r d f gs → AllPorts r.imports → AreRealised f gs → Realises (own_type f) r (own_term f)
 
 -- A plan that realises a term of a command or an expression rests after its answer.
 abbrev pub RealisersRest : Type 0

@@ -16,7 +16,7 @@ use Rattle.gos_programs.specs.contexts.Widening.{AreAmong}
 use Rattle.gos_nodes.specs.windows.Nodes.{IsRestful}
 use Rattle.gos_nodes.specs.windows.OpenNodes.{IsHeard}
 use Rattle.gos_realises.specs.realises.Regular.{IsRegular}
-use Rattle.gos_realises.specs.realises.Realises.{AllGround, NamesDiffer, HaveOtherNames, Realises}
+use Rattle.gos_realises.specs.realises.Realises.{AllGround, AllPorts, NamesDiffer, HaveOtherNames, Realises}
 
 -- Region f of r has the plan p, and part d of r asks it at its handshake h. Where the region's result stands in no joint
 -- d asks in vain. An import that stands in a joint leads to the import of r with its name and its type.
@@ -75,9 +75,9 @@ ParallelIsRegular =
     → IsParallel d f g r p q → All LiteralFits r.parts → AllGround r.imports → NamesDiffer r.imports
     → AllGround p.imports → NamesDiffer p.imports → IsRegular p → AllGround q.imports → NamesDiffer q.imports → IsRegular q → IsRegular r
 
--- Where they realise m and n, it realises `m || n`.
+-- Where they realise m and n, it realises `m || n`, with imports that are ports.
 abbrev pub ParallelRealises : Type 0
 ParallelRealises =
     (d : ℕ) (f g : Cut) (r p q : Plan) (m n : Term)
-    → IsParallel d f g r p q → All LiteralFits r.parts → AllGround r.imports → NamesDiffer r.imports
+    → IsParallel d f g r p q → IsHeard f r p → IsHeard g r q → All LiteralFits r.parts → AllPorts r.imports → NamesDiffer r.imports
     → Typed r.imports [] (Par m n) Com → Realises Com p m → Realises Com q n → Realises Com r (Par m n)

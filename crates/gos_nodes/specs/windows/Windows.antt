@@ -1,18 +1,19 @@
 -- Windows: from the request of a stage to its answer all else rests, and what is done is of the stage.
 --
 -- Read first: Nodes; OneSession. It is so whatever part asks the stages, one at a time: the own part of a form, or an Assign.
-use Rattle.std.specs.Prelude.{◌≡◌, ◌≢◌, ℕ, ◌^◌, ◌<◌, true, List, [], ◌∷◌, Option, Some, None, Contains}
+use Rattle.std.specs.Prelude.{◌≡◌, ◌≢◌, ℕ, ◌^◌, ◌<◌, true, List, [], ◌∷◌, Option, Some, None, Contains, slice_get}
 use Rattle.gos_types.specs.Events.{Direction, Request, Answer}
 use Rattle.gos_plan.specs.Kinds.{Part}
 use Rattle.gos_plan.specs.Firing.{Rest, State, Req, Ans, Row, put, firing}
-use Rattle.gos_plan.specs.Plans.{End, PartEnd, ResultEnd, Plan}
+use Rattle.gos_plan.specs.Plans.{End, PartEnd, ImportEnd, ResultEnd, Plan}
 use Rattle.gos_plan.specs.Tokens.{Tokens, Element, Fire, Out, In, places_of, token_at, Does, Runs, IsIdle, IsQuiet}
 use Rattle.gos_realises.specs.realises.Regular.{InputsKeepTurns}
 use Rattle.gos_joining.specs.webs.Cutting.{lies_at, asks_in, cut_tokens}
 use Rattle.gos_nodes.specs.sessions.Sessions.{Form, Session, bits, own_part, run_shake, session_of}
 use Rattle.gos_nodes.specs.windows.Regions.{whole_element}
 use Rattle.gos_nodes.specs.windows.OneSession.{IsTidy, Stays, EndsWell}
-use Rattle.gos_nodes.specs.windows.Nodes.{Stage, IsNode}
+use Rattle.gos_nodes.specs.windows.Nodes.{Stage}
+use Rattle.gos_nodes.specs.windows.OpenNodes.{IsOpenNode}
 
 -- What runs stages: a part; the handshake by which it is run; in each of its states that at which it waits for an answer, if it
 -- does; and for each stage the handshake of the stage's result that it asks, the bits of the request and those of the answer.
@@ -71,6 +72,18 @@ pub data LeadsTo (r : Plan) (d : ℕ) (o : Runner) (gs : List Stage) (row : Row)
   to_answer :
       (k : ℕ) → HoldsOnly r (ResultEnd 0) Answer k s → row.puts v ≡ put (Ans o.run) k ∷ [] → LeadsTo r d o gs row v s (Answered k)
 
+-- the end of an import of the stage is that of an import of the whole, with its name and type
+abbrev pub IsAtPort : Plan → Stage → End → Type 0
+IsAtPort r g (PartEnd i h) = Unit {0}
+IsAtPort r g (ImportEnd i h) = (k : ℕ) × (g.cut.outer (ImportEnd i h) ≡ ImportEnd k h) × (slice_get r.imports k ≡ slice_get g.plan.imports i)
+IsAtPort r g (ResultEnd h) = Unit {0}
+
+-- so is that at which an element passes, if any
+abbrev pub PassesPort : Plan → Stage → Element → Type 0
+PassesPort r g (Fire i t) = Unit {0}
+PassesPort r g (Out e v) = IsAtPort r g e
+PassesPort r g (In e v) = IsAtPort r g e
+
 -- The list of the whole from a state: each element of it is one of the session that is running, or leads from one place of
 -- the own part's table to the next.
 pub data Staged (r : Plan) (d : ℕ) (o : Runner) (gs : List Stage) : Where → List Element → Tokens → Type 0 where
@@ -87,7 +100,7 @@ pub data Staged (r : Plan) (d : ℕ) (o : Runner) (gs : List Stage) : Where → 
       → t.state d ≡ row.next 0 → LeadsTo r d o gs row 0 t w → Staged r d o gs w xs t → Staged r d o gs Asked (Fire d (Req o.run) ∷ xs) s
   stirs :
       (s t : Tokens) (xs ys : List Element) (g : Stage) (y : Element)
-      → Contains gs g → StirsOnly d o g s → Does g.plan y (seen g s) (seen g t) → Stays g.plan y → Does r (whole_element g.cut y) s t
+      → Contains gs g → StirsOnly d o g s → Does g.plan y (seen g s) (seen g t) → Stays g.plan y → PassesPort r g y → Does r (whole_element g.cut y) s t
       → Staged r d o gs (Within g ys) xs t → Staged r d o gs (Within g (y ∷ ys)) (whole_element g.cut y ∷ xs) s
   goes_on :
       (s t : Tokens) (xs : List Element) (g : Stage) (v : ℕ) (u : Tokens) (row : Row) (w : Where)
@@ -121,18 +134,18 @@ form_runner f =
 abbrev pub ListsAreStaged : Type 0
 ListsAreStaged =
     (r : Plan) (d : ℕ) (f : Form) (gs : List Stage) (s t : Tokens) (xs : List Element)
-    → IsNode r d f gs → IsIdle r s → Runs r xs s t → InputsKeepTurns r [] xs → Staged r d (form_runner f) gs Resting xs s
+    → IsOpenNode r d f gs → IsIdle r s → Runs r xs s t → InputsKeepTurns r [] xs → Staged r d (form_runner f) gs Resting xs s
 
 -- Within a session, where the whole is quiet so is the stage.
 abbrev pub QuietIsWithin : Type 0
 QuietIsWithin =
     (r : Plan) (d : ℕ) (f : Form) (gs : List Stage) (g : Stage) (s : Tokens)
-    → IsNode r d f gs → Contains gs g → StirsOnly d (form_runner f) g s → IsQuiet r s → IsQuiet g.plan (seen g s)
+    → IsOpenNode r d f gs → Contains gs g → StirsOnly d (form_runner f) g s → IsQuiet r s → IsQuiet g.plan (seen g s)
 
 -- Before its firing the own part can fire, and before its output the answer can go out.
 abbrev pub OwnPartCan : Type 0
 OwnPartCan =
     (r : Plan) (d : ℕ) (f : Form) (gs : List Stage) (s : Tokens)
-    → IsNode r d f gs
+    → IsOpenNode r d f gs
     → (HoldsOnly r (PartEnd d (run_shake (own_part f))) Request 0 s → IsQuiet r s → ⊥)
     × ((v : ℕ) → HoldsOnly r (ResultEnd 0) Answer v s → IsQuiet r s → ⊥)

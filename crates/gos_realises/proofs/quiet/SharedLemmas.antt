@@ -1,13 +1,13 @@
 -- What a Share passes on: its rows, by the handshakes of its type.
-use Rattle.std.proofs.Common.{◌≡◌, ℕ, zero, suc, ◌+◌, ◌*◌, ◌<◌, List, [], ◌∷◌, length, Some, slice_get, refl, sym, ◌∙◌, ap, arith}
+use Rattle.std.proofs.Common.{◌≡◌, ℕ, zero, suc, ◌+◌, ◌*◌, ◌<◌, List, [], ◌∷◌, length, Some, slice_get, refl, arith}
 use Rattle.std.proofs.lemmas.Option.{slice_get_within}
 use Rattle.gos_types.specs.declared.shakes.Role.{Role}
 use Rattle.gos_types.specs.declared.shakes.Role.TheVariants.{Serve, Ask}
 use Rattle.gos_types.specs.Types.{Type'}
 use Rattle.gos_plan.specs.Kinds.{Share, Contact, contacts_of}
-use Rattle.gos_plan.specs.Firing.{Phase, Rest, State, at, Slot, Req, Ans, Row, rows, shared_rows, share_rows, firing}
-use Rattle.gos_plan.proofs.RowLemmas.{EachRow, row_with}
-use Rattle.gos_plan.proofs.AskingLemmas.{each_append}
+use Rattle.gos_plan.specs.Firing.{Rest, State, at, Slot, Req, Ans, Row, shared_rows, firing}
+use Rattle.gos_plan.proofs.RowLemmas.{EachRow}
+use Rattle.gos_plan.proofs.ShareTableLemmas.{share_row}
 
 -- the handshake of caller x
 abbrev pub caller : ℕ → ℕ → ℕ → ℕ
@@ -36,31 +36,16 @@ pub record SharedRow (cs : List Contact) (b v : ℕ) (r : Row) : Type 0 where
   pub low : shake < length cs
   pub passes : Passes (length cs) b shake contact.role v r
 
-shared_table : (all : List Contact) (b v : ℕ) (cs : List Contact) (j : ℕ) → ((m : ℕ) → slice_get cs m ≡ slice_get all (j + m))
-    → EachRow (SharedRow all b v) (share_rows cs (length all) j b)
-shared_table all b v [] j there = tt
-shared_table all b v (c ∷ cs) j there =
-    each_append (SharedRow all b v) (shared_rows c.role (length all) j b) (share_rows cs (length all) (suc j) b) (of_role c.role refl)
-    (shared_table all b v cs (suc j) (λ m. there (suc m) ∙ ap (slice_get all) (next m)))
+rows_shared : (t : Type') (b v j : ℕ) (c : Contact) → slice_get (contacts_of t) j ≡ Some c
+    → EachRow (SharedRow (contacts_of t) b v) (shared_rows c.role (length (contacts_of t)) j b)
+rows_shared t b v j c here = of_role c.role refl
   where
-    next : (m : ℕ) → j + suc m ≡ suc j + m
-    next m = omega arith
+    row : (r : Row) → Passes (length (contacts_of t)) b j c.role v r → SharedRow (contacts_of t) b v r
+    row r passes = record { shake = j; contact = c; there = here; low = slice_get_within (contacts_of t) j c here; passes = passes }
 
-    here : slice_get all j ≡ Some c
-    here = let same : j + 0 ≡ j = omega arith in sym (there 0 ∙ ap (slice_get all) same)
-
-    row : (r : Row) → Passes (length all) b j c.role v r → SharedRow all b v r
-    row r passes = record { shake = j; contact = c; there = here; low = slice_get_within all j c here; passes = passes }
-
-    of_role : (role : Role) → c.role ≡ role → EachRow (SharedRow all b v) (shared_rows role (length all) j b)
+    of_role : (role : Role) → c.role ≡ role → EachRow (SharedRow (contacts_of t) b v) (shared_rows role (length (contacts_of t)) j b)
     of_role Serve is = (row _ (asked_first is), (row _ (asked_second is), (row _ (answered_source is), tt)))
     of_role Ask is = (row _ (asked_source is), (row _ (answered_caller is), tt))
 
 pub shared_row : (t : Type') (q : State) (slot : Slot) (r : Row) (v : ℕ) → firing (Share t) q slot ≡ Some r → SharedRow (contacts_of t) q.number v r
-shared_row t q slot r v fires = (row_with (SharedRow (contacts_of t) q.number v) slot (rows (Share t) q.phase q.number) r (all q.phase) fires).1
-  where
-    all : (p : Phase) → EachRow (SharedRow (contacts_of t) q.number v) (rows (Share t) p q.number)
-    all Rest =
-        shared_table (contacts_of t) q.number v (contacts_of t) 0
-        (λ m. let same : m ≡ 0 + m = omega arith in ap (slice_get (contacts_of t)) same)
-    all p = tt
+shared_row t q slot r v fires = (share_row (SharedRow (contacts_of t) q.number v) t q slot r (rows_shared t q.number v) fires).1

@@ -10,7 +10,6 @@ use Rattle.gos_types.specs.Types.{Type', Com, Exp, Var, Pair, Fun, IsGround, IsD
 use Rattle.gos_model.specs.Typing.{Imported}
 use Rattle.gos_plan.specs.Plans.{ImportEnd, ResultEnd}
 use Rattle.gos_realises.specs.realises.Regular.{count, some_open, beyond, KeepsTurnsOf, whole_type, whole_end}
-use Rattle.gos_realises.specs.realises.Realises.{AllGround}
 pub use Rattle.gos_realises.proofs.realises.CountLemmas.{count_fun}
 use Rattle.gos_realises.proofs.realises.CountLemmas.{some_shake}
 
@@ -95,37 +94,6 @@ done_kept (Exp w) d g = tt
 done_kept (Var w) d g = absurd d
 done_kept (Pair a b) d g = absurd d
 done_kept (Fun a b) d g = absurd d
-
-pub turns_kept : (is : List Imported) (t : Type') → AllGround is → IsDone t → (f g : ℕ → Bool) → ((h : ℕ) → h < width is → g h ≡ true → f h ≡ true)
-    → (f (width is) ≡ true → g (width is) ≡ true) → KeepsTurnsOf (whole_type is t) f → KeepsTurnsOf (whole_type is t) g
-turns_kept [] t ground d f g less more keeps = done_kept t d g
-turns_kept (i ∷ is) t ground d f g less more (own, rest, leads) = (
-  ground_kept i.ty ground.0 f g (λ h low up. less h (omega (arith, low)) up) own,
-  turns_kept is t ground.1 d (beyond (count i.ty) f) (beyond (count i.ty) g) (λ h low up. less (count i.ty + h) (omega (arith, low)) up) more rest,
-  λ some.
-      let (k, low, up) = some_there (count i.ty) g some in
-      let before = leads (there_some (count i.ty) f k low (less k (omega (arith, low)) up)) in
-      let result = more (result_open is t d (beyond (count i.ty) f) rest before) in
-      there_some (count (whole_type is t)) (beyond (count i.ty) g) (width is) (width_small is t d) result,
-)
-
-ground_closed : (a : Type') → IsGround a → (f : ℕ → Bool) → ((h : ℕ) → f h ≡ false) → KeepsTurnsOf a f
-ground_closed Com ground f closed = tt
-ground_closed (Exp w) ground f closed = tt
-ground_closed (Var w) ground f closed = let none : f 0 ≡ false = closed 0 in rw none refl
-ground_closed (Pair a b) ground f closed = absurd ground
-ground_closed (Fun a b) ground f closed = absurd ground
-
--- where nothing is open turns are kept
-pub all_closed : (is : List Imported) (t : Type') → AllGround is → IsDone t → (f : ℕ → Bool) → ((h : ℕ) → f h ≡ false) → KeepsTurnsOf (whole_type is t) f
-all_closed [] t ground d f closed = done_kept t d f
-all_closed (i ∷ is) t ground d f closed = (
-  ground_closed i.ty ground.0 f closed,
-  all_closed is t ground.1 d (beyond (count i.ty) f) (λ h. closed (count i.ty + h)),
-  λ some.
-      let (k, low, up) = some_there (count i.ty) f some in
-      let both : false ≡ true = sym (closed k) ∙ up in absurd (cc both),
-)
 
 -- where the ends of the whole type stand
 pub result_end : (k : ℕ) (is : List Imported) → whole_end k is (width is) ≡ ResultEnd 0

@@ -3,7 +3,7 @@ use Rattle.std.specs.Prelude.{[], ◌∷◌}
 use Rattle.std.proofs.Common.{refl, sym, subst}
 use Rattle.gos_model.specs.Terms as terms
 use Rattle.gos_plan.specs.SmallPlans.{skip_plan}
-use Rattle.gos_realises.specs.realises.Realises.{AllGround}
+use Rattle.gos_realises.specs.realises.Realises.{AllPorts}
 use Rattle.gos_realises.specs.realises.Modules.{RealisesOpen}
 use Rattle.gos_realises.specs.realises.Alone.{SkipModuleIsRealised}
 use Rattle.gos_realises.proofs.realises.LiteralLemmas.{literals_same}
@@ -23,7 +23,7 @@ skip_is_open [] r supplied join names =
             right = join.joining.right;
             literals = literals_same r.parts skip_plan.parts same.parts suits.literals;
             outcome = join.joining.outcome;
-            all_ground = subst AllGround (sym join.joining.imports) tt;
+            all_ports = subst AllPorts (sym join.joining.imports) tt;
             names = names;
             typed = refl;
             regular = keeps.0 suits.regular;

@@ -18,15 +18,15 @@ place_of [] x (k, small, e) = absurd (omega (arith, small))
 place_of (y ∷ xs) x (zero, small, e) = (0, ap Some e)
 place_of (y ∷ xs) x (suc k, small, e) = let (n, at) = place_of xs x (k, omega (arith, small), e) in (suc n, at)
 
--- each import has a ground type
-pub ground_at : (is : List Imported) → AllGround is → (i : Imported) → Contains is i → IsGround i.ty
-ground_at [] all i (k, small, e) = absurd (omega (arith, small))
-ground_at (x ∷ is) all i (zero, small, e) = subst (λ (y : Imported). IsGround y.ty) e all.0
-ground_at (x ∷ is) all i (suc k, small, e) = ground_at is all.1 i (k, omega (arith, small), e)
+-- each import is a port
+pub port_among : (is : List Imported) → AllPorts is → (i : Imported) → Contains is i → IsPort i.ty
+port_among [] all i (k, small, e) = absurd (omega (arith, small))
+port_among (x ∷ is) all i (zero, small, e) = subst (λ (y : Imported). IsPort y.ty) e all.0
+port_among (x ∷ is) all i (suc k, small, e) = port_among is all.1 i (k, omega (arith, small), e)
 
-pub ground_by : (is : List Imported) → ((i : Imported) → Contains is i → IsGround i.ty) → AllGround is
-ground_by [] each = tt
-ground_by (x ∷ is) each = (each x (0, omega arith, refl), ground_by is (λ i has. each i (suc has.0, (let small = has.1 in omega (arith, small)), has.2)))
+pub ports_by : (is : List Imported) → ((i : Imported) → Contains is i → IsPort i.ty) → AllPorts is
+ports_by [] each = tt
+ports_by (x ∷ is) each = (each x (0, omega arith, refl), ports_by is (λ i has. each i (suc has.0, (let small = has.1 in omega (arith, small)), has.2)))
 
 -- so has the import of a name; and each is a port where all are
 some_type : (a b : Type') → Some a ≡ Some b → a ≡ b

@@ -586,23 +586,18 @@ pub ports_keep_turns : PortsKeepTurns
 ports_keep_turns p xs s t regular ports differ done idle runs keeps =
     to_turns p ports differ done regular s idle xs [] s t [] [] refl refl tt (ports_alike_first p) (none_turned p ports differ done) runs keeps
 
--- a ground import is a port
-pub ground_ports : (is : List Imported) → AllGround is → AllPorts is
-ground_ports [] ground = tt
-ground_ports (i ∷ is) ground = (inl ground.0, ground_ports is ground.1)
-
--- where all are ground
+-- inputs that keep the protocol keep that of ports
 pub protocol_keeps_turns : ProtocolKeepsTurns
-protocol_keeps_turns p xs s t regular ground differ done idle runs keeps =
-    ports_keep_turns p xs s t regular (ground_ports p.imports ground) differ done idle runs ((ground_ports_keep p.imports (all_shown p xs)).0 keeps)
+protocol_keeps_turns p xs s t regular ports differ done idle runs keeps =
+    ports_keep_turns p xs s t regular ports differ done idle runs ((ground_ports_keep p.imports (all_shown p xs)).0 keeps)
 
 pub realising_is_by_turns : RealisingIsByTurns
-realising_is_by_turns p m regular ground differ done = (by_turns, by_labels)
+realising_is_by_turns p m regular ports differ done = (by_turns, by_labels)
   where
-    by_turns : RealisesDone p m → RealisesInTurn p m
-    by_turns realises s t xs idle runs turns =
-        let keeps = turns_keep_ports p xs s t regular (ground_ports p.imports ground) differ done idle runs turns in
+    by_turns : AllGround p.imports → RealisesDone p m → RealisesInTurn p m
+    by_turns ground realises s t xs idle runs turns =
+        let keeps = turns_keep_ports p xs s t regular ports differ done idle runs turns in
         realises s t xs idle runs ((ground_ports_keep p.imports (all_shown p xs)).1 (ground_import p.imports ground) keeps)
 
     by_labels : RealisesInTurn p m → RealisesDone p m
-    by_labels realises s t xs idle runs keeps = realises s t xs idle runs (protocol_keeps_turns p xs s t regular ground differ done idle runs keeps)
+    by_labels realises s t xs idle runs keeps = realises s t xs idle runs (protocol_keeps_turns p xs s t regular ports differ done idle runs keeps)

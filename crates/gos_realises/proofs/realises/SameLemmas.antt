@@ -16,7 +16,7 @@ use Rattle.gos_plan.specs.Joining.{Place, place, Link, Wiring, JoinedWithin, Lin
 use Rattle.gos_plan.specs.SmallPlans.{same_plan}
 use Rattle.gos_plan.proofs.ContactLemmas.{asks_is_not_serves}
 use Rattle.gos_realises.specs.realises.Wirings.{link, applying}
-use Rattle.gos_realises.specs.realises.Realises.{AllGround, NamesDiffer, Means}
+use Rattle.gos_realises.specs.realises.Realises.{AllPorts, NamesDiffer, Means}
 use Rattle.gos_realises.specs.realises.Renumbered.{IsRenumbered}
 use Rattle.gos_realises.specs.realises.Functions.{SameIsRealised}
 use Rattle.gos_realises.proofs.realises.LiteralLemmas.{no_literals, literals_same}
@@ -199,7 +199,7 @@ same_means q r n other suits means joined =
         right = join.right;
         literals = literals_same r.parts q.parts (same_parts q suits.right suits.outcome r join) suits.literals;
         outcome = join.outcome;
-        all_ground = subst AllGround imports suits.all_ground;
+        all_ports = subst AllPorts imports suits.all_ports;
         names = subst NamesDiffer imports suits.names;
         typed = (Com, (Com, refl, refl), subst (λ is. Typed is [] n Com) imports suits.typed, none_free n);
         regular = keeps.0 suits.regular;
@@ -215,7 +215,7 @@ same_is_realised =
             right = (((0, 0, refl, refl), refl, refl), tt);
             literals = no_literals;
             outcome = refl;
-            all_ground = tt;
+            all_ports = tt;
             names = tt;
             typed = (Com, refl, refl);
             regular = same_is_regular;

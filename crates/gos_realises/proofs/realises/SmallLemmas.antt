@@ -1,9 +1,9 @@
 -- What realises nothing.
 use Rattle.std.specs.Prelude.{◌≡◌, ◌^◌, ◌<◌, ◌≤◌}
-use Rattle.std.proofs.Common.{sym, ◌∙◌, arith}
+use Rattle.std.proofs.Common.{sym, ◌∙◌, arith, inl, inr}
 use Rattle.gos_types.specs.Types.{Com, Exp}
 use Rattle.gos_plan.specs.Kinds.{Skip}
-use Rattle.gos_realises.specs.realises.OtherPlans.{OtherTypesAreNot, NoNumberIsDone, WildIsNot, LargeDoesNotSuit, WideFunctionIsNone, WideImportIsNone}
+use Rattle.gos_realises.specs.realises.OtherPlans.{OtherTypesAreNot, NoNumberIsDone, WildIsNot, LargeDoesNotSuit, FunctionImportDoesNotSuit, WideFunctionIsNone, WideImportIsNone}
 
 pub other_types_are_not : OtherTypesAreNot
 other_types_are_not t p m other r = other r.suits.outcome
@@ -20,6 +20,12 @@ wild_is_not t m r =
 
 pub large_does_not_suit : LargeDoesNotSuit
 large_does_not_suit t m suits = let small : 255 < 2 ^ 4 = suits.literals 0 Skip (omega arith) in omega (arith, small)
+
+pub function_import_does_not_suit : FunctionImportDoesNotSuit
+function_import_does_not_suit t m suits = elim suits.all_ports.0 [
+  | inl none ↦ none
+  | inr none ↦ none
+]
 
 pub wide_function_is_none : WideFunctionIsNone
 wide_function_is_none m realises = let low : 33 ≤ 32 = realises.result_widths.0.1 in omega (arith, low)

@@ -1,6 +1,6 @@
 -- The plan of `import f : com -> com; f skip` realises it. Joined to a plan of f it is that plan joined to the plan of
 -- `skip`, but for the numbers of the parts.
-use Rattle.std.specs.Prelude.{◌≡◌, ◌≢◌, ℕ, zero, suc, ◌+◌, ◌-◌, ◌<◌, Bool, true, false, not, ◌&&◌, ◌||◌, List, [], ◌∷◌, ◌++◌, ◌⊎◌, length, map, Option, Some, None, Contains, nat_eq, nat_lt, slice_get}
+use Rattle.std.specs.Prelude.{◌≡◌, ◌≢◌, ℕ, zero, suc, ◌+◌, ◌-◌, ◌<◌, Bool, true, false, ◌&&◌, ◌||◌, List, [], ◌∷◌, ◌++◌, ◌⊎◌, length, map, Option, Some, None, Contains, nat_eq, nat_lt, slice_get}
 use Rattle.std.proofs.Common.{refl, sym, ◌∙◌, ap, subst, arith, inl, inr, length-append}
 use Rattle.std.proofs.lemmas.Bool.Decides.{nat_tests}
 use Rattle.std.proofs.lemmas.Option.{slice_get_past, none-some}
@@ -10,10 +10,11 @@ use Rattle.gos_model.specs.Terms as terms
 use Rattle.gos_model.specs.Terms.{App}
 use Rattle.gos_model.specs.Typing.{Imported}
 use Rattle.gos_plan.specs.Kinds.{Part, Skip, Contact, asks, serves, contacts_of, turned_contact}
-use Rattle.gos_plan.specs.Plans.{End, PartEnd, ImportEnd, ResultEnd, Joint, Plan, contact_at, contacts_of_part, contacts_of_import, turned_if, same_end, stands_in, is_free, AreRight, IsRight}
+use Rattle.gos_plan.specs.Plans.{End, PartEnd, ImportEnd, ResultEnd, Joint, Plan, contact_at, contacts_of_part, contacts_of_import, turned_if, same_end, stands_in, IsRight}
 use Rattle.gos_plan.specs.Tokens.{asking_in}
 use Rattle.gos_plan.specs.Joining.{Place, place, Link, Wiring, all_left, origin, JoinedWithin, Linked, Path, Connects, IsJoining, left_place, all_parts, all_weight}
 use Rattle.gos_plan.specs.SmallPlans.{skip_plan}
+use Rattle.gos_plan.proofs.MovedJointLemmas.{right_moved}
 use Rattle.gos_realises.specs.realises.Links.{LinkFits, StandsIn, LinksFit, IsJoined}
 use Rattle.gos_realises.specs.realises.Wirings.{applying, link}
 use Rattle.gos_realises.specs.realises.SmallRealisers.{use_plan, UseIsRealised}
@@ -77,22 +78,6 @@ asking_moved f g returns (j ∷ js) e = by_test (stands_in e j) refl (asking_mov
         → asking_in (map (moved_joint f) (j ∷ js)) (moved f e) ≡ moved_if f (asking_in (j ∷ js) e)
     by_test true k rest = let l : stands_in (moved f e) (moved_joint f j) ≡ true = stands_moved f g returns e j ∙ k in rw (l, k) refl
     by_test false k rest = let l : stands_in (moved f e) (moved_joint f j) ≡ false = stands_moved f g returns e j ∙ k in rw (l, k) rest
-
-free_moved : (f g : ℕ → ℕ) → ((i : ℕ) → g (f i) ≡ i) → (e : End) (js : List Joint) → is_free (moved f e) (map (moved_joint f) js) ≡ is_free e js
-free_moved f g returns e [] = refl
-free_moved f g returns e (j ∷ js) = λ i. not (stands_moved f g returns e j i) && free_moved f g returns e js i
-
-right_moved : (f g : ℕ → ℕ) → ((i : ℕ) → g (f i) ≡ i) → (r q : Plan) → ((e : End) → contact_at q (moved f e) ≡ contact_at r e)
-    → (past js : List Joint) → AreRight r past js → AreRight q (map (moved_joint f) past) (map (moved_joint f) js)
-right_moved f g returns r q same past [] right = tt
-right_moved f g returns r q same past (j ∷ js) (((a, b, asked, served), one, other), right) = (
-  (
-    (a, b, same j.asking ∙ asked, same j.serving ∙ served),
-    free_moved f g returns j.asking past ∙ one,
-    free_moved f g returns j.serving past ∙ other,
-  ),
-  right_moved f g returns r q same (j ∷ past) js right,
-)
 
 -- paths of any length
 abbrev pub Reach : Wiring → Place → Place → Type 0
@@ -446,7 +431,9 @@ module _ (q r : Plan) (outcome : q.outcome ≡ Fun Com Com) (right : IsRight q) 
         imports = imports_same ∙ sym (ap (map (λ l. l.import)) (left_after q) ∙ imports_left 0 0 q.imports);
         outcome = refl;
         weight = refl;
-        right = right_moved (forth size) (back size) (returns size) r renewed contact_forth [] r.joints join.right;
+        right =
+            right_moved r renewed (moved (forth size)) join.right (λ e d k x one other. same_end_moved (forth size) (back size) (returns size) e d)
+            (λ e k at. contact_forth e ∙ at);
         result = result;
         fits = fits;
         joints = λ a b. (to a b, from a b);
@@ -510,7 +497,7 @@ use_is_realised (s ∷ []) r supplied join names =
             right = joined.right;
             literals = literals_among (forth (length q.parts)) r.parts (renewed q r suits.outcome suits.right joined).parts (λ i k at. same.parts i ∙ at) both.0.literals;
             outcome = joined.outcome;
-            all_ground = both.0.all_ground;
+            all_ports = both.0.all_ports;
             names = both.0.names;
             typed = both.0.typed;
             regular = keeps.0 both.0.regular;

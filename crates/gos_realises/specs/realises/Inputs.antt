@@ -18,7 +18,7 @@ use Rattle.gos_realises.specs.realises.Realises.{AllGround, AllPorts, NamesDiffe
 abbrev pub ProtocolKeepsTurns : Type 0
 ProtocolKeepsTurns =
     (p : Plan) (xs : List Element) (s t : Tokens)
-    → IsRegular p → AllGround p.imports → NamesDiffer p.imports → IsDone p.outcome → IsIdle p s → Runs p xs s t
+    → IsRegular p → AllPorts p.imports → NamesDiffer p.imports → IsDone p.outcome → IsIdle p s → Runs p xs s t
     → KeepsProtocol p.imports (all_shown p xs) → InputsKeepTurns p [] xs
 
 -- So do inputs that keep the protocol of ports, where imports may be of arrays, and the other way round.
@@ -43,9 +43,10 @@ MatchingSuffices =
     → IsIdle p s → Runs p xs s t → InputsKeepTurns p [] xs → IsMatched p (program_of p m) xs s Idle)
     → RealisesInTurn p m
 
--- And it realises a program by turns where it does by the protocol, and nowhere else.
+-- And where it realises a program by turns it does by the protocol; where its imports are ground nowhere else, since the
+-- protocol permits no input at an array's port.
 abbrev pub RealisingIsByTurns : Type 0
 RealisingIsByTurns =
     (p : Plan) (m : Term)
-    → IsRegular p → AllGround p.imports → NamesDiffer p.imports → IsDone p.outcome
-    → (RealisesDone p m → RealisesInTurn p m) × (RealisesInTurn p m → RealisesDone p m)
+    → IsRegular p → AllPorts p.imports → NamesDiffer p.imports → IsDone p.outcome
+    → (AllGround p.imports → RealisesDone p m → RealisesInTurn p m) × (RealisesInTurn p m → RealisesDone p m)

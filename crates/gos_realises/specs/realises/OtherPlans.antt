@@ -1,7 +1,8 @@
 -- Small plans that do not realise a program.
 --
 -- Read first: SmallRealisers. They show that the relation can be missed: by doing nothing, by another order, by another
--- type, by joints to ends that are not there, by a number that is larger than its width, and by a type that has none.
+-- type, by joints to ends that are not there, by a number that is larger than its width, by an import that is no port, and by a
+-- type that has no width.
 use Rattle.std.specs.Prelude.{◌≡◌, ◌≢◌, [], ◌∷◌, codes}
 use Rattle.gos_types.specs.Types.{Type', Com, Exp, Var, Fun}
 use Rattle.gos_model.specs.Terms as terms
@@ -78,6 +79,13 @@ large_plan =
 -- suits nothing
 abbrev pub LargeDoesNotSuit : Type 0
 LargeDoesNotSuit = (t : Type') (m : Term) → Suits t large_plan m → ⊥
+
+-- nor does the plan of `skip` that imports a function on commands, which is no port
+abbrev pub function_import : Plan
+function_import = record skip_plan { imports = record { name = codes "f"; ty = Fun Com Com } ∷ [] }
+
+abbrev pub FunctionImportDoesNotSuit : Type 0
+FunctionImportDoesNotSuit = (t : Type') (m : Term) → Suits t function_import m → ⊥
 
 -- The plan of a function that has no joints does not realise `fun a : com . a`: joined to the plan of `skip` it never
 -- answers.

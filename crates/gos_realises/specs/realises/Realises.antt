@@ -1,4 +1,4 @@
--- What it means that a plan whose imports are ground realises a term.
+-- What it means that a plan whose imports are ports, ground or of arrays, realises a term.
 --
 -- Read first: Matched, Regular, Wirings. It is a relation by the type of the term, in the manner of a logical relation
 -- (Plotkin 1973): a plan of a function type realises a function where, joined to any plan that realises an argument, it
@@ -32,13 +32,13 @@ abbrev pub HaveOtherNames : List Imported → List Imported → Type 0
 HaveOtherNames is js = (i j : Imported) → Contains is i → Contains js j → i.name ≢ j.name
 
 -- What a plan has to be before it is asked what it does: each of its joints is right, its literals have at most their
--- bits, its outcome is the type, its imports are ground and have different names, the term has the type under them, and
--- it is regular.
+-- bits, its outcome is the type, its imports are ports and have different names, the term has the type under them, and it is
+-- regular.
 pub record Suits (t : Type') (p : Plan) (m : Term) : Type 0 where
   pub right : IsRight p
   pub literals : All LiteralFits p.parts
   pub outcome : p.outcome ≡ t
-  pub all_ground : AllGround p.imports
+  pub all_ports : AllPorts p.imports
   pub names : NamesDiffer p.imports
   pub typed : Typed p.imports [] m t
   pub regular : IsRegular p
@@ -58,7 +58,7 @@ Means (Fun a b) p m =
     → HaveOtherNames p.imports q.imports → Suits a q n → Means a q n → IsJoined (applying a b p q) r
     → Suits b r (App m n) × Means b r (App m n)
 
--- A plan with ground imports realises a term of this type.
+-- A plan whose imports are ports realises a term of this type.
 pub record Realises (t : Type') (p : Plan) (m : Term) : Type 0 where
   pub suits : Suits t p m
   pub means : Means t p m

@@ -7,7 +7,7 @@ ghost use Rattle.gos_realises.specs.realises.Renumbered.{RenumberingKeeps};
 ghost use Rattle.gos_realises.specs.realises.SmallLinks.{SameFits, NumberDoesNotFit, TwiceDoesNotFit, PartDoesNotFit, NowhereDoesNotFit, SkipIsSlim, WeightIsNeeded};
 ghost use Rattle.gos_realises.specs.realises.SmallTurns.{SkipIsRegular, BothSidesAreNot};
 ghost use Rattle.gos_realises.specs.realises.SmallRealisers.{SkipIsRealised, NameIsRealised, UseIsRealised, ListsAreTraces};
-ghost use Rattle.gos_realises.specs.realises.OtherPlans.{EmptyIsNotSkip, EmptyIsNoFunction, OrderIsTold, OtherTypesAreNot, NoNumberIsDone, WildIsNot, LargeDoesNotSuit, WideFunctionIsNone, WideImportIsNone};
+ghost use Rattle.gos_realises.specs.realises.OtherPlans.{EmptyIsNotSkip, EmptyIsNoFunction, OrderIsTold, OtherTypesAreNot, NoNumberIsDone, WildIsNot, LargeDoesNotSuit, FunctionImportDoesNotSuit, WideFunctionIsNone, WideImportIsNone};
 
 /// The plan of `skip` keeps turns. One that asks both sides of a product at once does not.
 pub fn turns()
@@ -44,8 +44,8 @@ pub fn lists_are_traces()
 {}
 
 /// Plans that do too little or something else realise nothing; nor do those of another type, with ends that are
-/// not there, or with a number that is larger than its width. No module is realised by a plan of a function of a
-/// variable of 33 bits, or with such an import.
+/// not there, with a number that is larger than its width, or with an import that is no port. No module is realised
+/// by a plan of a function of a variable of 33 bits, or with such an import.
 pub fn others_are_refused()
     ensures empty { EmptyIsNotSkip }
     ensures function { EmptyIsNoFunction }
@@ -54,6 +54,7 @@ pub fn others_are_refused()
     ensures number { NoNumberIsDone }
     ensures wild { WildIsNot }
     ensures large { LargeDoesNotSuit }
+    ensures function_import { FunctionImportDoesNotSuit }
     ensures wide_function { WideFunctionIsNone }
     ensures wide_import { WideImportIsNone }
 {}

@@ -1,5 +1,5 @@
 -- The plan behind a Share lies behind it: its joints are right, and are those of the plan and of the caller.
-use Rattle.std.specs.Prelude.{◌≡◌, ℕ, zero, suc, ◌+◌, ◌*◌, ◌<◌, ◌≤◌, false, not, ◌&&◌, ◌||◌, List, [], ◌∷◌, ◌++◌, ◌⊎◌, length, map, Some, slice_get, Contains}
+use Rattle.std.specs.Prelude.{◌≡◌, ℕ, zero, suc, ◌+◌, ◌*◌, ◌<◌, ◌≤◌, false, List, [], ◌∷◌, ◌++◌, ◌⊎◌, length, map, Some, slice_get, Contains}
 use Rattle.std.proofs.Common.{refl, sym, ◌∙◌, ap, subst, arith, inl, inr}
 use Rattle.std.proofs.lemmas.Bool.{false_from_ne_true}
 use Rattle.gos_types.specs.declared.shakes.Role.{Role}
@@ -7,14 +7,15 @@ use Rattle.gos_types.specs.declared.shakes.Role.TheVariants.{Serve, Ask}
 use Rattle.gos_types.specs.Types.{Type'}
 use Rattle.gos_types.specs.Handshakes.{turned}
 use Rattle.gos_plan.specs.Kinds.{Contact, asks, serves, contacts_of}
-use Rattle.gos_plan.specs.Plans.{End, Joint, Plan, stands_in, is_free, Fits, AreRight, IsRight}
+use Rattle.gos_plan.specs.Plans.{End, Joint, Plan, stands_in, Fits, AreRight, IsRight}
+use Rattle.gos_plan.proofs.MovedJointLemmas.{map_in, in_map, right_moved}
 use Rattle.gos_plan.proofs.JointLemmas.{IsIn, fits, contained, which_end}
 use Rattle.gos_plan.proofs.ContactLemmas.{as_serves, turned_asks}
 use Rattle.gos_realises.specs.realises.Regular.{count}
 use Rattle.gos_joining.specs.webs.Webs.{joint}
 use Rattle.gos_joining.proofs.webs.MovedLemmas.{listed}
 use Rattle.gos_sharing.specs.buffers.Buffering.{end_behind, joint_behind}
-use Rattle.gos_sharing.proofs.buffers.BufferedLemmas.{in_map, map_in, in_first, in_second, in_either, free_of}
+use Rattle.gos_sharing.proofs.buffers.BufferedLemmas.{in_first, in_second, in_either, free_of}
 use Rattle.gos_sharing.specs.behind.Behind.{outer_joint, outer_joints, passing, HasShare, IsBehind, LiesBehind}
 use Rattle.gos_sharing.proofs.behind.EndLemmas.{Owned, asker, server, outer_is, owned_contact, contact_behind, caller_contact, result_contact, same_behind, not_asker, not_server}
 
@@ -60,48 +61,19 @@ module _ (c : ℕ) (p : Plan) (two : c < 2) (right : IsRight p) where
   frame : HasShare (length p.parts) p.outcome c (passing p.outcome c p) p
   frame = record { caller = two; number = refl; parts = refl; imports = refl; outcome = refl; also_outcome = refl }
 
-  abbrev AllFitting : List Joint → Type 0
-  AllFitting js = (j : Joint) → IsIn j js → Fits p j
-
   -- the plan's joints
-  fits_behind : (j : Joint) → Fits p j → Fits whole (joint_behind i j)
-  fits_behind j fit = (
-    fit.0,
-    fit.1,
-    contact_behind i t c whole p frame j.asking (asks fit.0 fit.1) fit.2,
-    contact_behind i t c whole p frame j.serving (serves fit.0 fit.1) fit.3,
-  )
-
   own_asking : (j : Joint) → Fits p j → Owned t p j.asking
   own_asking j fit = owned_contact i t c whole p frame j.asking (asks fit.0 fit.1) fit.2
 
   own_serving : (j : Joint) → Fits p j → Owned t p j.serving
   own_serving j fit = owned_contact i t c whole p frame j.serving (serves fit.0 fit.1) fit.3
 
-  free_behind : (e : End) → Owned t p e → (js : List Joint) → AllFitting js → is_free (end_behind i e) (map (joint_behind i) js) ≡ is_free e js
-  free_behind e own [] all = refl
-  free_behind e own (x ∷ xs) all =
-      let fit = all x (inl refl) in
-      let one = same_behind i t c whole p frame e x.asking own (own_asking x fit) in
-      let other = same_behind i t c whole p frame e x.serving own (own_serving x fit) in
-      let rest = free_behind e own xs (λ j h. all j (inr h)) in
-      λ n. not (one n || other n) && rest n
-
-  right_behind : (before js : List Joint) → AllFitting before → AreRight p before js → AreRight whole (map (joint_behind i) before) (map (joint_behind i) js)
-  right_behind before [] all are = tt
-  right_behind before (x ∷ xs) all are =
-      let fit = are.0.0 in (
-        (
-          fits_behind x fit,
-          free_behind x.asking (own_asking x fit) before all ∙ are.0.1,
-          free_behind x.serving (own_serving x fit) before all ∙ are.0.2,
-        ),
-        right_behind (x ∷ before) xs (with_one x before fit all) are.1,
-      )
-    where
-      with_one : (x : Joint) (before : List Joint) → Fits p x → AllFitting before → AllFitting (x ∷ before)
-      with_one x before fit all j (inl e) = subst (λ (y : Joint). Fits p y) (sym e) fit
-      with_one x before fit all j (inr h) = all j h
+  right_behind : AreRight whole [] (map (joint_behind i) p.joints)
+  right_behind =
+      right_moved p whole (end_behind i) right
+      (λ e d k x one other.
+      same_behind i t c whole p frame e d (owned_contact i t c whole p frame e k one) (owned_contact i t c whole p frame d x other))
+      (contact_behind i t c whole p frame)
 
   -- the caller's
   outer_fits : (j : ℕ) (k : Contact) → slice_get (contacts_of t) j ≡ Some k → Fits whole (outer_joint i t c j k.role)
@@ -195,7 +167,7 @@ module _ (c : ℕ) (p : Plan) (two : c < 2) (right : IsRight p) where
 
   whole_right : IsRight whole
   whole_right =
-      together whole [] (map (joint_behind i) p.joints) (outer_joints i t c 0 (contacts_of t)) (right_behind [] p.joints (λ j h. absurd h) right)
+      together whole [] (map (joint_behind i) p.joints) (outer_joints i t c 0 (contacts_of t)) right_behind
       (λ b known. right_outer 0 (contacts_of t) b (λ m k at. let zeros : m ≡ 0 + m = omega arith in ap (slice_get (contacts_of t)) (sym zeros) ∙ at) (none_behind b known))
 
   abbrev Lies : End → End → Type 0

@@ -1,5 +1,5 @@
 -- Before the Share has taken a token of its caller, what is joined to its source does nothing that is seen.
-use Rattle.std.specs.Prelude.{◌≡◌, ◌≢◌, ℕ, zero, suc, ◌+◌, ◌-◌, ◌*◌, ◌<◌, Bool, true, false, List, [], ◌∷◌, ◌⊎◌, length, Option, Some, None, slice_get, nat_eq, if◌then◌else◌}
+use Rattle.std.specs.Prelude.{◌≡◌, ◌≢◌, ℕ, zero, suc, ◌+◌, ◌-◌, ◌*◌, ◌<◌, Bool, true, false, List, [], ◌∷◌, ◌⊎◌, Option, Some, None, slice_get, nat_eq, if◌then◌else◌}
 use Rattle.std.proofs.Common.{refl, sym, ◌∙◌, ap, subst, arith, inl, inr}
 use Rattle.std.proofs.lemmas.Option.{slice_get_within, same_Some}
 use Rattle.gos_types.specs.declared.shakes.Role.{Role}
@@ -9,14 +9,15 @@ use Rattle.gos_types.specs.Handshakes.{turned}
 use Rattle.gos_types.specs.Events.{Direction, Request, Answer}
 use Rattle.gos_model.specs.Typing.{Imported}
 use Rattle.gos_plan.specs.Kinds.{Share, Contact, contacts_of, part_contacts}
-use Rattle.gos_plan.specs.Firing.{Phase, Rest, State, Slot, Token, Row, rows, shared_rows, share_rows, firing}
+use Rattle.gos_plan.specs.Firing.{State, Slot, Token, Row, shared_rows, firing}
 use Rattle.gos_plan.specs.Plans.{End, PartEnd, ImportEnd, ResultEnd, Plan, contact_at, contacts_of_part, contacts_of_import}
 use Rattle.gos_plan.specs.Tokens.{Tokens, Element, Fire, Out, In, IsPortEnd, Passes, places_of, token_at, with_token, with_state, with_puts, end_of, way_of, shake_of, way_taken, way_put, firing_of, fired, Does, Runs, IsIdle}
 use Rattle.gos_plan.specs.Orderly.{Open, none_open}
 use Rattle.gos_plan.proofs.JointLemmas.{joined}
 use Rattle.gos_plan.proofs.HeldLemmas.{nothing_there}
-use Rattle.gos_plan.proofs.RowLemmas.{EachRow, row_with, role_taking}
-use Rattle.gos_plan.proofs.AskingLemmas.{RoleIs, each_append, row_roles}
+use Rattle.gos_plan.proofs.RowLemmas.{EachRow, role_taking}
+use Rattle.gos_plan.proofs.AskingLemmas.{RoleIs, row_roles}
+use Rattle.gos_plan.proofs.ShareTableLemmas.{share_row}
 use Rattle.gos_plan.proofs.TurnLemmas.{fired_state, token_state, way_to_take}
 use Rattle.gos_plan.proofs.ContactLemmas.{turned_of}
 use Rattle.gos_plan.proofs.ElementLemmas.{firing_part}
@@ -50,17 +51,9 @@ of_role : (n j b : ℕ) (role : Role) → j < n → EachRow (Located n) (shared_
 of_role n j b Serve low = (inr (0, j, low, omega arith), (inr (1, j, low, omega arith), (inl low, tt)))
 of_role n j b Ask low = (inl low, (inr (b, j, low, refl), tt))
 
-each_share : (n b : ℕ) (cs : List Contact) (j : ℕ) → j + length cs ≡ n → EachRow (Located n) (share_rows cs n j b)
-each_share n b [] j e = tt
-each_share n b (k ∷ ks) j e =
-    each_append (Located n) (shared_rows k.role n j b) (share_rows ks n (suc j) b) (of_role n j b k.role (omega (arith, e))) (each_share n b ks (suc j) (omega (arith, e)))
-
-all_rows : (t : Type') (p : Phase) (b : ℕ) → EachRow (Located (count t)) (rows (Share t) p b)
-all_rows t Rest b = each_share (count t) b (contacts_of t) 0 (omega arith)
-all_rows t p b = tt
-
 located : (t : Type') (q : State) (slot : Slot) (r : Row) → firing (Share t) q slot ≡ Some r → (r.takes ≡ slot) × Located (count t) r
-located t q slot r fires = row_with (Located (count t)) slot (rows (Share t) q.phase q.number) r (all_rows t q.phase q.number) fires
+located t q slot r fires =
+    share_row (Located (count t)) t q slot r (λ j c at. of_role (count t) j q.number c.role (slice_get_within (contacts_of t) j c at)) fires
 
 beyond_callers : (n b j : ℕ) → n + suc (suc b) * n + j < n + (n + n) → ⊥
 beyond_callers n b j low = omega (arith, low)
@@ -538,7 +531,7 @@ module _ (i : ℕ) (t : Type') (c : ℕ) (r p : Plan) (is : IsBehind i t c r p) 
       of_from (of_asker l k at_l same) = absurd (not_asking l k.role same)
       of_from (of_server l k at_l same) = absurd (not_serving l k.role same)
 
-  has_imports : HasItsImports (lying i p) r p
+  pub has_imports : HasItsImports (lying i p) r p
   has_imports n h m l g x stood at_m at_l role joined = (m, g, import_joined m g joined, refl)
 
   pub before_it : IsBefore (lying i p) i t c r p

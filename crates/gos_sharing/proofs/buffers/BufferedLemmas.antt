@@ -12,6 +12,7 @@ use Rattle.gos_model.specs.Terms.{Term}
 use Rattle.gos_plan.specs.Kinds.{Contact, asks, serves, Part, Share, contacts_of, turned_contact, part_contacts}
 use Rattle.gos_plan.specs.Plans.{End, PartEnd, ImportEnd, ResultEnd, Joint, Plan, contact_at, contacts_of_part, turned_if, same_end, stands_in, is_free, Fits, AreRight, IsRight}
 use Rattle.gos_plan.specs.TokenBits.{LiteralFits}
+use Rattle.gos_plan.proofs.MovedJointLemmas.{map_in, in_map, right_moved}
 use Rattle.gos_plan.proofs.JointLemmas.{IsIn, same_itself, fits, contained, apart_is_not_same, same_part, same_shake}
 use Rattle.gos_plan.proofs.AskingLemmas.{source_at, first_caller_at, second_caller_at}
 use Rattle.gos_plan.proofs.ContactLemmas.{turned_of, as_serves, turned_asks}
@@ -90,17 +91,7 @@ in_onto (x ∷ xs) before j h = by_side (in_onto xs (x ∷ before) j h)
     by_side (inr (inl k)) = inl (inl k)
     by_side (inr (inr k)) = inr k
 
--- the joints of the plan, behind the Share
-pub in_map : (f : Joint → Joint) (js : List Joint) (j : Joint) → IsIn j (map f js) → (k : Joint) × IsIn k js × (j ≡ f k)
-in_map f [] j h = absurd h
-in_map f (x ∷ xs) j (inl e) = (x, inl refl, e)
-in_map f (x ∷ xs) j (inr h) = let rest = in_map f xs j h in (rest.0, inr rest.1, rest.2)
-
-pub map_in : (f : Joint → Joint) (js : List Joint) (k : Joint) → IsIn k js → IsIn (f k) (map f js)
-map_in f [] k h = absurd h
-map_in f (x ∷ xs) k (inl e) = inl (ap f e)
-map_in f (x ∷ xs) k (inr h) = inr (map_in f xs k h)
-
+-- the joints of the plan, and others
 pub in_first : (xs ys : List Joint) (j : Joint) → IsIn j xs → IsIn j (xs ++ ys)
 in_first [] ys j h = absurd h
 in_first (x ∷ xs) ys j (inl e) = inl e
@@ -200,37 +191,6 @@ module _ (c : ℕ) (p : Plan) (two : c < 2) (right : IsRight p) (ground : IsGrou
   same_behind (ResultEnd h) (ImportEnd l g) k x there also = refl
   same_behind (ResultEnd h) (ResultEnd g) k x there also = let e : nat_eq number number ≡ true = grind arith in rw e refl
 
-  fits_behind : (j : Joint) → Fits p j → Fits whole (joint_behind number j)
-  fits_behind j fit = (fit.0, fit.1, contact_behind j.asking (asks fit.0 fit.1) fit.2, contact_behind j.serving (serves fit.0 fit.1) fit.3)
-
-  abbrev AllFitting : List Joint → Type 0
-  AllFitting js = (j : Joint) → IsIn j js → Fits p j
-
-  free_behind : (e : End) (k : Contact) → contact_at p e ≡ Some k → (js : List Joint) → AllFitting js → is_free (end_behind number e) (map (joint_behind number) js) ≡ is_free e js
-  free_behind e k there [] all = refl
-  free_behind e k there (x ∷ xs) all =
-      let fit = all x (inl refl) in
-      let one = same_behind e x.asking k (asks fit.0 fit.1) there fit.2 in
-      let other = same_behind e x.serving k (serves fit.0 fit.1) there fit.3 in
-      let rest = free_behind e k there xs (λ j h. all j (inr h)) in
-      λ n. not (one n || other n) && rest n
-
-  right_behind : (before js : List Joint) → AllFitting before → AreRight p before js → AreRight whole (map (joint_behind number) before) (map (joint_behind number) js)
-  right_behind before [] all are = tt
-  right_behind before (x ∷ xs) all are =
-      let fit = are.0.0 in (
-        (
-          fits_behind x fit,
-          free_behind x.asking (asks fit.0 fit.1) fit.2 before all ∙ are.0.1,
-          free_behind x.serving (serves fit.0 fit.1) fit.3 before all ∙ are.0.2,
-        ),
-        right_behind (x ∷ before) xs (with_one x before fit all) are.1,
-      )
-    where
-      with_one : (x : Joint) (before : List Joint) → Fits p x → AllFitting before → AllFitting (x ∷ before)
-      with_one x before fit all j (inl e) = subst (λ (y : Joint). Fits p y) (sym e) fit
-      with_one x before fit all j (inr h) = all j h
-
   -- the joints of the caller
   pub caller_contact : (h : ℕ) (k : Contact) → slice_get (contacts_of p.outcome) h ≡ Some k → contact_at whole (caller_end number p.outcome c h) ≡ Some k
   caller_contact h k there = share_contact (count p.outcome + c * count p.outcome + h) ∙ by_caller c two
@@ -311,7 +271,7 @@ module _ (c : ℕ) (p : Plan) (two : c < 2) (right : IsRight p) (ground : IsGrou
   pub whole_right : IsRight whole
   whole_right =
       right_together whole [] (map (joint_behind number) p.joints) (callers_joined number p.outcome c 0 (count p.outcome))
-      (right_behind [] p.joints (λ j h. absurd h) right)
+      (right_moved p whole (end_behind number) right same_behind contact_behind)
       (right_callers 0 (count p.outcome) (Onto (map (joint_behind number) p.joints) []) (omega arith) none_behind)
 
   -- the plan with the loose part
@@ -549,7 +509,7 @@ done_suits t c p m two ground result suits =
       right = found.0;
       literals = buffered_literals t c p suits.literals;
       outcome = suits.outcome;
-      all_ground = suits.all_ground;
+      all_ports = suits.all_ports;
       names = suits.names;
       typed = suits.typed;
       regular = found.1 suits.regular;

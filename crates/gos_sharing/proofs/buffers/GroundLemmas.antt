@@ -1,6 +1,6 @@
 -- The Share of a ground type: its handshakes, the tokens that it takes, and the branch that it is left at.
 use Rattle.std.specs.Prelude.{◌+◌, ◌*◌, ◌<◌, slice_get}
-use Rattle.std.proofs.Common.{◌≡◌, ℕ, zero, suc, List, [], ◌∷◌, Some, inl, inr, refl, sym, ◌∙◌, ap, subst, arith}
+use Rattle.std.proofs.Common.{◌≡◌, ℕ, zero, suc, Some, inl, inr, refl, sym, ◌∙◌, ap, subst, arith}
 use Rattle.std.proofs.lemmas.Option.{slice_get_within, none-some}
 use Rattle.gos_types.specs.Types.{Type', Com, Exp, Var, Pair, Fun, IsGround}
 use Rattle.gos_types.specs.declared.shakes.Role.{Role}
@@ -8,10 +8,10 @@ use Rattle.gos_types.specs.declared.shakes.Role.TheVariants.{Serve, Ask}
 use Rattle.gos_types.specs.Events.{Request, Answer}
 use Rattle.gos_realises.specs.realises.Regular.{count}
 use Rattle.gos_plan.specs.Kinds.{Contact, asks, serves, Share, contacts_of, part_contacts}
-use Rattle.gos_plan.specs.Firing.{Phase, Rest, State, at, Slot, Req, Ans, Row, rows, row_for, shared_rows, share_rows, firing}
+use Rattle.gos_plan.specs.Firing.{Rest, State, at, Slot, Req, Ans, Row, rows, row_for, shared_rows, firing}
 use Rattle.gos_plan.specs.Tokens.{shake_of, way_of, way_taken}
-use Rattle.gos_plan.proofs.RowLemmas.{EachRow, row_with}
-use Rattle.gos_plan.proofs.AskingLemmas.{each_append}
+use Rattle.gos_plan.proofs.RowLemmas.{EachRow}
+use Rattle.gos_plan.proofs.ShareTableLemmas.{share_row}
 use Rattle.gos_sharing.specs.sharing.Sharing.{IsForCaller}
 use Rattle.gos_sharing.proofs.sharing.ShareRowLemmas.{first_caller, second_caller, same_branch}
 
@@ -42,29 +42,10 @@ next_of t c b j Serve two lt = (
 )
 next_of t c b j Ask two lt = ((λ for v. of_source t c b j lt for), ((λ for v. of_branch t c b j two lt for), tt))
 
-next_table : (t : Type') (c b : ℕ) → c < 2 → (cs : List Contact) (j : ℕ)
-    → ((m : ℕ) (k : Contact) → slice_get cs m ≡ Some k → slice_get (contacts_of t) (j + m) ≡ Some k)
-    → EachRow (NextIf t c b) (share_rows cs (count t) j b)
-next_table t c b two [] j there = tt
-next_table t c b two (x ∷ xs) j there =
-    each_append (NextIf t c b) (shared_rows x.role (count t) j b) (share_rows xs (count t) (suc j) b)
-    (next_of t c b j x.role two (slice_get_within (contacts_of t) j x here))
-    (next_table t c b two xs (suc j) (λ m k e. let onto : j + suc m ≡ suc j + m = omega arith in
-    subst (λ (n : ℕ). slice_get (contacts_of t) n ≡ Some k) onto (there (suc m) k e)))
-  where
-    here : slice_get (contacts_of t) j ≡ Some x
-    here = let same : j + 0 ≡ j = omega arith in subst (λ (n : ℕ). slice_get (contacts_of t) n ≡ Some x) same (there 0 x refl)
-
-next_rows : (t : Type') (c : ℕ) → c < 2 → (p : Phase) (b : ℕ) → EachRow (NextIf t c b) (rows (Share t) p b)
-next_rows t c two Rest b =
-    next_table t c b two (contacts_of t) 0
-    (λ m k e. let same : m ≡ 0 + m = omega arith in subst (λ (j : ℕ). slice_get (contacts_of t) j ≡ Some k) same e)
-next_rows t c two p b = tt
-
 pub next_rests : (t : Type') (c : ℕ) → c < 2 → (x : State) (slot : Slot) (row : Row) (v : ℕ)
     → firing (Share t) x slot ≡ Some row → IsForCaller t c x.number (shake_of slot) → row.next v ≡ at Rest c
 next_rests t c two x slot row v by for =
-    let found = row_with (NextIf t c x.number) slot (rows (Share t) x.phase x.number) row (next_rows t c two x.phase x.number) by in
+    let found = share_row (NextIf t c x.number) t x slot row (λ j k at. next_of t c x.number j k.role two (slice_get_within (contacts_of t) j k at)) by in
     found.1 (subst (λ (y : Slot). IsForCaller t c x.number (shake_of y)) (sym found.0) for) v
 
 -- where it asks, and where it serves

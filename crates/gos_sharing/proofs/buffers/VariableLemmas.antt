@@ -15,7 +15,7 @@ use Rattle.gos_realises.specs.realises.Regular.{count, IsRegular}
 use Rattle.gos_realises.specs.realises.Matched.{RealisesInTurn}
 use Rattle.gos_realises.specs.realises.Links.{IsJoined}
 use Rattle.gos_realises.specs.realises.Wirings.{reading, writing}
-use Rattle.gos_realises.specs.realises.Realises.{AllGround, NamesDiffer, Suits, Means}
+use Rattle.gos_realises.specs.realises.Realises.{AllPorts, NamesDiffer, Suits, Means}
 use Rattle.gos_realises.proofs.realises.LiteralLemmas.{reading_literals, writing_literals, literals_same, literals_append}
 use Rattle.gos_realises.specs.joined.Joined.{HasJoining}
 use Rattle.gos_realises.proofs.joined.WholeLemmas.{variables_are_joined}
@@ -43,20 +43,20 @@ driven_keeps v f ds Own own later some c p two right ground result known r q pla
     )
 
 -- what suits, by the imports that it has
-suits_so : (t : Type') (p plain r : Plan) (m n : Term) → AllGround p.imports → NamesDiffer p.imports → plain.imports ≡ p.imports → r.imports ≡ p.imports
+suits_so : (t : Type') (p plain r : Plan) (m n : Term) → AllPorts p.imports → NamesDiffer p.imports → plain.imports ≡ p.imports → r.imports ≡ p.imports
     → IsRight r → All LiteralFits r.parts → r.outcome ≡ t → IsRegular r → Suits t plain n → Suits t r n
-suits_so t p plain r m n ground names one other right literals outcome regular suits =
+suits_so t p plain r m n ports names one other right literals outcome regular suits =
     record {
       right = right;
       literals = literals;
       outcome = outcome;
-      all_ground = subst AllGround (sym other) ground;
+      all_ports = subst AllPorts (sym other) ports;
       names = subst NamesDiffer (sym other) names;
       typed = subst (λ (is : List Imported). Typed is [] n t) (one ∙ sym other) suits.typed;
       regular = regular;
     }
 
-module _ (w c : ℕ) (p : Plan) (m : Term) (two : c < 2) (right : IsRight p) (outcome : p.outcome ≡ Var w) (result : ResultIsJoined p) (literals : All LiteralFits p.parts) (grounds : AllGround p.imports) (names : NamesDiffer p.imports) where
+module _ (w c : ℕ) (p : Plan) (m : Term) (two : c < 2) (right : IsRight p) (outcome : p.outcome ≡ Var w) (result : ResultIsJoined p) (literals : All LiteralFits p.parts) (ports : AllPorts p.imports) (names : NamesDiffer p.imports) where
   is_ground : IsGround p.outcome
   is_ground = subst IsGround (sym outcome) tt
 
@@ -93,7 +93,7 @@ module _ (w c : ℕ) (p : Plan) (m : Term) (two : c < 2) (right : IsRight p) (ou
           driven_keeps 0 0 (kinds.Deref w ∷ []) ReadOwn read_is_own read_is_later (omega arith) c p two right is_ground result (omega (arith, two_shakes)) r q plain driven bare by_itself
           (is_q.joining.outcome ∙ sym join.joining.outcome) (is_q.joining.outcome ∙ sym is_plain.joining.outcome) in
           let known = alone plain is_plain in (
-            suits_so (Exp w) p plain r m (Deref m) grounds names by_itself.imports driven.imports join.joining.right
+            suits_so (Exp w) p plain r m (Deref m) ports names by_itself.imports driven.imports join.joining.right
                 (driven_literals (kinds.Deref w ∷ []) r driven.parts (reading_literals w)) join.joining.outcome (keeps.0 known.0.regular) known.0,
             keeps.1 (Deref m) known.1,
           )
@@ -111,7 +111,7 @@ module _ (w c : ℕ) (p : Plan) (m : Term) (two : c < 2) (right : IsRight p) (ou
           driven_keeps 1 1 (kinds.Assign w ∷ kinds.Lit w k ∷ []) WriteOwn write_is_own write_is_later (omega arith) c p two right is_ground result (omega (arith, two_shakes)) r q plain driven bare by_itself
           (is_q.joining.outcome ∙ sym join.joining.outcome) (is_q.joining.outcome ∙ sym is_plain.joining.outcome) in
           let known = alone plain k small is_plain in (
-            suits_so Com p plain r m (Assign m (Lit k w)) grounds names by_itself.imports driven.imports join.joining.right
+            suits_so Com p plain r m (Assign m (Lit k w)) ports names by_itself.imports driven.imports join.joining.right
                 (driven_literals (kinds.Assign w ∷ kinds.Lit w k ∷ []) r driven.parts (writing_literals w k small)) join.joining.outcome (keeps.0 known.0.regular) known.0,
             keeps.1 (Assign m (Lit k w)) known.1,
           )
@@ -126,8 +126,8 @@ ground_is_buffered (Var w) c p m two ground result realises =
       suits = done_suits (Var w) c p m two tt result realises.suits;
       means =
           subst (λ (t : Type'). Means (Var w) (buffered t c p) m) realises.suits.outcome (
-            reads w c p m two realises.suits.right realises.suits.outcome result realises.suits.literals realises.suits.all_ground realises.suits.names realises.means.0,
-            writes w c p m two realises.suits.right realises.suits.outcome result realises.suits.literals realises.suits.all_ground realises.suits.names realises.means.1,
+            reads w c p m two realises.suits.right realises.suits.outcome result realises.suits.literals realises.suits.all_ports realises.suits.names realises.means.0,
+            writes w c p m two realises.suits.right realises.suits.outcome result realises.suits.literals realises.suits.all_ports realises.suits.names realises.means.1,
           );
     }
 ground_is_buffered (Pair a b) c p m two ground result realises = absurd ground

@@ -51,7 +51,7 @@ module _ (f : Core) (r c : Plan) (is : IsCore f r c) (still : IsStill f r c) (li
         right = is.right;
         literals = literals;
         outcome = is.outcome ∙ suits.outcome;
-        all_ground = fine.0;
+        all_ports = fine.0;
         names = fine.1;
         typed = typed_more c.imports r.imports (among c.imports r.imports fine.1 (own_imports f r c is)) [] m t suits.typed;
         regular = core_regular f r c is still suits.regular;
@@ -124,7 +124,7 @@ means_core (Fun a b) f r c m is still literals fine suits means = λ z x n apart
     let (core, fit, fine_x) =
     joined f r c is (z ∷ []) (results_linked 1 0 (count a)) (results_outer (count a)) 0 (count a) b x y of_x of_y literals
     (literals_append z.parts [] of_z.literals no_literals) fine
-    (subst Fine same (of_z.all_ground, of_z.names)) (subst (HaveOtherNames r.imports) same apart)
+    (subst Fine same (of_z.all_ports, of_z.names)) (subst (HaveOtherNames r.imports) same apart)
     in
     let calm = applying_is_still f r c z x y a b is still (is.outcome ∙ suits.outcome) of_z.outcome literals of_z.literals suits.regular of_z.regular of_x of_y in
     let own : HaveOtherNames c.imports z.imports = λ i j in_c in_z. apart i j (own_imports f r c is i in_c) in_z in
@@ -132,8 +132,8 @@ means_core (Fun a b) f r c m is still literals fine suits means = λ z x n apart
     (suits_core (carried f r c x) x y core calm fit fine_x b (App m n) also, means_core b (carried f r c x) x y (App m n) core calm fit fine_x also meant)
 
 pub core_realises : CoreIsRealised
-core_realises f r c t m is still literals ground names realised =
+core_realises f r c t m is still literals ports names realised =
     record {
-      suits = suits_core f r c is still literals (ground, names) t m realised.suits;
-      means = means_core t f r c m is still literals (ground, names) realised.suits realised.means;
+      suits = suits_core f r c is still literals (ports, names) t m realised.suits;
+      means = means_core t f r c m is still literals (ports, names) realised.suits realised.means;
     }

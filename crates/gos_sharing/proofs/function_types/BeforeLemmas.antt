@@ -13,13 +13,14 @@ use Rattle.gos_plan.proofs.JointLemmas.{fits, contained, one_joint, which_end}
 use Rattle.gos_plan.proofs.ContactLemmas.{part_is_there}
 use Rattle.gos_realises.specs.realises.Regular.{count}
 use Rattle.gos_realises.proofs.realises.LeftLemmas.{left_list, left_all}
+use Rattle.gos_realises.proofs.joined.ReachLemmas.{Step}
 use Rattle.gos_joining.specs.webs.Webs.{joint}
 use Rattle.gos_joining.specs.webs.Cutting.{Cut, StandsIn, IsInside, lies_at}
 use Rattle.gos_joining.proofs.webs.CutLemmas.{stands_by}
 use Rattle.gos_joining.proofs.unions.LinkLemmas.{joined_by}
-use Rattle.gos_sharing.specs.behind.Source.{IsBefore}
+use Rattle.gos_sharing.specs.behind.Source.{IsBefore, HasItsImports}
 use Rattle.gos_sharing.specs.function_types.Joined.{wiring, AllPortPlaces}
-use Rattle.gos_sharing.proofs.function_types.JoinedLemmas.{stands_low, low_origin}
+use Rattle.gos_sharing.proofs.function_types.JoinedLemmas.{stands_first, stands_low, low_origin}
 
 -- a place of the first plan is of its result
 abbrev pub IsResultEnd : End → Type 0
@@ -220,3 +221,26 @@ module _ (f : Cut) (i : ℕ) (t : Type') (c : ℕ) (x p : Plan) (is : IsBefore f
           joined = λ j low stood. is.joined j low (stands_low x ps ls giver skipped ty X ports joins i j share_low stood);
           ports = is.ports;
         }
+
+    -- an import's end that stands in a joint of the whole stands in one of its plan
+    import_step : (n h : ℕ) (a : Place) → Step w (place 0 (ImportEnd n h)) a → StandsIn x (ImportEnd n h)
+    import_step n h a (inl (q, j, same, at_q, has, ways)) =
+        let is_x : x ≡ q = cc at_q in
+        let has_x = subst (λ (y : Plan). Contains y.joints j) (sym is_x) has in
+        elim ways [
+          | inl (e, g) ↦ (j, has_x, stands_by (ImportEnd n h) j (inl e))
+          | inr (e, g) ↦ (j, has_x, stands_by (ImportEnd n h) j (inr e))
+        ]
+    import_step n h a (inr (l, has, inl (e, g))) = absurd (subst IsResultPlace (sym e) (kept l has).0 refl)
+    import_step n h a (inr (l, has, inr (e, g))) = absurd (subst IsResultPlace (sym e) (kept l has).1 refl)
+
+    -- so the region has an import of the whole where it has it in its plan
+    pub joined_has : HasItsImports f x p → HasItsImports f X p
+    joined_has has n h m l g k stood at_m at_l role joined =
+        let at_x : contact_at x (ImportEnd m l) ≡ Some k =
+        ap (contact_at x) (sym at_m)
+        ∙ (is.cut.contacts (ImportEnd n h) tt stood ∙ (sym (port_contact (ImportEnd n h) tt stood) ∙ (ap (contact_at X) at_m ∙ at_l)))
+        in
+        let (y, there) = import_is (slice_get x.imports m) l k at_x in
+        has n h m l g k stood at_m at_x role
+        (stands_first x ps ls giver skipped ty X ports joins (ImportEnd m g) (ap (λ o. left_place o g) (left_some m y there)) (import_step m g) joined)

@@ -39,7 +39,7 @@ share_caller r k t (suc zero) two j d there at_j =
     ap (λ y. slice_get (contacts_of_part y) (count t + 1 * count t + j)) there ∙ (ap (slice_get (part_contacts (Share t))) e ∙ second_caller_at t j d at_j)
 share_caller r k t (suc (suc c)) two j d there at_j = absurd (omega (arith, two))
 
--- a part's end of the first plan that stands in a joint stands in one of its plan
+-- an end of the first plan that stands in a joint of the whole, and in no link, stands in one of its plan
 module _ (x : Plan) (ps : List Plan) (ls : List Link) (giver skipped : ℕ) (ty : Type') (whole : Plan) (kept : AllPortPlaces ls) (joins : IsJoining (wiring x ps ls giver skipped ty) whole) where
   abbrev w : Wiring
   w = wiring x ps ls giver skipped ty
@@ -60,26 +60,32 @@ module _ (x : Plan) (ps : List Plan) (ls : List Link) (giver skipped : ℕ) (ty 
   of_step n h a (inr (l, has, inl (e, g))) = absurd (subst IsPortPlace (sym e) (kept l has).0 refl)
   of_step n h a (inr (l, has, inr (e, g))) = absurd (subst IsPortPlace (sym e) (kept l has).1 refl)
 
-  of_path : (n h : ℕ) → n < length x.parts → (k : ℕ) (e : End) → (PartEnd n h ≢ e) → (c d : Contact) → contact_at whole (PartEnd n h) ≡ Some c → contact_at whole e ≡ Some d
-      → Path w k (origin w (PartEnd n h)) (origin w e) → StandsIn x (PartEnd n h)
-  of_path n h low zero e apart c d at_c at_d same = absurd (apart (stands_alone w whole (fields_of w whole joins) (PartEnd n h) e c d at_c at_d same))
-  of_path n h low (suc k) e apart c d at_c at_d (a, step, rest) = of_step n h a (subst (λ (y : Place). Step w y a) (low_origin n h low) step)
+  abbrev Steps : End → Type 0
+  Steps b = (a : Place) → Step w (place 0 b) a → StandsIn x b
 
-  pub stands_low : (n h : ℕ) → n < length x.parts → StandsIn whole (PartEnd n h) → StandsIn x (PartEnd n h)
-  stands_low n h low (j, has, stood) = of_connects ((joins.joints j.asking j.serving).0 has)
+  of_path : (b : End) → origin w b ≡ place 0 b → Steps b → (k : ℕ) (e : End) → (b ≢ e) → (c d : Contact) → contact_at whole b ≡ Some c → contact_at whole e ≡ Some d
+      → Path w k (origin w b) (origin w e) → StandsIn x b
+  of_path b home steps zero e apart c d at_c at_d same = absurd (apart (stands_alone w whole (fields_of w whole joins) b e c d at_c at_d same))
+  of_path b home steps (suc k) e apart c d at_c at_d (a, step, rest) = steps a (subst (λ (y : Place). Step w y a) home step)
+
+  pub stands_first : (b : End) → origin w b ≡ place 0 b → Steps b → StandsIn whole b → StandsIn x b
+  stands_first b home steps (j, has, stood) = of_connects ((joins.joints j.asking j.serving).0 has)
     where
-      of_connects : Rattle.gos_plan.specs.Joining.Connects w whole j.asking j.serving → StandsIn x (PartEnd n h)
-      of_connects (q, v, k, at_a, at_s, path) = elim (which_end (PartEnd n h) j stood) [
+      of_connects : Rattle.gos_plan.specs.Joining.Connects w whole j.asking j.serving → StandsIn x b
+      of_connects (q, v, k, at_a, at_s, path) = elim (which_end b j stood) [
         | inl one ↦
-            of_path n h low k j.serving
+            of_path b home steps k j.serving
             (λ e. not_both q v q v (same_Some (asks q v) (serves q v) (sym at_a ∙ (ap (contact_at whole) (sym one ∙ e) ∙ at_s)))) (asks q v) (serves q v)
             (ap (contact_at whole) one ∙ at_a) at_s (subst (λ (y : End). Path w k (origin w y) (origin w j.serving)) (sym one) path)
         | inr one ↦
             (let (n_back, back) = paths_back w (origin w j.asking) (origin w j.serving) (k, path) in
-            of_path n h low n_back j.asking
+            of_path b home steps n_back j.asking
             (λ e. not_both q v q v (same_Some (asks q v) (serves q v) (sym at_a ∙ (ap (contact_at whole) (sym e ∙ one) ∙ at_s)))) (serves q v) (asks q v)
             (ap (contact_at whole) one ∙ at_s) at_a (subst (λ (y : End). Path w n_back (origin w y) (origin w j.asking)) (sym one) back))
       ]
+
+  pub stands_low : (n h : ℕ) → n < length x.parts → StandsIn whole (PartEnd n h) → StandsIn x (PartEnd n h)
+  stands_low n h low = stands_first (PartEnd n h) (low_origin n h low) (of_step n h)
 
 module _ (f : Splitting) (x u : Plan) (is : IsSplit f x u) where
   abbrev t : Type'

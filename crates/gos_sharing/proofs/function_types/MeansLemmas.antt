@@ -14,20 +14,20 @@ use Rattle.gos_realises.specs.realises.Regular.{count, IsRegular}
 use Rattle.gos_realises.specs.realises.Matched.{RealisesInTurn}
 use Rattle.gos_realises.specs.realises.Links.{IsJoined}
 use Rattle.gos_realises.specs.realises.Wirings.{lone, link, results_linked}
-use Rattle.gos_realises.specs.realises.Realises.{AllGround, NamesDiffer, HaveOtherNames, Suits, Means}
+use Rattle.gos_realises.specs.realises.Realises.{AllPorts, NamesDiffer, HaveOtherNames, Suits, Means}
 use Rattle.gos_realises.proofs.joined.WholeLemmas.{applied_is_joined, sides_are_joined, variables_are_joined}
 use Rattle.gos_realises.proofs.realises.LiteralLemmas.{each_fits}
 use Rattle.gos_joining.specs.webs.Cutting.{Cut}
 use Rattle.gos_sharing.specs.buffers.Buffers.{IsLoyal}
-use Rattle.gos_sharing.specs.behind.Source.{IsBefore}
-use Rattle.gos_sharing.proofs.behind.SourceLemmas.{ground_sources_are_loyal}
+use Rattle.gos_sharing.specs.behind.Source.{IsBefore, HasItsImports}
+use Rattle.gos_sharing.proofs.behind.SourceLemmas.{sources_are_loyal}
 use Rattle.gos_sharing.specs.function_types.Split.{Splitting, IsSplit}
 use Rattle.gos_sharing.specs.function_types.Joined.{wiring}
 use Rattle.gos_sharing.specs.function_types.Realised.{SplitIsRealised}
 use Rattle.gos_sharing.proofs.function_types.FollowLemmas.{split_is_regular, split_is_done}
 use Rattle.gos_sharing.proofs.function_types.JoinedLemmas.{joined_split}
 use Rattle.gos_sharing.proofs.function_types.CarriedLemmas.{joined_is_split}
-use Rattle.gos_sharing.proofs.function_types.BeforeLemmas.{AllResults, results_are_ports, joined_before}
+use Rattle.gos_sharing.proofs.function_types.BeforeLemmas.{AllResults, results_are_ports, joined_before, joined_has}
 
 -- literals
 pub part_there : (xs : List Part) (k : ℕ) (x : Part) → slice_get xs k ≡ Some x → Contains xs x
@@ -58,7 +58,7 @@ write_links =
     (one_more (link 1 (PartEnd 0 0) 2 (ResultEnd 0)) [] (λ same. absurd (omega (arith, same))) (λ same. tt) no_links)
 
 -- a plan that is split suits where the split one does
-module _ (f : Splitting) (h : Cut) (x u p : Plan) (is : IsSplit f x u) (before : IsBefore h f.wide (Fun f.of f.to) f.caller x p) (regular : IsRegular p) where
+module _ (f : Splitting) (h : Cut) (x u p : Plan) (is : IsSplit f x u) (before : IsBefore h f.wide (Fun f.of f.to) f.caller x p) (own : HasItsImports h x p) (regular : IsRegular p) where
   literal : All LiteralFits u.parts → (k : ℕ) (y : Part) → slice_get x.parts k ≡ Some y → LiteralFits y
   literal fit k y there = by_number (nat_eq k f.wide) refl
     where
@@ -71,11 +71,8 @@ module _ (f : Splitting) (h : Cut) (x u p : Plan) (is : IsSplit f x u) (before :
           let own : k ≢ f.wide = (λ e. let t : nat_eq k f.wide ≡ true = grind (arith, e) in let clash : true ≡ false = sym t ∙ test in cc clash) in
           All-contains LiteralFits u.parts y fit (part_there u.parts (f.part k) y ((is.parts k own).0 ∙ there))
 
-  ground_x : AllGround u.imports → AllGround x.imports
-  ground_x ground = subst AllGround is.imports ground
-
-  loyal : AllGround u.imports → IsLoyal f.wide f.caller (Fun f.of f.to) x
-  loyal ground = ground_sources_are_loyal h f.wide (Fun f.of f.to) f.caller x p before (ground_x ground) regular
+  loyal : IsLoyal f.wide f.caller (Fun f.of f.to) x
+  loyal = sources_are_loyal h f.wide (Fun f.of f.to) f.caller x p before own regular
 
   pub suits_back : (t : Type') (m : Term) → Suits t u m → Suits t x m
   suits_back t m suits =
@@ -83,15 +80,15 @@ module _ (f : Splitting) (h : Cut) (x u p : Plan) (is : IsSplit f x u) (before :
         right = is.right;
         literals = All-from_recursion LiteralFits x.parts (each_fits x.parts (literal suits.literals));
         outcome = sym is.outcome ∙ suits.outcome;
-        all_ground = ground_x suits.all_ground;
+        all_ports = subst AllPorts is.imports suits.all_ports;
         names = subst NamesDiffer is.imports suits.names;
         typed = subst (λ (js : List Imported). Typed js [] m t) is.imports suits.typed;
-        regular = split_is_regular f x u is (loyal suits.all_ground) suits.regular;
+        regular = split_is_regular f x u is loyal suits.regular;
       }
 
   pub done_back : (t : Type') (m : Term) → IsDone t → Suits t u m → RealisesInTurn u m → RealisesInTurn x m
   done_back t m done suits realised =
-      split_is_done f x u m is (loyal suits.all_ground) suits.regular realised
+      split_is_done f x u m is loyal suits.regular realised
 
   -- with others joined to its result
   module _ (ps : List Plan) (ls : List Link) (giver skipped : ℕ) (ty : Type') (kept : AllResults ls) (r s : Plan) (of_x : IsJoined (wiring x ps ls giver skipped ty) r)
@@ -103,53 +100,61 @@ module _ (f : Splitting) (h : Cut) (x u p : Plan) (is : IsSplit f x u) (before :
       pub before_joined : IsBefore h f.wide (Fun f.of f.to) f.caller r p
       before_joined = joined_before h f.wide (Fun f.of f.to) f.caller x p before ps ls giver skipped ty kept r of_x.joining
 
-means_back : (t : Type') (f : Splitting) (h : Cut) (x u p : Plan) (m : Term) → (is : IsSplit f x u) → IsBefore h f.wide (Fun f.of f.to) f.caller x p → IsRegular p
+      pub own_joined : HasItsImports h r p
+      own_joined = joined_has h f.wide (Fun f.of f.to) f.caller x p before ps ls giver skipped ty kept r of_x.joining own
+
+means_back : (t : Type') (f : Splitting) (h : Cut) (x u p : Plan) (m : Term) → (is : IsSplit f x u) → IsBefore h f.wide (Fun f.of f.to) f.caller x p → HasItsImports h x p → IsRegular p
     → Suits t u m → Means t u m → Means t x m
-means_back Com f h x u p m is before regular suits means = done_back f h x u p is before regular Com m tt suits means
-means_back (Exp w) f h x u p m is before regular suits means = done_back f h x u p is before regular (Exp w) m tt suits means
-means_back (Var w) f h x u p m is before regular suits (reads, writes) = (
+means_back Com f h x u p m is before own regular suits means = done_back f h x u p is before own regular Com m tt suits means
+means_back (Exp w) f h x u p m is before own regular suits means = done_back f h x u p is before own regular (Exp w) m tt suits means
+means_back (Var w) f h x u p m is before own regular suits (reads, writes) = (
   λ r joined.
       (let (s, joined_s) = (variables_are_joined w 0 u suits.right suits.outcome).0 in
-      let split = split_joined f h x u p is before regular (lone (kinds.Deref w) 1 (Exp w) ∷ []) (link 0 (ResultEnd 0) 1 (PartEnd 0 0) ∷ []) 1 0 (Exp w) read_link r s joined joined_s in
-      let now = before_joined f h x u p is before regular (lone (kinds.Deref w) 1 (Exp w) ∷ []) (link 0 (ResultEnd 0) 1 (PartEnd 0 0) ∷ []) 1 0 (Exp w) read_link r s joined joined_s in
+      let split = split_joined f h x u p is before own regular (lone (kinds.Deref w) 1 (Exp w) ∷ []) (link 0 (ResultEnd 0) 1 (PartEnd 0 0) ∷ []) 1 0 (Exp w) read_link r s joined joined_s in
+      let now = before_joined f h x u p is before own regular (lone (kinds.Deref w) 1 (Exp w) ∷ []) (link 0 (ResultEnd 0) 1 (PartEnd 0 0) ∷ []) 1 0 (Exp w) read_link r s joined joined_s in
+      let ours = own_joined f h x u p is before own regular (lone (kinds.Deref w) 1 (Exp w) ∷ []) (link 0 (ResultEnd 0) 1 (PartEnd 0 0) ∷ []) 1 0 (Exp w) read_link r s joined joined_s in
       let (also, done) = reads s joined_s in (
-        suits_back (joined_split f x u is) h r s p split now regular (Exp w) (Deref m) also,
-        done_back (joined_split f x u is) h r s p split now regular (Exp w) (Deref m) tt also done,
+        suits_back (joined_split f x u is) h r s p split now ours regular (Exp w) (Deref m) also,
+        done_back (joined_split f x u is) h r s p split now ours regular (Exp w) (Deref m) tt also done,
       )),
   λ r k small joined.
       (let (s, joined_s) = (variables_are_joined w k u suits.right suits.outcome).1 in
-      let split = split_joined f h x u p is before regular (lone (kinds.Assign w) 2 Com ∷ lone (kinds.Lit w k) 0 (Exp w) ∷ []) (link 0 (ResultEnd 1) 1 (PartEnd 0 1) ∷ link 1 (PartEnd 0 0) 2 (ResultEnd 0) ∷ []) 1 0 Com write_links r s joined joined_s in
-      let now = before_joined f h x u p is before regular (lone (kinds.Assign w) 2 Com ∷ lone (kinds.Lit w k) 0 (Exp w) ∷ []) (link 0 (ResultEnd 1) 1 (PartEnd 0 1) ∷ link 1 (PartEnd 0 0) 2 (ResultEnd 0) ∷ []) 1 0 Com write_links r s joined joined_s in
+      let split = split_joined f h x u p is before own regular (lone (kinds.Assign w) 2 Com ∷ lone (kinds.Lit w k) 0 (Exp w) ∷ []) (link 0 (ResultEnd 1) 1 (PartEnd 0 1) ∷ link 1 (PartEnd 0 0) 2 (ResultEnd 0) ∷ []) 1 0 Com write_links r s joined joined_s in
+      let now = before_joined f h x u p is before own regular (lone (kinds.Assign w) 2 Com ∷ lone (kinds.Lit w k) 0 (Exp w) ∷ []) (link 0 (ResultEnd 1) 1 (PartEnd 0 1) ∷ link 1 (PartEnd 0 0) 2 (ResultEnd 0) ∷ []) 1 0 Com write_links r s joined joined_s in
+      let ours = own_joined f h x u p is before own regular (lone (kinds.Assign w) 2 Com ∷ lone (kinds.Lit w k) 0 (Exp w) ∷ []) (link 0 (ResultEnd 1) 1 (PartEnd 0 1) ∷ link 1 (PartEnd 0 0) 2 (ResultEnd 0) ∷ []) 1 0 Com write_links r s joined joined_s in
       let (also, done) = writes s k small joined_s in (
-        suits_back (joined_split f x u is) h r s p split now regular Com (Assign m (Lit k w)) also,
-        done_back (joined_split f x u is) h r s p split now regular Com (Assign m (Lit k w)) tt also done,
+        suits_back (joined_split f x u is) h r s p split now ours regular Com (Assign m (Lit k w)) also,
+        done_back (joined_split f x u is) h r s p split now ours regular Com (Assign m (Lit k w)) tt also done,
       )),
 )
-means_back (Pair a b) f h x u p m is before regular suits (first, second) = (
+means_back (Pair a b) f h x u p m is before own regular suits (first, second) = (
   λ r joined.
       (let (s, joined_s) = (sides_are_joined a b u suits.right suits.outcome).0 in
-      let split = split_joined f h x u p is before regular [] [] 0 0 a no_links r s joined joined_s in
-      let now = before_joined f h x u p is before regular [] [] 0 0 a no_links r s joined joined_s in
+      let split = split_joined f h x u p is before own regular [] [] 0 0 a no_links r s joined joined_s in
+      let now = before_joined f h x u p is before own regular [] [] 0 0 a no_links r s joined joined_s in
+      let ours = own_joined f h x u p is before own regular [] [] 0 0 a no_links r s joined joined_s in
       let (also, meant) = first s joined_s in
-      (suits_back (joined_split f x u is) h r s p split now regular a (Fst m) also, means_back a (joined_split f x u is) h r s p (Fst m) split now regular also meant)),
+      (suits_back (joined_split f x u is) h r s p split now ours regular a (Fst m) also, means_back a (joined_split f x u is) h r s p (Fst m) split now ours regular also meant)),
   λ r joined.
       (let (s, joined_s) = (sides_are_joined a b u suits.right suits.outcome).1 in
-      let split = split_joined f h x u p is before regular [] [] 0 (count a) b no_links r s joined joined_s in
-      let now = before_joined f h x u p is before regular [] [] 0 (count a) b no_links r s joined joined_s in
+      let split = split_joined f h x u p is before own regular [] [] 0 (count a) b no_links r s joined joined_s in
+      let now = before_joined f h x u p is before own regular [] [] 0 (count a) b no_links r s joined joined_s in
+      let ours = own_joined f h x u p is before own regular [] [] 0 (count a) b no_links r s joined joined_s in
       let (also, meant) = second s joined_s in
-      (suits_back (joined_split f x u is) h r s p split now regular b (Snd m) also, means_back b (joined_split f x u is) h r s p (Snd m) split now regular also meant)),
+      (suits_back (joined_split f x u is) h r s p split now ours regular b (Snd m) also, means_back b (joined_split f x u is) h r s p (Snd m) split now ours regular also meant)),
 )
-means_back (Fun a b) f h x u p m is before regular suits means = λ q r n names of_q meant_q joined.
+means_back (Fun a b) f h x u p m is before own regular suits means = λ q r n names of_q meant_q joined.
     let (s, joined_s) = applied_is_joined a b u q suits.right of_q.right suits.outcome of_q.outcome in
-    let split = split_joined f h x u p is before regular (q ∷ []) (results_linked 1 0 (count a)) 0 (count a) b (results 0 (count a)) r s joined joined_s in
-    let now = before_joined f h x u p is before regular (q ∷ []) (results_linked 1 0 (count a)) 0 (count a) b (results 0 (count a)) r s joined joined_s in
+    let split = split_joined f h x u p is before own regular (q ∷ []) (results_linked 1 0 (count a)) 0 (count a) b (results 0 (count a)) r s joined joined_s in
+    let now = before_joined f h x u p is before own regular (q ∷ []) (results_linked 1 0 (count a)) 0 (count a) b (results 0 (count a)) r s joined joined_s in
+    let ours = own_joined f h x u p is before own regular (q ∷ []) (results_linked 1 0 (count a)) 0 (count a) b (results 0 (count a)) r s joined joined_s in
     let apart = subst (λ (js : List Imported). HaveOtherNames js q.imports) (sym is.imports) names in
     let (also, meant) = means q s n apart of_q meant_q joined_s in
-    (suits_back (joined_split f x u is) h r s p split now regular b (App m n) also, means_back b (joined_split f x u is) h r s p (App m n) split now regular also meant)
+    (suits_back (joined_split f x u is) h r s p split now ours regular b (App m n) also, means_back b (joined_split f x u is) h r s p (App m n) split now ours regular also meant)
 
 pub split_is_realised : SplitIsRealised
-split_is_realised f h x u p t m is before regular realised =
+split_is_realised f h x u p t m is before own regular realised =
     record {
-      suits = suits_back f h x u p is before regular t m realised.suits;
-      means = means_back t f h x u p m is before regular realised.suits realised.means;
+      suits = suits_back f h x u p is before own regular t m realised.suits;
+      means = means_back t f h x u p m is before own regular realised.suits realised.means;
     }

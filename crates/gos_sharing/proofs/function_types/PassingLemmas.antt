@@ -14,15 +14,15 @@ use Rattle.gos_realises.specs.realises.Realises.{Suits, Realises}
 use Rattle.gos_realises.proofs.joined.WholeLemmas.{applied_is_joined}
 use Rattle.gos_sharing.specs.ground_types.Joints.{BufferedGroundIsRealised}
 use Rattle.gos_sharing.specs.behind.Behind.{passing, IsBehind, GroundIsBuffered}
-use Rattle.gos_sharing.specs.behind.Source.{IsBefore}
+use Rattle.gos_sharing.specs.behind.Source.{IsBefore, HasItsImports}
 use Rattle.gos_sharing.proofs.behind.LyingLemmas.{lying}
 use Rattle.gos_sharing.proofs.behind.PassingLemmas.{lies_behind_share}
 use Rattle.gos_sharing.proofs.behind.RegularLemmas.{behind_is_regular}
-use Rattle.gos_sharing.proofs.behind.SourceLemmas.{before_it}
+use Rattle.gos_sharing.proofs.behind.SourceLemmas.{before_it, has_imports}
 use Rattle.gos_sharing.specs.function_types.Split.{IsSplit}
 use Rattle.gos_sharing.specs.function_types.Passing.{PassingIsRealised}
 use Rattle.gos_sharing.proofs.function_types.NumberLemmas.{numbers}
-use Rattle.gos_sharing.proofs.function_types.BeforeLemmas.{joined_before}
+use Rattle.gos_sharing.proofs.function_types.BeforeLemmas.{joined_before, joined_has}
 use Rattle.gos_sharing.proofs.function_types.MeansLemmas.{results, split_is_realised}
 use Rattle.gos_sharing.proofs.function_types.StandLemmas.{part_count}
 use Rattle.gos_sharing.proofs.function_types.HomeLemmas.{one_longer}
@@ -40,7 +40,7 @@ suits_behind t c p m two suits =
       right = behind.right;
       literals = All-push LiteralFits p.parts (Share t) suits.literals tt;
       outcome = suits.outcome;
-      all_ground = suits.all_ground;
+      all_ports = suits.all_ports;
       names = suits.names;
       typed = suits.typed;
       regular = behind_is_regular (length p.parts) t c (passing t c p) p behind suits.literals suits.regular;
@@ -51,7 +51,7 @@ pub applied_realises : (a b : Type') (c : ℕ) (p q y x : Plan) (m n : Term) →
     → IsJoining (applying a b p (passing a c q)) y → IsJoining (applying a b (passing (Fun a b) c p) q) x → Suits b y (App m n)
     → Realises b (passing b c y) (App m n) → Realises b x (App m n)
 applied_realises a b c p q y x m n two of_p of_q of_y of_x also realised =
-    split_is_realised (numbers a b c (length p.parts) (length q.parts)) (lying (length p.parts) p) x (passing b c y) p b (App m n) split before of_p.regular realised
+    split_is_realised (numbers a b c (length p.parts) (length q.parts)) (lying (length p.parts) p) x (passing b c y) p b (App m n) split before has of_p.regular realised
   where
     behind_p : IsBehind (length p.parts) (Fun a b) c (passing (Fun a b) c p) p
     behind_p = lies (Fun a b) c p m two of_p
@@ -73,6 +73,12 @@ applied_realises a b c p q y x m n two of_p of_q of_y of_x also realised =
     before =
         joined_before (lying (length p.parts) p) (length p.parts) (Fun a b) c (passing (Fun a b) c p) p
         (before_it (length p.parts) (Fun a b) c (passing (Fun a b) c p) p behind_p) (q ∷ []) (results_linked 1 0 (count a)) 0 (count a) b (results 0 (count a)) x of_x
+
+    has : HasItsImports (lying (length p.parts) p) x p
+    has =
+        joined_has (lying (length p.parts) p) (length p.parts) (Fun a b) c (passing (Fun a b) c p) p
+        (before_it (length p.parts) (Fun a b) c (passing (Fun a b) c p) p behind_p) (q ∷ []) (results_linked 1 0 (count a)) 0 (count a) b (results 0 (count a)) x of_x
+        (has_imports (length p.parts) (Fun a b) c (passing (Fun a b) c p) p behind_p)
 
 module _ (ground : GroundIsBuffered) (realises : BufferedGroundIsRealised) where
   pub at_ground : (t : Type') (c : ℕ) (p : Plan) (m : Term) → c < 2 → IsGround t → Realises t p m → Realises t (passing t c p) m

@@ -1,5 +1,5 @@
 -- The steps of the wide Share, and what is welcome in its plan.
-use Rattle.std.specs.Prelude.{◌≡◌, ◌≢◌, ℕ, suc, ◌+◌, ◌-◌, ◌<◌, Bool, true, false, List, [], ◌∷◌, ◌⊎◌, length, Option, Some, None, slice_get, nat_eq, nat_lt, if◌then◌else◌}
+use Rattle.std.specs.Prelude.{◌≡◌, ◌≢◌, ℕ, ◌+◌, ◌-◌, ◌<◌, Bool, true, false, List, [], ◌∷◌, ◌⊎◌, length, Option, Some, None, slice_get, nat_eq, nat_lt, if◌then◌else◌}
 use Rattle.std.proofs.Common.{refl, sym, ◌∙◌, ap, subst, arith, inl, inr}
 use Rattle.std.proofs.lemmas.Bool.Decides.{nat_tests}
 use Rattle.std.proofs.lemmas.Option.{slice_get_within, same_Some}
@@ -11,15 +11,16 @@ use Rattle.gos_types.specs.Events.{Direction, Request, Answer}
 use Rattle.gos_types.proofs.ListLemmas.{element_at}
 use Rattle.gos_model.specs.Moves.{Act}
 use Rattle.gos_plan.specs.Kinds.{Share, Contact, contacts_of, turned_contact, part_contacts}
-use Rattle.gos_plan.specs.Firing.{Phase, Rest, State, at, Slot, Req, Ans, Token, put, Row, rows, shared_rows, share_rows, firing}
+use Rattle.gos_plan.specs.Firing.{Rest, State, at, Slot, Req, Ans, Token, put, Row, shared_rows, firing}
 use Rattle.gos_plan.specs.Plans.{End, PartEnd, Plan, contact_at, contacts_of_part}
 use Rattle.gos_plan.specs.Tokens.{Tokens, Fire, places_of, held_at, token_at, with_token, with_state, with_puts, end_of, way_of, shake_of, way_taken, way_put, firing_of, Does}
 use Rattle.gos_plan.specs.Orderly.{Open, after_taken, after_put, after_puts, ComesWell, AllComeWell, ComesInOrder, AllWelcome}
 use Rattle.gos_plan.proofs.HeldLemmas as held
 use Rattle.gos_plan.proofs.HeldLemmas.{nothing_there}
 use Rattle.gos_plan.proofs.TurnLemmas.{token_state}
-use Rattle.gos_plan.proofs.RowLemmas.{EachRow, row_with}
-use Rattle.gos_plan.proofs.AskingLemmas.{each_append, source_at, caller_at}
+use Rattle.gos_plan.proofs.RowLemmas.{EachRow}
+use Rattle.gos_plan.proofs.AskingLemmas.{source_at, caller_at}
+use Rattle.gos_plan.proofs.ShareTableLemmas.{share_row}
 use Rattle.gos_plan.proofs.ContactLemmas.{turned_put, turned_taken}
 use Rattle.gos_realises.specs.realises.Regular.{count, Pass}
 use Rattle.gos_realises.specs.realises.Matched.{asks_on, GoesOn}
@@ -45,17 +46,9 @@ of_role : (n j b : ℕ) (role : Role) → EachRow NoAsking (shared_rows role n j
 of_role n j b Serve = ((λ h e. absurd (cc e)), ((λ h e. absurd (cc e)), ((λ h e v. refl), tt)))
 of_role n j b Ask = ((λ h e. absurd (cc e)), ((λ h e v. refl), tt))
 
-each_share : (n b : ℕ) (cs : List Contact) (j : ℕ) → EachRow NoAsking (share_rows cs n j b)
-each_share n b [] j = tt
-each_share n b (k ∷ ks) j = each_append NoAsking (shared_rows k.role n j b) (share_rows ks n (suc j) b) (of_role n j b k.role) (each_share n b ks (suc j))
-
-all_rows : (t : Type') (p : Phase) (b : ℕ) → EachRow NoAsking (rows (Share t) p b)
-all_rows t Rest b = each_share (length (contacts_of t)) b (contacts_of t) 0
-all_rows t p b = tt
-
 answers_only : (t : Type') (q : State) (h v : ℕ) (r : Row) → firing (Share t) q (Ans h) ≡ Some r → asks_on (r.puts v) ≡ false
 answers_only t q h v r fires =
-    let found = row_with NoAsking (Ans h) (rows (Share t) q.phase q.number) r (all_rows t q.phase q.number) fires in found.1 h found.0 v
+    let found = share_row NoAsking t q (Ans h) r (λ j c at. of_role (length (contacts_of t)) j q.number c.role) fires in found.1 h found.0 v
 
 pub end_so : (k : ℕ) (way : Direction) (h : ℕ) → end_of k (slot_of way h) ≡ PartEnd k h
 end_so k Request h = refl

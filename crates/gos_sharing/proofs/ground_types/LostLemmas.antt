@@ -11,7 +11,7 @@ use Rattle.gos_plan.specs.Plans.{Plan}
 use Rattle.gos_plan.specs.Tokens.{Tokens, Element, Runs, IsQuiet}
 use Rattle.gos_realises.specs.realises.Matched.{all_shown, Agrees, IsMatched, program_of, RealisesInTurn, RealisesDone}
 use Rattle.gos_realises.specs.realises.Realises.{Suits}
-use Rattle.gos_realises.proofs.realises.PortInputLemmas.{ground_ports, realising_is_by_turns}
+use Rattle.gos_realises.proofs.realises.PortInputLemmas.{realising_is_by_turns}
 use Rattle.gos_supplies.proofs.progress.WaitLemmas.{source_waits, unasked}
 use Rattle.gos_supplies.proofs.progress.ProgressLemmas.{unasked_runs_go_on}
 use Rattle.gos_sharing.proofs.ground_types.TokenLemmas.{resting, resting_idle}
@@ -33,7 +33,7 @@ never_quiet p t m xs s done suits realises runs shown quiet =
     by_end (ends p (program_of p m) xs resting s Idle (by_protocol resting s xs (resting_idle p) runs keeps).0 runs)
   where
     by_protocol : RealisesDone p m
-    by_protocol = (realising_is_by_turns p m suits.regular suits.all_ground suits.names (subst IsDone (sym suits.outcome) done)).1 realises
+    by_protocol = (realising_is_by_turns p m suits.regular suits.all_ports suits.names (subst IsDone (sym suits.outcome) done)).1 realises
 
     keeps : KeepsProtocol p.imports (all_shown p xs)
     keeps = subst (KeepsProtocol p.imports) (sym shown) (λ h. (refl, refl, refl), tt)
@@ -42,4 +42,4 @@ never_quiet p t m xs s done suits realises runs shown quiet =
     by_end (acts, Idle, moves, e, agrees) =
         unasked (program_of p m) acts Idle (source_waits p.imports [] m t suits.typed) moves (e ∙ shown)
     by_end (acts, Running u store, moves, e, agrees) =
-        unasked_runs_go_on (program_of p m) t acts u store (ground_ports p.imports suits.all_ground) suits.typed done moves (e ∙ shown) (agrees.0 quiet)
+        unasked_runs_go_on (program_of p m) t acts u store suits.all_ports suits.typed done moves (e ∙ shown) (agrees.0 quiet)

@@ -6,7 +6,7 @@ use Rattle.gos_model.specs.Terms.{Term, App, Fst, Snd}
 use Rattle.gos_plan.specs.Kinds.{Part}
 use Rattle.gos_plan.specs.Plans.{Plan}
 use Rattle.gos_plan.specs.TokenBits.{LiteralFits}
-use Rattle.gos_realises.specs.realises.Realises.{AllGround, NamesDiffer, Realises}
+use Rattle.gos_realises.specs.realises.Realises.{AllPorts, NamesDiffer, Realises}
 use Rattle.gos_realises.proofs.joined.WholeLemmas.{applied_is_joined, sides_are_joined}
 use Rattle.gos_sharing.specs.ground_types.Joints.{BufferedGroundIsRealised}
 use Rattle.gos_sharing.specs.behind.Behind.{passing, GroundIsBuffered}
@@ -20,7 +20,7 @@ module _ (cores : CoreIsRealised) where
   side_realises : (s : Type') (x u : Plan) (m : Term) → HasNarrowCore x u → Realises s u m → Realises s x m
   side_realises s x u m (f, h, z, narrow, core, still, parts, imports) realised =
       let whole = narrow_is_realised f z u s m narrow realised in
-      cores h x z s m core still (subst (λ (ks : List Part). All LiteralFits ks) parts whole.suits.literals) (subst AllGround imports whole.suits.all_ground)
+      cores h x z s m core still (subst (λ (ks : List Part). All LiteralFits ks) parts whole.suits.literals) (subst AllPorts imports whole.suits.all_ports)
       (subst NamesDiffer imports whole.suits.names) whole
 
   module _ (sides : SidesHaveCores) (ground : GroundIsBuffered) (realises : BufferedGroundIsRealised) where

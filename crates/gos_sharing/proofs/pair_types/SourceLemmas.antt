@@ -8,12 +8,13 @@ use Rattle.gos_types.specs.declared.shakes.Role.TheVariants.{Serve, Ask}
 use Rattle.gos_types.specs.Types.{Type'}
 use Rattle.gos_types.specs.Events.{Direction}
 use Rattle.gos_plan.specs.Kinds.{Part, Share, Contact, asks, serves, contacts_of, part_contacts}
-use Rattle.gos_plan.specs.Firing.{Phase, Rest, Slot, Token, Row, rows, shared_rows, share_rows, firing}
+use Rattle.gos_plan.specs.Firing.{Slot, Token, Row, shared_rows, firing}
 use Rattle.gos_plan.specs.Plans.{End, PartEnd, ImportEnd, ResultEnd, Joint, Plan, contact_at, contacts_of_part, same_end}
 use Rattle.gos_plan.specs.Tokens.{Tokens, Element, Fire, Out, In, Passes, places_of, same_way, with_held, with_state, with_puts, with_token, token_at, end_of, way_of, shake_of, way_taken, way_put, firing_of, Does, Runs}
 use Rattle.gos_plan.proofs.JointLemmas.{listed, same_itself, same_is, found, fits, contained, joined, which_end}
-use Rattle.gos_plan.proofs.RowLemmas.{EachRow, row_with}
-use Rattle.gos_plan.proofs.AskingLemmas.{PutsInRole, row_roles, each_append}
+use Rattle.gos_plan.proofs.RowLemmas.{EachRow}
+use Rattle.gos_plan.proofs.AskingLemmas.{PutsInRole, row_roles}
+use Rattle.gos_plan.proofs.ShareTableLemmas.{share_row}
 use Rattle.gos_plan.proofs.HeldLemmas.{nothing_there}
 use Rattle.gos_plan.proofs.TurnLemmas.{way_to_put}
 use Rattle.gos_plan.proofs.ElementLemmas.{firing_part}
@@ -45,14 +46,6 @@ low_shared n j b Serve = (
   ((λ v. ((λ low. (1, omega arith)), tt)), ((λ v. ((λ low. absurd (omega (arith, low))), tt)), tt)),
 )
 low_shared n j b Ask = ((λ v. ((λ low. absurd (omega (arith, low))), tt)), ((λ v. ((λ low. (b, omega arith)), tt)), tt))
-
-low_table : (n b : ℕ) (cs : List Contact) (j : ℕ) → EachRow (RowLow n) (share_rows cs n j b)
-low_table n b [] j = tt
-low_table n b (x ∷ xs) j = each_append (RowLow n) (shared_rows x.role n j b) (share_rows xs n (suc j) b) (low_shared n j b x.role) (low_table n b xs (suc j))
-
-low_rows : (t : Type') (p : Phase) (b : ℕ) → EachRow (RowLow (count t)) (rows (Share t) p b)
-low_rows t Rest b = low_table (count t) b (contacts_of t) 0
-low_rows t p b = tt
 
 -- tokens that are put elsewhere
 abbrev NotAt : ℕ → End → List Token → Type 0
@@ -170,7 +163,7 @@ module _ (t s o : Type') (n m : ℕ) (half : Half t s o n m) (c : ℕ) (p R : Pl
               let fires : firing (Share t) (k.state i) slot ≡ Some row =
               ap (λ f. firing_of f (k.state i) slot) (sym is_share ∙ ap (slice_get x.parts) (sym same)) ∙ by
               in
-              let (takes, lows) = row_with (RowLow (count t)) slot (rows (Share t) (k.state i).phase (k.state i).number) row (low_rows t (k.state i).phase (k.state i).number) fires in
+              let (takes, lows) = share_row (RowLow (count t)) t (k.state i) slot row (λ j c at. low_shared (count t) j (k.state i).number c.role) fires in
               own_part (length p.parts) (m + l) (count t) (shake_of row.takes) fits_t
               (λ b is. no_caller b (shake_of slot) (ap shake_of (sym takes) ∙ is) (way_of slot) v k (ap (λ (h : ℕ). token_at x k (PartEnd h (shake_of slot)) (way_of slot)) (sym same) ∙ lies))
               (row.puts v) (lows v)

@@ -13,7 +13,7 @@ use Rattle.gos_plan.specs.Joining.{Link}
 use Rattle.gos_realises.specs.realises.Regular.{count}
 use Rattle.gos_realises.specs.realises.Links.{IsJoined}
 use Rattle.gos_realises.specs.realises.Wirings.{lone, link, results_linked}
-use Rattle.gos_realises.specs.realises.Realises.{AllGround, NamesDiffer, HaveOtherNames, Suits, Means}
+use Rattle.gos_realises.specs.realises.Realises.{AllPorts, NamesDiffer, HaveOtherNames, Suits, Means}
 use Rattle.gos_realises.proofs.joined.WholeLemmas.{applied_is_joined, sides_are_joined, variables_are_joined}
 use Rattle.gos_realises.proofs.realises.LiteralLemmas.{each_fits}
 use Rattle.gos_sharing.specs.function_types.Joined.{wiring}
@@ -42,7 +42,7 @@ module _ (f : Narrowing) (z u : Plan) (is : IsNarrow f z u) where
         right = is.right;
         literals = All-from_recursion LiteralFits z.parts (each_fits z.parts (literal suits.literals));
         outcome = sym is.frame.outcome ∙ suits.outcome;
-        all_ground = subst AllGround is.frame.imports suits.all_ground;
+        all_ports = subst AllPorts is.frame.imports suits.all_ports;
         names = subst NamesDiffer is.frame.imports suits.names;
         typed = subst (λ (js : List Imported). Typed js [] m t) is.frame.imports suits.typed;
         regular = narrow_is_regular f z u is suits.regular;

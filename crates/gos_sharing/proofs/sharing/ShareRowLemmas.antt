@@ -10,11 +10,12 @@ use Rattle.gos_types.proofs.RoleLemmas.{serve_is_not_ask}
 use Rattle.gos_realises.specs.realises.Regular.{count}
 use Rattle.gos_plan.specs.Kinds.{Contact, asks, serves, Part, Share, contacts_of, part_contacts}
 use Rattle.gos_plan.specs.Plans.{End, PartEnd, Joint, Plan, contact_at, IsRight}
-use Rattle.gos_plan.specs.Firing.{Phase, Rest, State, at, Slot, Req, Ans, Token, put, Row, row, rows, shared_rows, share_rows, firing}
+use Rattle.gos_plan.specs.Firing.{Rest, State, at, Slot, Req, Ans, Token, put, Row, row, shared_rows, firing}
 use Rattle.gos_plan.specs.Tokens.{Tokens, Fire, places_of, with_place, with_held, held_at, token_at, with_token, with_state, with_puts, end_of, way_of, shake_of, firing_of, Does}
 use Rattle.gos_plan.proofs.JointLemmas.{IsIn, Found, found, fits, one_joint}
-use Rattle.gos_plan.proofs.RowLemmas.{role_taking, EachRow, row_with}
-use Rattle.gos_plan.proofs.AskingLemmas.{RoleIs, PutsInRole, row_roles, each_append}
+use Rattle.gos_plan.proofs.RowLemmas.{role_taking, EachRow}
+use Rattle.gos_plan.proofs.AskingLemmas.{RoleIs, PutsInRole, row_roles}
+use Rattle.gos_plan.proofs.ShareTableLemmas.{share_row}
 use Rattle.gos_plan.proofs.ContactLemmas.{part_contact}
 use Rattle.gos_joining.specs.webs.Webs.{joint}
 use Rattle.gos_joining.specs.webs.Cutting.{asks_in}
@@ -114,26 +115,9 @@ of_role t c b j Ask two lt there = (
   (ask_answer t c b j two lt there (row (Ans (count t + b * count t + j)) (at Rest b) (put (Ans j))) refl (λ v. refl), tt),
 )
 
-pass_table : (t : Type') (c b : ℕ) → c < 2 → (cs : List Contact) (j : ℕ)
-    → ((m : ℕ) (k : Contact) → slice_get cs m ≡ Some k → slice_get (contacts_of t) (j + m) ≡ Some k)
-    → EachRow (PassesIf t c b) (share_rows cs (count t) j b)
-pass_table t c b two [] j there = tt
-pass_table t c b two (x ∷ xs) j there =
-    each_append (PassesIf t c b) (shared_rows x.role (count t) j b) (share_rows xs (count t) (suc j) b)
-    (of_role t c b j x.role two (slice_get_within (contacts_of t) j x here) (x, here, refl))
-    (pass_table t c b two xs (suc j) (λ m k e. let onto : j + suc m ≡ suc j + m = omega arith in
-    subst (λ (n : ℕ). slice_get (contacts_of t) n ≡ Some k) onto (there (suc m) k e)))
-  where
-    here : slice_get (contacts_of t) j ≡ Some x
-    here = let same : j + 0 ≡ j = omega arith in subst (λ (n : ℕ). slice_get (contacts_of t) n ≡ Some x) same (there 0 x refl)
-
-pass_rows : (t : Type') (c : ℕ) → c < 2 → (p : Phase) (b : ℕ) → EachRow (PassesIf t c b) (rows (Share t) p b)
-pass_rows t c two Rest b =
-    pass_table t c b two (contacts_of t) 0 (λ m k e. let same : m ≡ 0 + m = omega arith in subst (λ (j : ℕ). slice_get (contacts_of t) j ≡ Some k) same e)
-pass_rows t c two p b = tt
-
 pub passing : (t : Type') (c : ℕ) → c < 2 → (x : State) (slot : Slot) (r : Row) → firing (Share t) x slot ≡ Some r → (r.takes ≡ slot) × PassesIf t c x.number r
-passing t c two x slot r by = row_with (PassesIf t c x.number) slot (rows (Share t) x.phase x.number) r (pass_rows t c two x.phase x.number) by
+passing t c two x slot r by =
+    share_row (PassesIf t c x.number) t x slot r (λ j k at. of_role t c x.number j k.role two (slice_get_within (contacts_of t) j k at) (k, at, refl)) by
 
 -- who asks, and who serves, at a handshake of the Share
 pub served_there : (r : Plan) (i h : ℕ) (k : Part) (d : End) → IsRight r → slice_get r.parts i ≡ Some k → RoleIs k h Serve → places_of r (PartEnd i h) ≡ Some d → IsIn (joint d (PartEnd i h)) r.joints

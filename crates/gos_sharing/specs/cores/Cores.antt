@@ -8,7 +8,7 @@ use Rattle.gos_plan.specs.Plans.{Plan}
 use Rattle.gos_plan.specs.TokenBits.{LiteralFits}
 use Rattle.gos_realises.specs.realises.Regular.{IsRegular}
 use Rattle.gos_realises.specs.realises.Matched.{RealisesInTurn}
-use Rattle.gos_realises.specs.realises.Realises.{AllGround, NamesDiffer, Realises}
+use Rattle.gos_realises.specs.realises.Realises.{AllPorts, NamesDiffer, Realises}
 use Rattle.gos_programs.specs.contexts.Widening.{Knows}
 use Rattle.gos_supplies.specs.turns.Rests.{Rests}
 use Rattle.gos_sharing.specs.cores.Core.{Core, IsCore, IsStill}
@@ -34,4 +34,4 @@ CoreIsDone =
 abbrev pub CoreIsRealised : Type 0
 CoreIsRealised =
     (f : Core) (r c : Plan) (t : Type') (m : Term)
-    → IsCore f r c → IsStill f r c → All LiteralFits r.parts → AllGround r.imports → NamesDiffer r.imports → Realises t c m → Realises t r m
+    → IsCore f r c → IsStill f r c → All LiteralFits r.parts → AllPorts r.imports → NamesDiffer r.imports → Realises t c m → Realises t r m

@@ -5,18 +5,22 @@ use Rattle.std.specs.Str.{bytes_eq}
 use Rattle.std.proofs.lemmas.Slice.Eq.{bytes_eq-Decides}
 use Rattle.std.proofs.Common.{refl, sym, ◌∙◌, ap, subst, arith, inl, inr}
 use Rattle.std.proofs.lemmas.Bool.{and_right}
+use Rattle.std.proofs.lemmas.List.Elements.{All-cons, All-nil}
 use Rattle.gos_types.specs.Events.{Direction, Request, Answer}
 use Rattle.gos_types.specs.Types.{Exp, Var, Fun}
 use Rattle.gos_types.proofs.BoolLemmas.{true_is_not_false}
+use Rattle.gos_types.proofs.ListLemmas.{none_in_empty}
 use Rattle.gos_model.specs.Terms.{Name, Term, Import, App, Both, Deref, Wait, Lit}
 use Rattle.gos_model.specs.Typing.{import_type}
 use Rattle.gos_model.specs.Reach.{Unfolds}
 use Rattle.gos_model.specs.Labels.{Taken, Label, given, taken, is_output, is_output_at}
 use Rattle.gos_model.specs.Moves.{Program, Config, Idle, Running, Act, Computing, Showing, Moves, labels, Unfoldings, ActsTo, Stalled}
+use Rattle.gos_plan.specs.Kinds as kinds
 use Rattle.gos_plan.specs.Kinds.{Contact, asks, serves}
 use Rattle.gos_plan.specs.Firing.{Phase, Rest, Waiting, Slot, Req, Ans, Row, row, at, put}
 use Rattle.gos_plan.specs.Plans.{End, PartEnd, ImportEnd, ResultEnd, Plan, contact_at}
 use Rattle.gos_plan.specs.Tokens.{Tokens, Element, Fire, Out, In, with_place, with_state, with_token, firing_of, fired, end_of, way_of, way_taken, way_put, Does, IsIdle}
+use Rattle.gos_plan.specs.TokenBits.{LiteralFits}
 use Rattle.gos_plan.specs.Turns.{IsEmptyAt}
 use Rattle.gos_plan.specs.Orderly.{Open, with_open, after_taken, after_put, after_puts, ComesWell, AllComeWell, ComesInOrder, AllWelcome}
 use Rattle.gos_realises.specs.realises.Regular.{Pass, pass, way_in, is_open, KeepsTurns}
@@ -24,7 +28,7 @@ use Rattle.gos_realises.specs.realises.Matched.{shows, asks_on, GoesOn, Agrees, 
 use Rattle.gos_realises.proofs.realises.OneJointLemmas.{not_both}
 use Rattle.gos_realises.proofs.realises.SkipLemmas.{run_is_no_output, running_is_not_idle}
 use Rattle.gos_realises.proofs.realises.RingLemmas.{after, OutputTurns, IsFirst}
-use Rattle.gos_supplies.specs.names.Arrays.{array_read, ReadIsRealised}
+use Rattle.gos_supplies.specs.names.Arrays.{array_read, ReadIsRealised, ReadIsRealisedByType}
 use Rattle.gos_supplies.proofs.names.TrackLemmas.{IsTrack, IsProgramTrack, track_is_regular, track_realises}
 use Rattle.gos_supplies.proofs.names.PlaceLemmas.{Places, nowhere, placed_at, Holds, put_there, turned_to, other_turned, emptied, exchanged, or_false, none_open_at}
 
@@ -886,3 +890,20 @@ read_is_realised n i w k = (
   track_is_regular (array_read n i w k) Stage (Next w k) succ (At w k) OpenAt Opened (track n i w k) Resting (first n i w k),
   track_realises (array_read n i w k) (access n i k) Stage (Next w k) succ (acts n k) (config n i w k) (At w k) OpenAt Opened (whole n i w k) Resting refl (first n i w k),
 )
+
+-- by its type
+pub read_is_realised_by_type : ReadIsRealisedByType
+read_is_realised_by_type n i w k wide small =
+    record {
+      suits =
+          record {
+            right = (((0, w, refl, refl), refl, refl), (((0, w, refl, refl), refl, refl), (((0, i, refl, refl), refl, refl), tt)));
+            literals = All-cons LiteralFits (kinds.Deref w) (kinds.Lit i k ∷ []) tt (All-cons LiteralFits (kinds.Lit i k) [] small (All-nil LiteralFits));
+            outcome = refl;
+            all_ports = (inr tt, tt);
+            names = (λ j there. absurd (none_in_empty j there), tt);
+            typed = (w, refl, (Exp i, known n i w k, (refl, wide, small), λ t one other. none_in_empty t other));
+            regular = (read_is_realised n i w k).0;
+          };
+      means = (read_is_realised n i w k).1;
+    }

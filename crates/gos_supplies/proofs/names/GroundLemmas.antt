@@ -1,6 +1,6 @@
 -- The plan of a name realises it, at each ground type.
 use Rattle.std.specs.Prelude.{◌≡◌, ℕ, ◌^◌, ◌<◌, [], ◌∷◌, All}
-use Rattle.std.proofs.Common.{refl, sym, ◌∙◌, subst}
+use Rattle.std.proofs.Common.{refl, sym, ◌∙◌, subst, inl}
 use Rattle.gos_types.specs.Types.{Type', Com, Exp, Var, Pair, Fun}
 use Rattle.gos_types.specs.Widths.{IsWidth}
 use Rattle.gos_types.proofs.ListLemmas.{none_in_empty}
@@ -13,7 +13,7 @@ use Rattle.gos_realises.specs.realises.Regular.{IsRegular}
 use Rattle.gos_realises.specs.realises.Matched.{RealisesInTurn}
 use Rattle.gos_realises.specs.realises.Links.{IsJoined}
 use Rattle.gos_realises.specs.realises.Wirings.{reading, writing}
-use Rattle.gos_realises.specs.realises.Realises.{AllGround, NamesDiffer, Suits}
+use Rattle.gos_realises.specs.realises.Realises.{AllPorts, NamesDiffer, Suits}
 use Rattle.gos_realises.specs.realises.Alone.{OrderIsFree}
 use Rattle.gos_realises.proofs.realises.LiteralLemmas.{no_literals, reading_literals, writing_literals, literals_same}
 use Rattle.gos_supplies.specs.names.Names.{imported, name_plan, NameIsRealised}
@@ -35,7 +35,7 @@ module _ (joining_is_one : JoiningIsOne) (order_is_free : OrderIsFree) where
       right = also;
       literals = literals_same r.parts p.parts same.parts literals;
       outcome = same.outcome ∙ outcome;
-      all_ground = subst AllGround (sym is) (tt, tt);
+      all_ports = subst AllPorts (sym is) (inl tt, tt);
       names = subst NamesDiffer (sym is) ((λ j there. absurd (none_in_empty j there)), tt);
       typed = subst (λ (i : Imports). Typed i [] m t) (sym is) typed;
       regular = (order_is_free p r right also same).0 regular;
@@ -67,7 +67,7 @@ module _ (joining_is_one : JoiningIsOne) (order_is_free : OrderIsFree) where
         right = (((0, w, refl, refl), refl, refl), (((w, 0, refl, refl), refl, refl), tt));
         literals = no_literals;
         outcome = refl;
-        all_ground = (tt, tt);
+        all_ports = (inl tt, tt);
         names = (λ j there. absurd (none_in_empty j there), tt);
         typed = known n (Var w);
         regular = variable_is_regular n w;

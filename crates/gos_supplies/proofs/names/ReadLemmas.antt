@@ -29,12 +29,12 @@ use Rattle.gos_supplies.proofs.names.WaitLemmas.{wait_is_stalled}
 use Rattle.gos_supplies.proofs.names.PlaceLemmas.{Places, nowhere, placed_at, Holds, put_there, turned_to, emptied, exchanged, or_false, none_open_at}
 use Rattle.gos_supplies.proofs.names.ReadingLemmas.{read_plan}
 
-data Stage : Type 0 where
+pub data Stage : Type 0 where
   Resting Run Reading Away : Stage
   Read Back : (v : ℕ) → Stage
 
 -- the tokens of each stage
-abbrev places : Stage → Places
+abbrev pub places : Stage → Places
 places Resting = nowhere
 places Run = placed_at Request (ResultEnd 0) (Some 0) nowhere
 places Reading = placed_at Request (PartEnd 0 0) (Some 0) nowhere
@@ -42,7 +42,7 @@ places Away = nowhere
 places (Read v) = placed_at Answer (PartEnd 0 0) (Some v) nowhere
 places (Back v) = placed_at Answer (ResultEnd 0) (Some v) nowhere
 
-abbrev phase : Stage → Phase
+abbrev pub phase : Stage → Phase
 phase Resting = Rest
 phase Run = Rest
 phase Reading = Waiting
@@ -50,7 +50,7 @@ phase Away = Waiting
 phase (Read v) = Waiting
 phase (Back v) = Rest
 
-abbrev Next : ℕ → Stage → Element → Type 0
+abbrev pub Next : ℕ → Stage → Element → Type 0
 Next w Resting x = x ≡ In (ResultEnd 0) 0
 Next w Run x = x ≡ Fire 0 (Req 1)
 Next w Reading x = x ≡ Out (ImportEnd 0 0) 0
@@ -58,12 +58,12 @@ Next w Away x = (v : ℕ) × (v < 2 ^ w) × (x ≡ In (ImportEnd 0 0) v)
 Next w (Read v) x = (x ≡ Fire 0 (Ans 0)) × (v < 2 ^ w)
 Next w (Back v) x = (x ≡ Out (ResultEnd 0) v) × (v < 2 ^ w)
 
-abbrev number_of : Element → ℕ
+abbrev pub number_of : Element → ℕ
 number_of (Fire i t) = 0
 number_of (Out e v) = v
 number_of (In e v) = v
 
-abbrev succ : Stage → Element → Stage
+abbrev pub succ : Stage → Element → Stage
 succ Resting x = Run
 succ Run x = Reading
 succ Reading x = Away
@@ -72,15 +72,15 @@ succ (Read v) x = Back v
 succ (Back v) x = Resting
 
 -- a number that is on its way has at most its bits
-abbrev Fits : ℕ → Stage → Type 0
+abbrev pub Fits : ℕ → Stage → Type 0
 Fits w (Read v) = v < 2 ^ w
 Fits w (Back v) = v < 2 ^ w
 Fits w q = Unit {0}
 
-abbrev At : ℕ → Stage → Tokens → Type 0
+abbrev pub At : ℕ → Stage → Tokens → Type 0
 At w q s = Holds (places q) (phase q) s × Fits w q
 
-abbrev acts : Name → Stage → Element → List Act
+abbrev pub acts : Name → Stage → Element → List Act
 acts n Resting x = Showing (given 0 0) ∷ []
 acts n Run x = []
 acts n Reading x = Showing (taken n 0 0) ∷ []
@@ -88,7 +88,7 @@ acts n Away x = Showing (taken n 1 (number_of x)) ∷ []
 acts n (Read v) x = []
 acts n (Back v) x = Showing (given 1 v) ∷ []
 
-abbrev config : Name → ℕ → Stage → Config
+abbrev pub config : Name → ℕ → Stage → Config
 config n w Resting = Idle
 config n w Run = Running (Deref (Import n)) []
 config n w Reading = Running (Deref (Import n)) []
@@ -97,7 +97,7 @@ config n w (Read v) = Running (Lit v w) []
 config n w (Back v) = Running (Lit v w) []
 
 -- the handshakes of the result and of the Deref's number
-abbrev OpenAt : Stage → Open → Type 0
+abbrev pub OpenAt : Stage → Open → Type 0
 OpenAt Resting o = (o (ResultEnd 0) ≡ false) × (o (PartEnd 0 0) ≡ false)
 OpenAt Run o = (o (ResultEnd 0) ≡ true) × (o (PartEnd 0 0) ≡ false)
 OpenAt Reading o = (o (ResultEnd 0) ≡ true) × (o (PartEnd 0 0) ≡ true)
@@ -106,7 +106,7 @@ OpenAt (Read v) o = (o (ResultEnd 0) ≡ true) × (o (PartEnd 0 0) ≡ true)
 OpenAt (Back v) o = (o (ResultEnd 0) ≡ true) × (o (PartEnd 0 0) ≡ false)
 
 -- of the result and of the import's read
-abbrev Opened : Stage → (End → Bool) → Type 0
+abbrev pub Opened : Stage → (End → Bool) → Type 0
 Opened Resting f = (f (ResultEnd 0) ≡ false) × (f (ImportEnd 0 0) ≡ false) × (f (ImportEnd 0 1) ≡ false)
 Opened Run f = (f (ResultEnd 0) ≡ true) × (f (ImportEnd 0 0) ≡ false) × (f (ImportEnd 0 1) ≡ false)
 Opened Reading f = (f (ResultEnd 0) ≡ true) × (f (ImportEnd 0 0) ≡ false) × (f (ImportEnd 0 1) ≡ false)
@@ -461,7 +461,7 @@ module _ (n : Name) (w : ℕ) where
   welcome q s (here, fits) (suc i) (Req h) c v there way lies = absurd (grind (arith, there))
   welcome q s (here, fits) (suc i) (Ans h) c v there way lies = absurd (grind (arith, there))
 
-  abbrev program : Program
+  abbrev pub program : Program
   program = program_of (read_plan n w) (Deref (Import n))
 
   same : bytes_eq n n ≡ true
@@ -552,7 +552,7 @@ module _ (n : Name) (w : ℕ) where
         welcome = welcome;
       }
 
-  whole : IsProgramTrack (read_plan n w) program Stage (Next w) succ (acts n) (config n w) (At w) OpenAt Opened
+  pub whole : IsProgramTrack (read_plan n w) program Stage (Next w) succ (acts n) (config n w) (At w) OpenAt Opened
   whole =
       record {
         track = track;
@@ -562,7 +562,7 @@ module _ (n : Name) (w : ℕ) where
         goes_on = goes_on;
       }
 
-  first : IsFirst (read_plan n w) Stage (At w) OpenAt Opened Resting
+  pub first : IsFirst (read_plan n w) Stage (At w) OpenAt Opened Resting
   first =
       record {
         rests = λ s idle. (record { lies = λ way e. idle.0 way e; first = idle.1 0; others = λ i. idle.1 (suc i) }, tt);

@@ -28,10 +28,10 @@ use Rattle.gos_supplies.proofs.names.WaitLemmas.{wait_is_stalled}
 use Rattle.gos_supplies.proofs.names.PlaceLemmas.{Places, nowhere, placed_at, Holds, put_there, turned_to, other_turned, emptied, exchanged, or_false, none_open_at}
 use Rattle.gos_supplies.proofs.names.WritingLemmas.{write_plan}
 
-data Stage : Type 0 where
+pub data Stage : Type 0 where
   Resting Run Getting Got Asking Away Written Back : Stage
 
-abbrev succ : Stage → Stage
+abbrev pub succ : Stage → Stage
 succ Resting = Run
 succ Run = Getting
 succ Getting = Got
@@ -42,7 +42,7 @@ succ Written = Back
 succ Back = Resting
 
 -- the handshakes of the result, the number and the write
-abbrev OpenAt : Stage → Open → Type 0
+abbrev pub OpenAt : Stage → Open → Type 0
 OpenAt Resting o = (o (ResultEnd 0) ≡ false) × (o (PartEnd 0 0) ≡ false) × (o (PartEnd 0 1) ≡ false)
 OpenAt Run o = (o (ResultEnd 0) ≡ true) × (o (PartEnd 0 0) ≡ false) × (o (PartEnd 0 1) ≡ false)
 OpenAt Getting o = (o (ResultEnd 0) ≡ true) × (o (PartEnd 0 0) ≡ true) × (o (PartEnd 0 1) ≡ false)
@@ -53,10 +53,10 @@ OpenAt Written o = (o (ResultEnd 0) ≡ true) × (o (PartEnd 0 0) ≡ false) × 
 OpenAt Back o = (o (ResultEnd 0) ≡ true) × (o (PartEnd 0 0) ≡ false) × (o (PartEnd 0 1) ≡ false)
 
 -- those of the result, and of the import's read and write
-abbrev Ports : Bool → Bool → (End → Bool) → Type 0
+abbrev pub Ports : Bool → Bool → (End → Bool) → Type 0
 Ports run write f = (f (ResultEnd 0) ≡ run) × (f (ImportEnd 0 0) ≡ false) × (f (ImportEnd 0 1) ≡ write)
 
-abbrev Opened : Stage → (End → Bool) → Type 0
+abbrev pub Opened : Stage → (End → Bool) → Type 0
 Opened Resting f = Ports false false f
 Opened Run f = Ports true false f
 Opened Getting f = Ports true false f
@@ -66,7 +66,7 @@ Opened Away f = Ports true true f
 Opened Written f = Ports true false f
 Opened Back f = Ports true false f
 
-abbrev phase : Stage → Phase
+abbrev pub phase : Stage → Phase
 phase Resting = Rest
 phase Run = Rest
 phase Getting = Value
@@ -90,7 +90,7 @@ abbrev number_row : ℕ → ℕ → Row
 number_row m k = row (Req 0) (at Rest k) (λ v. put (Ans 0) m)
 
 module _ (n : Name) (w m : ℕ) where
-  abbrev next : Stage → Element
+  abbrev pub next : Stage → Element
   next Resting = In (ResultEnd 0) 0
   next Run = Fire 0 (Req 2)
   next Getting = Fire 1 (Req 0)
@@ -100,7 +100,7 @@ module _ (n : Name) (w m : ℕ) where
   next Written = Fire 0 (Ans 1)
   next Back = Out (ResultEnd 0) 0
 
-  abbrev places : Stage → Places
+  abbrev pub places : Stage → Places
   places Resting = nowhere
   places Run = placed_at Request (ResultEnd 0) (Some 0) nowhere
   places Getting = placed_at Request (PartEnd 0 0) (Some 0) nowhere
@@ -110,10 +110,10 @@ module _ (n : Name) (w m : ℕ) where
   places Written = placed_at Answer (PartEnd 0 1) (Some 0) nowhere
   places Back = placed_at Answer (ResultEnd 0) (Some 0) nowhere
 
-  abbrev At : Stage → Tokens → Type 0
+  abbrev pub At : Stage → Tokens → Type 0
   At q s = Holds (places q) (phase q) s
 
-  abbrev acts : Stage → List Act
+  abbrev pub acts : Stage → List Act
   acts Resting = Showing (given 0 0) ∷ []
   acts Run = []
   acts Getting = []
@@ -123,7 +123,7 @@ module _ (n : Name) (w m : ℕ) where
   acts Written = []
   acts Back = Showing (given 1 0) ∷ []
 
-  abbrev config : Stage → Config
+  abbrev pub config : Stage → Config
   config Resting = Idle
   config Run = Running (Assign (Import n) (Lit m w)) []
   config Getting = Running (Assign (Import n) (Lit m w)) []
@@ -553,7 +553,7 @@ module _ (n : Name) (w m : ℕ) where
   welcome q s here (suc (suc i)) (Req h) c v there way lies = absurd (grind (arith, there))
   welcome q s here (suc (suc i)) (Ans h) c v there way lies = absurd (grind (arith, there))
 
-  abbrev program : Program
+  abbrev pub program : Program
   program = program_of (write_plan n w m) (Assign (Import n) (Lit m w))
 
   same : bytes_eq n n ≡ true
@@ -660,7 +660,7 @@ module _ (n : Name) (w m : ℕ) where
         welcome = welcome;
       }
 
-  ring : IsRing (write_plan n w m) program Stage next succ acts config At OpenAt Opened
+  pub ring : IsRing (write_plan n w m) program Stage next succ acts config At OpenAt Opened
   ring =
       record {
         circle = circle;
@@ -670,7 +670,7 @@ module _ (n : Name) (w m : ℕ) where
         goes_on = goes_on;
       }
 
-  first : IsFirst (write_plan n w m) Stage At OpenAt Opened Resting
+  pub first : IsFirst (write_plan n w m) Stage At OpenAt Opened Resting
   first =
       record {
         rests = λ s idle. record { lies = λ way e. idle.0 way e; first = idle.1 0; others = λ i. idle.1 (suc i) };

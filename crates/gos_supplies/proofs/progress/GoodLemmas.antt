@@ -2,15 +2,15 @@
 --
 -- At a ground type a term is good where unfoldings of its head end; at a product where its sides are good; at a function
 -- type where it makes a good term of each good argument.
-use Rattle.std.specs.Prelude.{◌≡◌, ◌⊎◌, ℕ, zero, suc, ◌-◌, ◌^◌, ◌<◌, IsTrue, List, [], ◌∷◌, Some, slice_get}
+use Rattle.std.specs.Prelude.{◌≡◌, ◌⊎◌, ℕ, zero, suc, ◌-◌, ◌^◌, ◌<◌, IsTrue, List, [], ◌∷◌, get_or, Some, slice_get}
 use Rattle.std.proofs.Common.{arith, refl, sym, ap, subst, inl, inr, ◌∙◌}
 use Rattle.std.proofs.lemmas.Bool.{le-ltb}
-use Rattle.std.proofs.lemmas.Option.{same_Some}
+use Rattle.std.proofs.lemmas.Option.{same_Some, slice_get-get_or}
 use Rattle.gos_types.specs.Types.{Type', Com, Exp, Var, Pair, Fun, IsGround, IsPort, IsDone}
 use Rattle.gos_model.specs.Terms.{Name, Term, Skip, Lit, Bound, Import, Lam, App, Both, Fst, Snd, Seq, Par, If, While, Assign, Deref, New, Not, Bin, Loc, Scope, Wait, Held, Put, result_of, complement, result_width}
 use Rattle.gos_model.specs.Substitution.{put_at, instantiate}
 use Rattle.gos_model.specs.Typing.{Imports, import_type}
-use Rattle.gos_model.specs.Stores.{Entry, Store, entry_at, store_put, without}
+use Rattle.gos_model.specs.Stores.{Entry, variable_at, Store, entry_at, store_put, without}
 use Rattle.gos_model.specs.Reach.{Rewrites, Under}
 use Rattle.gos_model.specs.Accesses.{IsArrayImport}
 use Rattle.gos_model.specs.Labels.{is_output, taken}
@@ -53,11 +53,11 @@ abbrev pub UnfoldsHeads : ℕ → Term → Term → Type 0
 UnfoldsHeads zero m t = m ≡ t
 UnfoldsHeads (suc n) m t = (u : Term) × UnfoldsHead m u × UnfoldsHeads n u t
 
--- an import of a variable, a location, or an array's import with an index
+-- an import of a variable, a location with a number, or an array's import with an index
 abbrev pub IsPlace : Imports → Store → ℕ → Term → Type 0
 IsPlace i s w v =
     ((x : Name) × (v ≡ Import x) × (import_type i x ≡ Some (Var w)))
-    ⊎ (((e : Entry) × (v ≡ Loc e.place) × (entry_at s e.place ≡ Some e))
+    ⊎ (((e : Entry) × (j : ℕ) × (v ≡ Loc e.place) × (entry_at s e.place ≡ Some e) × (slice_get e.numbers 0 ≡ Some j))
     ⊎ ((x : Name) × (j : ℕ) × (n : Term) × (v ≡ App (Import x) n) × IsArrayImport i x j w))
 
 abbrev pub IsGood : Imports → Store → Type' → Term → Type 0
@@ -124,7 +124,7 @@ asks_place i s w v (inr (inr (x, j, n, is, array))) = (
   refl,
   (inl (inl (inr (x, refl, (j, w, n, array, inl (is, refl, refl, refl))))), refl),
 )
-asks_place i s w v (inr (inl (e, is, here))) = computes i s (Deref v) s (Lit e.number e.width) (inl (e, is, here, refl, refl))
+asks_place i s w v (inr (inl (e, j, is, here, has))) = computes i s (Deref v) s (Lit j e.width) (inl (e, j, is, here, has, refl, refl))
 
 puts_place : (i : Imports) (s : Store) (w k : ℕ) (v : Term) → IsPlace i s w v → CanMove i s (Put v k)
 puts_place i s w k v (inl (x, is, e)) = (Showing (taken x 2 k), s, Wait x 3, refl, (inl (inl (inl (x, w, is, e, refl, refl))), refl))
@@ -135,7 +135,7 @@ puts_place i s w k v (inr (inr (x, j, n, is, array))) = (
   refl,
   (inl (inl (inr (x, refl, (j, w, n, array, inl (is, refl, refl, refl))))), refl),
 )
-puts_place i s w k v (inr (inl (e, is, here))) = computes i s (Put v k) (store_put s e.place k) Skip (inl (e, is, here, refl, refl))
+puts_place i s w k v (inr (inl (e, j, is, here, has))) = computes i s (Put v k) (store_put s e.place 0 k) Skip (inl (e, j, is, here, has, refl, refl))
 
 asks : (i : Imports) (s : Store) (w : ℕ) (m : Term) → IsGood i s (Var w) m → CanBegin i s (Deref m)
 asks i s w m (n, v, hs, h) = (n, Deref v, derefs n m v hs, asks_place i s w v h)
@@ -269,7 +269,7 @@ module _ (i : Imports) (s : Store) (ports : ImportsArePorts i) where
         0,
         whole,
         refl,
-        computes i s whole (record { place = above s; width = w; number = 0 } ∷ s) (Scope (above s) (instantiate (close 1 qs m) (Loc (above s))))
+        computes i s whole (variable_at (above s) w 0 ∷ s) (Scope (above s) (instantiate (close 1 qs m) (Loc (above s))))
             (inl (above s, above_absent s (above s) (omega arith), refl, refl)),
       )
   good g (Not m) t qs f nw (w, e, h) =
@@ -283,10 +283,11 @@ module _ (i : Imports) (s : Store) (ports : ImportsArePorts i) where
       (begins i s (Exp (result_width op w)) whole tt
       (within (IsNumber w) i s (BinLeft op (close 0 qs n)) (close 0 qs m) (good g m (Exp w) qs f nw.0 h)
       (λ v is. computes i s (Bin op v (close 0 qs n)) s (Held is.0 op (close 0 qs n)) (inl (is.0, w, is.1, refl, refl)))))
-  good g (Loc l) t qs f nw (w, is, (e, here, wide)) =
+  good g (Loc l) t qs f nw (w, is, (e, here, wide, one)) =
       let at = entry_place s l e here in
+      let number = slice_get-get_or e.numbers 0 0 (omega (arith, one)) in
       as_type i s (Loc l) t (Var w) is
-      (0, Loc l, refl, inr (inl (e, ap Loc (sym at), subst (λ (x : ℕ). entry_at s x ≡ Some e) (sym at) here)))
+      (0, Loc l, refl, inr (inl (e, get_or e.numbers 0 0, ap Loc (sym at), subst (λ (x : ℕ). entry_at s x ≡ Some e) (sym at) here, number)))
   good g (Scope l m) t qs f nw (d, h) = block i s l t (close 0 qs m) d (good g m t qs f nw h)
   good g (Wait x n) t qs f nw h = absurd nw
   good g (Held k op n) t qs f nw (w, e, fits, h) =

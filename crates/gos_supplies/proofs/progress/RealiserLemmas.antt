@@ -14,7 +14,7 @@ use Rattle.gos_plan.specs.Tokens.{Tokens, Element, Out, In, asking_in, places_of
 use Rattle.gos_realises.specs.realises.Regular.{count}
 use Rattle.gos_realises.specs.realises.Matched.{shows, all_shown, GoesOn, IsMatched, program_of, RealisesInTurn, RealisesDone}
 use Rattle.gos_realises.specs.realises.Realises.{Realises}
-use Rattle.gos_realises.proofs.realises.PortInputLemmas.{ground_ports, realising_is_by_turns}
+use Rattle.gos_realises.proofs.realises.PortInputLemmas.{realising_is_by_turns}
 use Rattle.gos_joining.specs.webs.Cutting.{StandsIn}
 use Rattle.gos_supplies.specs.progress.Realisers.{RealisersAreJoined}
 use Rattle.gos_supplies.proofs.progress.WaitLemmas.{source_waits, unasked}
@@ -83,7 +83,7 @@ never : (p : Plan) (t : Type') (m : Term) → IsDone t → Realises t p m → Is
 never p t m done r (acts, Idle, moves, e, goes, agrees) =
     unasked (program_of p m) acts Idle (source_waits p.imports [] m t r.suits.typed) moves e
 never p t m done r (acts, Running u s, moves, e, goes, agrees) =
-    unasked_runs_go_on (program_of p m) t acts u s (ground_ports p.imports r.suits.all_ground) r.suits.typed done moves e (agrees.0 (resting_quiet p))
+    unasked_runs_go_on (program_of p m) t acts u s r.suits.all_ports r.suits.typed done moves e (agrees.0 (resting_quiet p))
 
 -- a command and an expression mean what their lists do
 pub means_done : (t : Type') (p : Plan) (m : Term) → IsDone t → Realises t p m → RealisesInTurn p m
@@ -96,7 +96,7 @@ means_done (Fun a b) p m d r = absurd d
 -- so they do what the protocol asks of
 pub by_protocol : (t : Type') (p : Plan) (m : Term) → IsDone t → Realises t p m → RealisesDone p m
 by_protocol t p m d r =
-    (realising_is_by_turns p m r.suits.regular r.suits.all_ground r.suits.names (subst IsDone (sym r.suits.outcome) d)).1 (means_done t p m d r)
+    (realising_is_by_turns p m r.suits.regular r.suits.all_ports r.suits.names (subst IsDone (sym r.suits.outcome) d)).1 (means_done t p m d r)
 
 request_keeps : (p : Plan) → KeepsProtocol p.imports (all_shown p (request ∷ []))
 request_keeps p = (λ h. (refl, refl, refl), tt)

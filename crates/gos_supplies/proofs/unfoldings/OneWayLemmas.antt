@@ -42,7 +42,7 @@ not_access f t g a rests no_function is h = none (subst (λ y. UnfoldsHead y t) 
 -- what is read or written does nothing before it is a location or a name
 deref_rests : (f n : Term) → UnfoldsHead f n → (i : Imports) (a : Act) (s : Store) (c : Config) → ActsTo i a s (Deref f) c → ⊥
 deref_rests f n h i Computing s Idle act = act
-deref_rests f n h i Computing s (Running t u) (inl (e, is, found, to, same)) = not_place f n e.place is h
+deref_rests f n h i Computing s (Running t u) (inl (e, old, is, found, has, to, same)) = not_place f n e.place is h
 deref_rests f n h i Computing s (Running t u) (inr (m, e, index)) = lower_no_index (Computes s u) f n m h index
 deref_rests f n h i (Showing o) s Idle act = grind (arith, act)
 deref_rests f n h i (Showing o) s (Running t u) (inl (inl (inl (x, w, is, of_type, shown, to))), e) = not_import f n x is h
@@ -53,7 +53,7 @@ deref_rests f n h i (Showing o) s (Running t u) (inr (m, to, index), e) = lower_
 
 put_rests : (f n : Term) (k : ℕ) → UnfoldsHead f n → (i : Imports) (a : Act) (s : Store) (c : Config) → ActsTo i a s (Put f k) c → ⊥
 put_rests f n k h i Computing s Idle act = act
-put_rests f n k h i Computing s (Running t u) (inl (e, is, found, to, same)) = not_place f n e.place is h
+put_rests f n k h i Computing s (Running t u) (inl (e, old, is, found, has, to, same)) = not_place f n e.place is h
 put_rests f n k h i Computing s (Running t u) (inr (m, e, index)) = lower_no_index (Computes s u) f n m h index
 put_rests f n k h i (Showing o) s Idle act = grind (arith, act)
 put_rests f n k h i (Showing o) s (Running t u) (inl (inl (inl (x, w, is, of_type, shown, to))), e) = not_import f n x is h

@@ -12,7 +12,7 @@ use Rattle.gos_realises.specs.realises.Regular.{count}
 use Rattle.gos_realises.specs.realises.Matched.{RealisesInTurn}
 use Rattle.gos_realises.specs.realises.Links.{IsJoined}
 use Rattle.gos_realises.specs.realises.Wirings.{lone, link, results_linked}
-use Rattle.gos_realises.specs.realises.Realises.{AllGround, NamesDiffer, HaveOtherNames, Suits, Means, Realises}
+use Rattle.gos_realises.specs.realises.Realises.{AllPorts, NamesDiffer, HaveOtherNames, Suits, Means, Realises}
 use Rattle.gos_realises.proofs.realises.LiteralLemmas.{no_literals, reading_literals, writing_literals, literals_append, literals_joined}
 use Rattle.gos_programs.proofs.contexts.WideningLemmas.{sources_known}
 use Rattle.gos_realises.proofs.realises.PlaceLemmas.{differ_both}
@@ -20,7 +20,7 @@ use Rattle.gos_realises.proofs.joined.WholeLemmas.{applied_is_joined, sides_are_
 use Rattle.gos_supplies.specs.unjoined.Beside.{Placing}
 use Rattle.gos_supplies.proofs.unjoined.PlacedLemmas.{IsPlaced}
 use Rattle.gos_supplies.proofs.unjoined.RegularLemmas.{whole_regular}
-use Rattle.gos_supplies.proofs.unjoined.ImportLemmas.{among, typed_more, ground_both}
+use Rattle.gos_supplies.proofs.unjoined.ImportLemmas.{among, typed_more, ports_both}
 use Rattle.gos_supplies.proofs.unjoined.DoneLemmas.{own_imports, whole_done}
 use Rattle.gos_supplies.proofs.unjoined.LeftLemmas.{ArePlain, all_imports}
 use Rattle.gos_supplies.proofs.unjoined.JoinedLemmas.{wiring, numbers, large_imports, joinings_placed}
@@ -37,13 +37,13 @@ writing_plain = (tt, omega arith, (omega arith, tt, tt))
 
 -- imports that may stand for a plan's
 abbrev pub Fine : Imports → Type 0
-Fine is = AllGround is × NamesDiffer is
+Fine is = AllPorts is × NamesDiffer is
 
 pub no_others : (is : Imports) → HaveOtherNames is []
 no_others is i j has (k, small, e) = absurd (omega (arith, small))
 
 pub more_fine : (is js : Imports) → Fine is → Fine js → HaveOtherNames is js → Fine (is ++ js)
-more_fine is js one other apart = (ground_both is js one.0 other.0, differ_both is js one.1 other.1 apart)
+more_fine is js one other apart = (ports_both is js one.0 other.0, differ_both is js one.1 other.1 apart)
 
 pub append_none : (is : Imports) → is ++ [] ≡ is
 append_none [] = refl
@@ -57,7 +57,7 @@ module _ (f : Placing) (r c : Plan) (is : IsPlaced f r c) (literals : All Litera
         right = is.whole_right;
         literals = literals;
         outcome = is.outcome ∙ suits.outcome;
-        all_ground = fine.0;
+        all_ports = fine.0;
         names = fine.1;
         typed = typed_more c.imports r.imports (among c.imports r.imports fine.1 (own_imports f r c is)) [] m t suits.typed;
         regular = whole_regular f r c is suits.regular;
@@ -128,15 +128,15 @@ means_whole (Fun a b) f r c m is literals fine suits means = λ z x n apart of_z
     let (g, placed, fit, fine_x) =
     joined f r c is (z ∷ []) (results_linked 1 0 (count a)) (results_plain 0 (count a)) 0 (count a) b x y of_x of_y literals
     (literals_append z.parts [] of_z.literals no_literals) fine
-    (subst Fine same (of_z.all_ground, of_z.names)) (subst (HaveOtherNames r.imports) same apart)
+    (subst Fine same (of_z.all_ports, of_z.names)) (subst (HaveOtherNames r.imports) same apart)
     in
     let own : HaveOtherNames c.imports z.imports = λ i j in_c in_z. apart i j (own_imports f r c is i in_c) in_z in
     let (also, meant) = means z y n own of_z meant_z of_y in
     (suits_whole g x y placed fit fine_x b (App m n) also, means_whole b g x y (App m n) placed fit fine_x also meant)
 
-pub whole_realises : (t : Type') (f : Placing) (r c : Plan) (m : Term) → IsPlaced f r c → All LiteralFits r.parts → AllGround r.imports → NamesDiffer r.imports → Realises t c m → Realises t r m
-whole_realises t f r c m is literals ground names realised =
+pub whole_realises : (t : Type') (f : Placing) (r c : Plan) (m : Term) → IsPlaced f r c → All LiteralFits r.parts → AllPorts r.imports → NamesDiffer r.imports → Realises t c m → Realises t r m
+whole_realises t f r c m is literals ports names realised =
     record {
-      suits = suits_whole f r c is literals (ground, names) t m realised.suits;
-      means = means_whole t f r c m is literals (ground, names) realised.suits realised.means;
+      suits = suits_whole f r c is literals (ports, names) t m realised.suits;
+      means = means_whole t f r c m is literals (ports, names) realised.suits realised.means;
     }

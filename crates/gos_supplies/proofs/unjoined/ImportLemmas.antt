@@ -5,7 +5,7 @@ use Rattle.std.proofs.Common.{refl, ◌∙◌, ap, arith}
 use Rattle.std.proofs.lemmas.Slice.Eq.{bytes_eq-Decides}
 use Rattle.gos_types.specs.Types.{Type'}
 use Rattle.gos_model.specs.Typing.{Imported, Imports, import_type}
-use Rattle.gos_realises.specs.realises.Realises.{AllGround, NamesDiffer}
+use Rattle.gos_realises.specs.realises.Realises.{AllPorts, NamesDiffer}
 use Rattle.gos_programs.specs.contexts.Widening.{AreAmong}
 pub use Rattle.gos_programs.proofs.contexts.WideningLemmas.{typed_more}
 use Rattle.gos_joining.proofs.renumbered.ImportLemmas.{has_type, type_has}
@@ -32,6 +32,6 @@ named_type (j ∷ is) i (suc k, small, e) = by_test (bytes_eq j.name i.name) (na
     by_test false rest = rest
 
 -- imports one after another
-pub ground_both : (is js : List Imported) → AllGround is → AllGround js → AllGround (is ++ js)
-ground_both [] js one other = other
-ground_both (i ∷ is) js one other = (one.0, ground_both is js one.1 other)
+pub ports_both : (is js : List Imported) → AllPorts is → AllPorts js → AllPorts (is ++ js)
+ports_both [] js one other = other
+ports_both (i ∷ is) js one other = (one.0, ports_both is js one.1 other)

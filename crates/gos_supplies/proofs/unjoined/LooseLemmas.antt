@@ -15,5 +15,5 @@ pub loose_is_done : LooseIsDone
 loose_is_done f r c m is names knows done = whole_done (settling f r c is) r c (settled_placed f r c is) m names knows done
 
 pub loose_is_realised : LooseIsRealised
-loose_is_realised f r c t m is literals ground names realised =
-    whole_realises t (settling f r c is) r c m (settled_placed f r c is) literals ground names realised
+loose_is_realised f r c t m is literals ports names realised =
+    whole_realises t (settling f r c is) r c m (settled_placed f r c is) literals ports names realised

@@ -1,9 +1,9 @@
--- An array that is imported, read at an index: a plan that leaves the index unjoined doesn't realise it.
+-- An array that is imported, read or written at an index: a plan that leaves the index unjoined doesn't realise it.
 --
--- Read first: Matched of gos_realises; ArrayPorts of gos_model. Inputs keep turns where the array asks for its index within the read.
+-- Read first: Matched of gos_realises; ArrayPorts of gos_model. Inputs keep turns where the array asks for its index within the access.
 use Rattle.std.specs.Prelude.{[], ◌∷◌}
-use Rattle.gos_types.specs.Types.{Exp, Var, Fun}
-use Rattle.gos_model.specs.Terms.{Term, Import, App, Deref}
+use Rattle.gos_types.specs.Types.{Com, Exp, Var, Fun}
+use Rattle.gos_model.specs.Terms.{Term, Import, App, Assign, Deref}
 use Rattle.gos_model.specs.Terms as terms
 use Rattle.gos_model.specs.ArrayPorts.{a}
 use Rattle.gos_plan.specs.Kinds as kinds
@@ -28,3 +28,20 @@ index_left =
 
 abbrev pub IndexIsTold : Type 0
 IndexIsTold = RealisesInTurn index_left read_first → ⊥
+
+-- `a 0:1 := 5:8`, and its plan but for the same joint
+abbrev pub write_first : Term
+write_first = Assign (App (Import a) (terms.Lit 0 1)) (terms.Lit 5 8)
+
+abbrev pub write_index_left : Plan
+write_index_left =
+    record {
+      weight = 0;
+      imports = record { name = a; ty = Fun (Exp 1) (Var 8) } ∷ [];
+      outcome = Com;
+      parts = kinds.Assign 8 ∷ kinds.Lit 8 5 ∷ kinds.Lit 1 0 ∷ [];
+      joints = joint (ResultEnd 0) (PartEnd 0 2) ∷ joint (PartEnd 0 0) (PartEnd 1 0) ∷ joint (PartEnd 0 1) (ImportEnd 0 2) ∷ [];
+    }
+
+abbrev pub WrittenIndexIsTold : Type 0
+WrittenIndexIsTold = RealisesInTurn write_index_left write_first → ⊥

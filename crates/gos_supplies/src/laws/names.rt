@@ -1,8 +1,8 @@
 // What the plan of a name realises. Each theorem is the contract of a function that does nothing.
 ghost use Rattle.gos_supplies.specs.names.Names.{NameIsRealised};
 ghost use Rattle.gos_supplies.specs.names.SmallNames.{UnjoinedIsNone};
-ghost use Rattle.gos_supplies.specs.names.Arrays.{ReadIsRealised};
-ghost use Rattle.gos_supplies.specs.names.SmallArrays.{IndexIsTold};
+ghost use Rattle.gos_supplies.specs.names.Arrays.{ReadIsRealised, ReadIsRealisedByType, WriteIsRealised, WriteIsRealisedByType};
+ghost use Rattle.gos_supplies.specs.names.SmallArrays.{IndexIsTold, WrittenIndexIsTold};
 
 use super::progress::realisers;
 use gos_plan::one_joining;
@@ -23,12 +23,17 @@ pub fn small_names()
     realisers();
 }
 
-/// The plan that reads an array's import at a number is regular, and realises the read.
+/// The plan that reads an array's import at a number is regular, and realises the read; so is that which writes a number there, and
+/// realises the write. They do so by type, where the numbers fit their widths.
 pub fn arrays()
-    ensures { ReadIsRealised }
+    ensures read { ReadIsRealised }
+    ensures read_by_type { ReadIsRealisedByType }
+    ensures write { WriteIsRealised }
+    ensures write_by_type { WriteIsRealisedByType }
 {}
 
-/// A plan that leaves an array's index unjoined doesn't realise an access of it.
+/// A plan that leaves an array's index unjoined doesn't realise an access of it: neither a read nor a write.
 pub fn small_arrays()
-    ensures { IndexIsTold }
+    ensures read { IndexIsTold }
+    ensures write { WrittenIndexIsTold }
 {}

@@ -25,10 +25,11 @@ use Rattle.gos_terms.specs.stages.Stages.{stage_of}
 use Rattle.gos_terms.proofs.stages.InsideLemmas.{realised_are_ordered}
 use Rattle.gos_terms.proofs.stages.LoyalLemmas.{servings_are_loyal}
 use Rattle.gos_terms.proofs.stages.StageLemmas.{child_is_stage}
+use Rattle.gos_terms.proofs.stages.ChildImportLemmas.{child_is_heard}
 use Rattle.gos_terms.specs.meanings.Meanings.{HasLeaves}
 use Rattle.gos_terms.specs.ground_forms.Cases.{RealisesWired}
 use Rattle.gos_terms.proofs.ground_forms.ChildLemmas.{wired_child_realises, child_realises}
-use Rattle.gos_terms.proofs.ground_forms.WiredLemmas.{imports_are_ground}
+use Rattle.gos_terms.proofs.ground_forms.WiredLemmas.{imports_are_ports}
 use Rattle.gos_terms.specs.numbers.Kept.{IsKept}
 use Rattle.gos_terms.specs.numbers.Inherited.{first_numbers, own_numbers}
 use Rattle.gos_terms.proofs.control_forms.TypeLemmas.{known, inside_types, type_is, supplies_have}
@@ -114,7 +115,7 @@ module _ (insides : InsideIsRealised) (types : Types) (ns : List ℕ) (ss : List
               own = (node.own_at types ns ss w m n kept var num i j env pl r wired of_types ordered plc c of pln e staged).0;
               outcome = wired.outcome;
               literals = fit;
-              ground = imports_are_ground types i j (Two Com ss OfAssign m n) ns env pl r wired supplies;
+              open_imports = imports_are_ports types i j (Two Com ss OfAssign m n) ns env pl r wired supplies;
               names = differ;
               asked = refl;
               written = refl;
@@ -122,6 +123,10 @@ module _ (insides : InsideIsRealised) (types : Types) (ns : List ℕ) (ss : List
               own_literals = realises.suits.literals;
               laid_number = number_laid;
               laid_variable = node.variable_laid types ns ss w m n kept var num i j env pl r wired of_types ordered plc c of;
+              number_heard =
+                  child_is_heard f own ts pl pln r e (node.f_is types ns ss w m n kept var num i j env pl r wired of_types ordered) (node.parts types ns ss w m n kept var num i j env pl r wired of_types ordered) (node.laid types ns ss w m n kept var num i j env pl r wired of_types ordered) staged
+                  (node.web types ns ss w m n kept var num i j env pl r wired of_types ordered) answers.suits.names;
+              variable_heard = node.variable_is_heard types ns ss w m n kept var num i j env pl r wired of_types ordered plc c of pln e staged differ;
               result = node.result types ns ss w m n kept var num i j env pl r wired of_types ordered plc c of pln e staged;
               joints = node.joints types ns ss w m n kept var num i j env pl r wired of_types ordered plc c of pln e staged;
             }

@@ -10,12 +10,14 @@ use Rattle.gos_plan.specs.Kinds.{Part, Share, Assign, contacts_of}
 use Rattle.gos_plan.specs.Plans.{End, PartEnd, ImportEnd, ResultEnd, Joint, Plan, contacts_of_part, stands_in, turned_if}
 use Rattle.gos_plan.proofs.JointLemmas.{fits, one_joint, contained}
 use Rattle.gos_plan.proofs.ContactLemmas.{import_is_there}
+use Rattle.gos_realises.specs.realises.Realises.{NamesDiffer}
 use Rattle.gos_realises.proofs.realises.PlaceLemmas.{contains_at, place_of}
 use Rattle.gos_joining.specs.webs.Webs.{Dot, Of, Within, Tie, Web, Way, IsOfWeb, joint}
 use Rattle.gos_joining.specs.webs.Cutting.{lies_at, StandsIn}
 use Rattle.gos_joining.proofs.webs.WebLemmas.{asks_there}
 use Rattle.gos_nodes.specs.windows.Regions.{Serving, IsLoyal, IsRegion}
 use Rattle.gos_nodes.specs.windows.Nodes.{Stage, IsOfStage}
+use Rattle.gos_nodes.specs.windows.OpenNodes.{IsHeard}
 use Rattle.gos_nodes.specs.folds.Folds.{IsFold, joined_cut}
 use Rattle.gos_nodes.proofs.folds.RegionLemmas.{folded_joint}
 use Rattle.gos_compile.specs.Wiring.{Types, parts_of}
@@ -35,6 +37,7 @@ use Rattle.gos_terms.proofs.stages.ChildBackLemmas.{used_in}
 use Rattle.gos_terms.proofs.stages.ChildFoldLemmas.{import_of, child_is_folded}
 use Rattle.gos_terms.proofs.stages.ChildStageLemmas.{child_is_staged}
 use Rattle.gos_terms.proofs.stages.StageLemmas.{has_child_of, laid_of, web_of}
+use Rattle.gos_terms.proofs.stages.ChildNameLemmas.{names_below, ends_stand}
 use Rattle.gos_terms.specs.numbers.Kept.{IsKept}
 use Rattle.gos_terms.specs.numbers.Inherited.{first_numbers, own_numbers, IsPart}
 use Rattle.gos_nodes.specs.assignments.Written.{unread}
@@ -194,6 +197,30 @@ module _ (types : Types) (ns : List ℕ) (ss : List Split) (w : ℕ) (m n : Numb
       pub variable_fold : IsFold (fold g own ts w pl plc r c g_is refl var target of.outcome wired.outcome laid laidc) (child_servings g pl) whole
           (unread_web (child_web g plc)) r (unread c)
       variable_fold = target_is_fold g own ts w pl plc r c g_is refl var target of.outcome wired.outcome laid laidc web
+
+      -- it is asked where an import of it asks, where the names of the whole's imports differ
+      pub variable_is_heard : NamesDiffer r.imports → IsHeard (target_stage g pl plc r c).cut r (unread c)
+      variable_is_heard differ a h s k x stands at contact asks = (ap (λ (y : ℕ). ImportEnd y s) import_is, back)
+        where
+          import_is : pl.import ((lodge g).root (plc.origin a).number) (plc.origin a).import ≡ k
+          import_is = cc at
+
+          folds : (t : Joint) (y : Dot) → Contains r.joints t
+              → (child_back g (dot_at i pl t.asking) ≡ Some y) ⊎ (child_back g (dot_at i pl t.serving) ≡ Some y)
+              → (b l : End) × Contains (unread c).joints (joint b l)
+              × (lies_at (target_cut g pl plc (length r.parts)) b ≡ t.asking) × (lies_at (target_cut g pl plc (length r.parts)) l ≡ t.serving)
+          folds t y listed which =
+              folded_joint
+              (fold g own ts w pl plc r c g_is refl var target of.outcome wired.outcome laid laidc)
+              (child_servings g pl) whole (unread_web (child_web g plc)) r (unread c) t.asking t.serving y
+              variable_fold
+              (target_web g own ts w pl plc r c g_is refl var target of.outcome wired.outcome laid laidc
+              webc) listed which
+
+          back : StandsIn r (ImportEnd k s) → StandsIn (unread c) (ImportEnd a s)
+          back =
+              ends_stand g own ts pl plc r c g_is laid of (unread c) region.right refl
+              (target_cut g pl plc (length r.parts)) (names_below g own ts pl plc r c g_is laid of differ) (λ b q. refl) (λ b q z o lies. cc lies) (λ q z o lies. cc lies) folds a h k s stands import_is
 
       pub number_joint : (a b : End) (y : Dot) → Contains r.joints (joint a b) → child_back f (dot_at i pl a) ≡ Some y → IsOfStage Stages a b
       number_joint a b y has at =

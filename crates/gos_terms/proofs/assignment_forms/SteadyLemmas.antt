@@ -1,42 +1,37 @@
 -- A wired assignment is regular and rests, where its two sides are and do.
-use Rattle.std.specs.Prelude.{◌≡◌, ℕ, suc, ◌+◌, ◌⊎◌, List, Some, Contains, All, length}
-use Rattle.std.proofs.Common.{refl, sym, ◌∙◌, ap, subst}
+use Rattle.std.specs.Prelude.{◌≡◌, ℕ, suc, ◌+◌, List, All, length}
+use Rattle.std.proofs.Common.{refl, sym, ◌∙◌, subst}
 use Rattle.gos_types.specs.Types.{Com, Exp, Var, IsDone}
 use Rattle.gos_check.specs.declared.linear.Split.{Split}
 use Rattle.gos_check.specs.Nodes.{Numbered, Two, OfAssign, type_of_node}
 use Rattle.gos_check.specs.Linearity.{used}
 use Rattle.gos_plan.specs.Kinds.{Part}
-use Rattle.gos_plan.specs.Plans.{End, ImportEnd, Joint, Plan}
+use Rattle.gos_plan.specs.Plans.{Plan}
 use Rattle.gos_plan.specs.TokenBits.{LiteralFits}
 use Rattle.gos_realises.specs.realises.Regular.{IsRegular}
 use Rattle.gos_realises.specs.realises.Realises.{NamesDiffer}
 use Rattle.gos_realises.proofs.realises.LiteralLemmas.{literals_among}
-use Rattle.gos_joining.specs.webs.Webs.{Dot, Tie, Web, joint}
-use Rattle.gos_joining.specs.webs.Cutting.{StandsIn, lies_at}
+use Rattle.gos_joining.specs.webs.Webs.{Tie, Web}
 use Rattle.gos_supplies.specs.turns.Rests.{Rests}
-use Rattle.gos_nodes.specs.windows.OpenNodes.{IsHeard, IsOpenStage}
-use Rattle.gos_nodes.proofs.folds.RegionLemmas.{folded_joint}
+use Rattle.gos_nodes.specs.windows.OpenNodes.{IsOpenStage}
 use Rattle.gos_compile.specs.Wiring.{Types, parts_of}
 use Rattle.gos_terms.specs.wired.Wired.{Supplies, Placing, IsWired, dot_at}
 use Rattle.gos_terms.specs.wired.NodeFitting.{AreOfTypes}
 use Rattle.gos_terms.specs.wired.Regular.{AreRegular, RegularWired}
 use Rattle.gos_terms.specs.stages.Inside.{inside_supplies, AreOrdered}
 use Rattle.gos_terms.specs.stages.InsideRegular.{InsideIsRegular}
-use Rattle.gos_terms.specs.stages.Folding.{Child, lodge, child_web, child_back, child_cut, child_servings, IsChild, IsLaid}
+use Rattle.gos_terms.specs.stages.Folding.{Child, child_cut, IsChild, IsLaid}
 use Rattle.gos_terms.specs.stages.Regions.{IsStaged}
 use Rattle.gos_terms.specs.stages.Stages.{stage_of}
-use Rattle.gos_terms.proofs.stages.ChildNameLemmas.{names_below, ends_stand}
+use Rattle.gos_terms.proofs.stages.ChildNameLemmas.{names_below}
 use Rattle.gos_terms.proofs.stages.ChildImportLemmas.{child_is_steady}
 use Rattle.gos_terms.specs.numbers.Kept.{IsKept}
 use Rattle.gos_terms.specs.numbers.Inherited.{first_numbers, own_numbers}
-use Rattle.gos_nodes.specs.assignments.Written.{unread}
 use Rattle.gos_nodes.specs.assignments.Assignments as assignments
 use Rattle.gos_terms.specs.regular_and_resting.Assignments.{AssignmentIsSteady}
 use Rattle.gos_terms.proofs.regular_and_resting.ChildLemmas.{child_is_open_stage}
-use Rattle.gos_terms.specs.assignment_forms.inner.Targets.{target_cut, target_stage}
+use Rattle.gos_terms.specs.assignment_forms.inner.Targets.{target_stage}
 use Rattle.gos_terms.specs.assignment_forms.Cases.{AnyAssignIsSteady}
-use Rattle.gos_terms.proofs.assignment_forms.UnreadLemmas.{unread_web}
-use Rattle.gos_terms.proofs.assignment_forms.FoldLemmas.{fold, target_web}
 use Rattle.gos_terms.proofs.assignment_forms.WebLemmas.{variable_child, number_child, open_ties}
 use Rattle.gos_terms.proofs.assignment_forms.NodeLemmas as node
 
@@ -93,29 +88,6 @@ module _ (types : Types) (ns : List ℕ) (ss : List Split) (w : ℕ) (m n : Numb
 
     -- with the number's plan too
     module _ (pln : Placing) (e : Plan) (staged : IsStaged f pl pln r e) where
-      variable_is_heard : IsHeard (target_stage g pl plc r c).cut r (unread c)
-      variable_is_heard a h s k x stands at contact asks = (ap (λ (y : ℕ). ImportEnd y s) import_is, back)
-        where
-          import_is : pl.import ((lodge g).root (plc.origin a).number) (plc.origin a).import ≡ k
-          import_is = cc at
-
-          folds : (t : Joint) (y : Dot) → Contains r.joints t
-              → (child_back g (dot_at i pl t.asking) ≡ Some y) ⊎ (child_back g (dot_at i pl t.serving) ≡ Some y)
-              → (b l : End) × Contains (unread c).joints (joint b l)
-              × (lies_at (target_cut g pl plc (length r.parts)) b ≡ t.asking) × (lies_at (target_cut g pl plc (length r.parts)) l ≡ t.serving)
-          folds t y listed which =
-              folded_joint
-              (fold g own ts w pl plc r c g_is refl var (node.target types ns ss w m n kept var num i j env pl r wired of_types ordered) of.outcome wired.outcome laid (node.laidc types ns ss w m n kept var num i j env pl r wired of_types ordered plc c of))
-              (child_servings g pl) whole (unread_web (child_web g plc)) r (unread c) t.asking t.serving y
-              (node.variable_fold types ns ss w m n kept var num i j env pl r wired of_types ordered plc c of pln e staged)
-              (target_web g own ts w pl plc r c g_is refl var (node.target types ns ss w m n kept var num i j env pl r wired of_types ordered) of.outcome wired.outcome laid (node.laidc types ns ss w m n kept var num i j env pl r wired of_types ordered plc c of)
-              (node.webc types ns ss w m n kept var num i j env pl r wired of_types ordered plc c of)) listed which
-
-          back : StandsIn r (ImportEnd k s) → StandsIn (unread c) (ImportEnd a s)
-          back =
-              ends_stand g own ts pl plc r c g_is laid of (unread c) (node.region types ns ss w m n kept var num i j env pl r wired of_types ordered plc c of).right refl
-              (target_cut g pl plc (length r.parts)) below (λ b q. refl) (λ b q z o lies. cc lies) (λ q z o lies. cc lies) folds a h k s stands import_is
-
       module _ (steady_n : RegularWired types (own_numbers ss ns n) n) where
         is_number : e.outcome ≡ Exp w
         is_number = staged.wired.outcome ∙ num
@@ -155,7 +127,7 @@ module _ (types : Types) (ns : List ℕ) (ss : List Split) (w : ℕ) (m n : Numb
               number_names = open_stage.stage.names;
               variable_names = below;
               number_heard = open_stage.heard;
-              variable_heard = variable_is_heard;
+              variable_heard = node.variable_is_heard types ns ss w m n kept var num i j env pl r wired of_types ordered plc c of pln e staged differ;
               result = node.result types ns ss w m n kept var num i j env pl r wired of_types ordered plc c of pln e staged;
               joints = node.joints types ns ss w m n kept var num i j env pl r wired of_types ordered plc c of pln e staged;
             }

@@ -13,7 +13,7 @@ use Rattle.gos_realises.specs.realises.Realises.{NamesDiffer, Realises}
 use Rattle.gos_joining.specs.webs.Webs.{Tie}
 use Rattle.gos_joining.proofs.unions.UnionLemmas.{in_image}
 use Rattle.gos_nodes.specs.sessions.Sessions.{Form, Session, own_part, own_term, own_type, session_of}
-use Rattle.gos_nodes.specs.windows.Nodes.{IsNode}
+use Rattle.gos_nodes.specs.windows.OpenNodes.{IsOpenNode}
 use Rattle.gos_nodes.specs.nodes.Realised.{AreRealised}
 use Rattle.gos_nodes.proofs.nodes.SuitLemmas.{node_realises_by_type}
 use Rattle.gos_compile.specs.Wiring.{Types, parts_of}
@@ -26,7 +26,7 @@ use Rattle.gos_terms.specs.stages.Nodes.{Cared, stage, IsCared, IsFormed}
 use Rattle.gos_terms.proofs.stages.NodeLemmas.{stages_make_node}
 use Rattle.gos_terms.specs.meanings.Meanings.{HasLeaves}
 use Rattle.gos_terms.specs.ground_forms.Cases.{RealisesWired}
-use Rattle.gos_terms.proofs.ground_forms.WiredLemmas.{imports_are_ground}
+use Rattle.gos_terms.proofs.ground_forms.WiredLemmas.{imports_are_ports}
 use Rattle.gos_terms.specs.run_children.Forks.{Branch, IsFork, AreBranches, branch_child, BranchIsChild, BranchHasParts}
 use Rattle.gos_terms.specs.branches.Covers.{BranchesCover}
 use Rattle.gos_terms.proofs.branches.CaredLemmas as children
@@ -110,12 +110,11 @@ module _ (insides : InsideIsRealised) (child : BranchIsChild) (parts : BranchHas
         outcome = own.outcome f types i j m ss bs ns env pl r fork same w;
         done = own.done f types i j m ss bs ns env pl r fork same w;
         literals = fit;
-        ground = imports_are_ground types i j m ns env pl r w supplies;
         names = differ;
         result = own.run_joint f types i j m ss bs ns env pl r fork same w;
       }
 
-  node : IsNode r own_number f (map (stage pl r) es)
+  node : IsOpenNode r own_number f (map (stage pl r) es)
   node =
       stages_make_node f (parts_of types m) its_ties i pl r own_number es w.web formed each_cared
       (cover f types i j m ss bs ns env pl r es fork branches (realised_are_of_types types env ns supplies) some w
@@ -135,7 +134,7 @@ module _ (insides : InsideIsRealised) (child : BranchIsChild) (parts : BranchHas
       )
 
   pub fork_is_realised : Realises (own_type f) r (own_term f)
-  fork_is_realised = node_realises_by_type r own_number f (map (stage pl r) es) node realised
+  fork_is_realised = node_realises_by_type r own_number f (map (stage pl r) es) node (imports_are_ports types i j m ns env pl r w supplies) realised
 
 pub fork_realises : InsideIsRealised → BranchIsChild → BranchHasParts → BranchesCover → ForkRealises
 fork_realises insides child parts cover f types i j m ss bs ns env pl r fork branches some same w supplies differ fit sessions leaves real =

@@ -26,7 +26,7 @@ use Rattle.gos_compile.specs.Wiring.{Types}
 use Rattle.gos_terms.specs.wired.Wired.{Supplies, Placing, IsWired, AreRealised, terms_of}
 use Rattle.gos_terms.specs.numbers.Kept.{IsKept}
 use Rattle.gos_terms.specs.numbers.Inherited.{BodyIsKept}
-use Rattle.gos_terms.proofs.ground_forms.WiredLemmas.{imports_are_ground}
+use Rattle.gos_terms.proofs.ground_forms.WiredLemmas.{imports_are_ports}
 use Rattle.gos_terms.proofs.ground_forms.InstantiatedLemmas.{body_instantiated}
 use Rattle.gos_terms.specs.ground_forms.Cases.{RealisesWired}
 use Rattle.gos_terms.specs.function_forms.Bodies.{with_supply, AppliedIsBody}
@@ -163,7 +163,7 @@ plain_case laws types ns n m kept regular rm i j env pl r w supplies differ fit 
             right = w.web.right;
             literals = fit;
             outcome = w.outcome;
-            all_ground = imports_are_ground types i j (Under (Fun (types n) (type_of_node m)) [] OfFun n m) ns env pl r w supplies;
+            all_ports = imports_are_ports types i j (Under (Fun (types n) (type_of_node m)) [] OfFun n m) ns env pl r w supplies;
             names = differ;
             typed = (b, same, typed);
             regular = regular i j env pl r w supplies differ fit;

@@ -22,6 +22,7 @@ use Rattle.gos_joining.proofs.renumbered.ImportLemmas.{type_has}
 use Rattle.gos_supplies.proofs.typing.WhenceLemmas.{named}
 use Rattle.gos_supplies.proofs.typing.NameLemmas.{typed_under_fewer}
 use Rattle.gos_supplies.specs.names.Names.{name_plan, imported, NameIsRealised}
+use Rattle.gos_nodes.specs.windows.OpenNodes.{IsHeard}
 use Rattle.gos_nodes.specs.blocks.Block.{BlockRealises}
 use Rattle.gos_compile.specs.Wiring.{Types}
 use Rattle.gos_terms.specs.wired.Wired.{Supplies, Placing, IsWired, AreRealised, terms_of}
@@ -34,7 +35,8 @@ use Rattle.gos_terms.specs.numbers.Kept.{InScope}
 use Rattle.gos_terms.specs.ground_forms.Cases.{RealisesWired, BlockCase}
 use Rattle.gos_terms.proofs.ground_forms.WhoseLemmas.{below_whose, whose}
 use Rattle.gos_terms.proofs.regions.CutLemmas.{literals_within}
-use Rattle.gos_terms.proofs.ground_forms.WiredLemmas.{imports_are_ground}
+use Rattle.gos_terms.proofs.regions.HeardLemmas.{body_heard}
+use Rattle.gos_terms.proofs.ground_forms.WiredLemmas.{imports_are_ports}
 use Rattle.gos_terms.proofs.ground_forms.InstantiatedLemmas.{body_instantiated}
 use Rattle.gos_terms.proofs.ground_forms.PutLemmas.{IsWithout, name_apart, put_typed}
 
@@ -171,14 +173,19 @@ block_case wiring law names means types ns t w n m done type_m type_n bound leav
     with_fresh : (x : Name) → ((y : Imported) → Contains r.imports y → y.name ≢ x) → Realises t r (New w (meaning (below n (terms_of env)) m))
     with_fresh x fresh = finish (wiring types i j w n t m ns env pl x r wired done type_m type_n bound fresh)
       where
+        heard : (h : HasBody types i j n m ns env (pl.own 0) w x r) → IsHeard h.block.cut r h.block.body
+        heard h =
+            body_heard r h.block h.is_block
+            (named.body_differ types ns w n m env x t i j (i + 1) (suc j) pl h.placing r h.block.body wired h.wired differ fresh) h.imports
+
         finish : HasBody types i j n m ns env (pl.own 0) w x r → Realises t r (New w (meaning (below n (terms_of env)) m))
         finish h =
             let realised =
             body_realises types ns w n m type_n bound env supplies x t i j (i + 1) (suc j) pl h.placing r h.block.body wired h.wired differ fresh leaves scope
             names means rm type_m wide (literals_within h.block.cut r h.block.body h.is_block.cut fit) typed in
             subst (λ (u : Type'). Realises u r (New w (meaning (below n (terms_of env)) m))) wired.outcome
-            (law r h.block w (meaning (below n (terms_of env)) m) h.is_block h.server fit
-            (imports_are_ground types i j (Under t [] (OfNew w) n m) ns env pl r wired supplies) differ
+            (law r h.block w (meaning (below n (terms_of env)) m) h.is_block (heard h) h.server fit
+            (imports_are_ports types i j (Under t [] (OfNew w) n m) ns env pl r wired supplies) differ
             (subst (λ (u : Type'). Typed r.imports [] (New w (meaning (below n (terms_of env)) m)) u) (sym wired.outcome) (is_done, wide, typed))
             (subst (λ (y : Imported). Realises r.outcome h.block.body (instantiate (meaning (below n (terms_of env)) m) (Import y.name))) (sym h.name)
             (subst (λ (u : Type'). Realises u h.block.body (instantiate (meaning (below n (terms_of env)) m) (Import x))) (sym wired.outcome) realised)))

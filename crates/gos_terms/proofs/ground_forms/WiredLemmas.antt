@@ -3,13 +3,13 @@ use Rattle.std.specs.Prelude.{◌≡◌, ℕ, suc, true, List, [], ◌∷◌, So
 use Rattle.std.specs.Str.{bytes_eq}
 use Rattle.std.proofs.lemmas.Slice.Eq.{bytes_eq-Decides}
 use Rattle.std.proofs.Common.{refl, sym, ◌∙◌, arith}
-use Rattle.gos_types.specs.Types.{Type', IsGround}
+use Rattle.gos_types.specs.Types.{Type', IsPort}
 use Rattle.gos_model.specs.Terms.{Name}
 use Rattle.gos_model.specs.Typing.{Imported, Imports, import_type, Named, things, Typed}
 use Rattle.gos_check.specs.Nodes.{Numbered, meaning}
 use Rattle.gos_plan.specs.Plans.{Plan}
-use Rattle.gos_realises.proofs.realises.InputLemmas.{one_ground}
-use Rattle.gos_realises.specs.realises.Realises.{AllGround, NamesDiffer, Realises}
+use Rattle.gos_realises.proofs.realises.PortLemmas.{port_at}
+use Rattle.gos_realises.specs.realises.Realises.{AllPorts, NamesDiffer, Realises}
 use Rattle.gos_realises.proofs.realises.PlaceLemmas.{contains_at, place_of}
 use Rattle.gos_joining.proofs.renumbered.ImportLemmas.{type_has}
 use Rattle.gos_compile.specs.Wiring.{Types}
@@ -21,20 +21,20 @@ use Rattle.gos_terms.specs.meanings.Meanings.{HasLeaves}
 use Rattle.gos_terms.specs.numbers.Kept.{InScope}
 use Rattle.gos_terms.proofs.ground_forms.WhoseLemmas.{whose}
 
--- imports that are each ground
-all_ground : (is : Imports) → ((k : ℕ) (x : Imported) → slice_get is k ≡ Some x → IsGround x.ty) → AllGround is
-all_ground [] each = tt
-all_ground (i ∷ is) each = (each 0 i refl, all_ground is (λ k x at. each (suc k) x at))
+-- imports that are each a port
+each_port : (is : Imports) → ((k : ℕ) (x : Imported) → slice_get is k ≡ Some x → IsPort x.ty) → AllPorts is
+each_port [] each = tt
+each_port (i ∷ is) each = (each 0 i refl, each_port is (λ k x at. each (suc k) x at))
 
 module _ (types : Types) (i j : ℕ) (m : Numbered) (ns : List ℕ) (env : Supplies) (pl : Placing) (r : Plan) (w : IsWired types i j m ns env pl r) where
   -- the imports of its plan are those of its supplies
-  pub imports_are_ground : AreRealised types env ns → AllGround r.imports
-  imports_are_ground realised = all_ground r.imports each
+  pub imports_are_ports : AreRealised types env ns → AllPorts r.imports
+  imports_are_ports realised = each_port r.imports each
     where
-      each : (k : ℕ) (x : Imported) → slice_get r.imports k ≡ Some x → IsGround x.ty
+      each : (k : ℕ) (x : Imported) → slice_get r.imports k ≡ Some x → IsPort x.ty
       each k x at =
           let (has, there, back) = w.no_import k x at in
-          one_ground (env (pl.origin k).number).plan.imports (realised (pl.origin k).number has).suits.all_ground (pl.origin k).import x there
+          port_at (env (pl.origin k).number).plan.imports (realised (pl.origin k).number has).suits.all_ports (pl.origin k).import x there
 
   module _
       (a b : ℕ) (n : Numbered) (ms : List ℕ) (pc : Placing) (c : Plan) (v : IsWired types a b n ms env pc c)

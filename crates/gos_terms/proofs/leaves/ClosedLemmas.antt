@@ -13,7 +13,7 @@ use Rattle.gos_ties.specs.declared.points.Place.TheVariants as places
 use Rattle.gos_ties.specs.declared.points.Tie as point_ties
 use Rattle.gos_realises.specs.realises.Regular.{count}
 use Rattle.gos_realises.specs.realises.Wirings.{lone}
-use Rattle.gos_realises.specs.realises.Realises.{AllGround, NamesDiffer, Realises}
+use Rattle.gos_realises.specs.realises.Realises.{AllPorts, NamesDiffer, Realises}
 use Rattle.gos_joining.specs.webs.Webs.{Dot, Of, Number, Node, Within, Tie, Way, here, own_web}
 use Rattle.gos_joining.proofs.webs.WebLemmas.{right_is_of_its_web}
 use Rattle.gos_joining.proofs.webs.WayLemmas.{one_way}
@@ -151,7 +151,7 @@ module _ (types : Types) (i j : ℕ) (t : Type') (m : Term) (ns : List ℕ) (env
           result_out = λ h k at. here (Within 0 (Of (ResultEnd h)));
         }
 
-    pub closed_realised : (pl : Placing) (r : Plan) → IsWired types i j (Closed t [] m) ns env pl r → All LiteralFits r.parts → AllGround r.imports
+    pub closed_realised : (pl : Placing) (r : Plan) → IsWired types i j (Closed t [] m) ns env pl r → All LiteralFits r.parts → AllPorts r.imports
         → NamesDiffer r.imports → Realises t (lone kind 0 t) m → Realises t r m
     closed_realised pl r is literals ground names realised =
         leaf_realises types i j (Closed t [] m) ns env (lone kind 0 t) (own_web (lone kind 0 t)) closed_leaf pl r is t m literals ground names realised

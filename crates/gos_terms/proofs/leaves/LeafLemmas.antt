@@ -10,7 +10,7 @@ use Rattle.gos_plan.specs.Plans.{End, PartEnd, ImportEnd, ResultEnd, Plan, conta
 use Rattle.gos_plan.specs.TokenBits.{LiteralFits}
 use Rattle.gos_realises.specs.realises.Regular.{IsRegular}
 use Rattle.gos_supplies.specs.turns.Rests.{Rests}
-use Rattle.gos_realises.specs.realises.Realises.{AllGround, NamesDiffer, Realises}
+use Rattle.gos_realises.specs.realises.Realises.{AllPorts, NamesDiffer, Realises}
 use Rattle.gos_joining.specs.webs.Webs.{Dot, Of, Within, Tie, tie, Web, Way, joint, IsOfWeb}
 use Rattle.gos_joining.proofs.webs.WayLemmas.{way_then, way_back, mapped_way}
 use Rattle.gos_compile.specs.Wiring.{Types, parts_of}
@@ -220,7 +220,7 @@ module _ (types : Types) (i j : ℕ) (m : Numbered) (ns : List ℕ) (env : Suppl
     leaf_beside = web_is_beside leaf.home placing (wired_web types i j m ns env pl) v r c is.web leaf.of_web lies leaf_home
 
     -- what the smaller plan realises the whole does
-    pub leaf_realises : (t : Type') (term : Term) → All LiteralFits r.parts → AllGround r.imports → NamesDiffer r.imports → Realises t c term
+    pub leaf_realises : (t : Type') (term : Term) → All LiteralFits r.parts → AllPorts r.imports → NamesDiffer r.imports → Realises t c term
         → Realises t r term
     leaf_realises t term literals ground names realised = loose_is_realised placing r c t term leaf_beside literals ground names realised
 

@@ -30,7 +30,7 @@ use Rattle.gos_terms.proofs.numbers.ListLemmas.{times_inside}
 use Rattle.gos_terms.proofs.numbers.InheritedLemmas.{both_are_kept}
 use Rattle.gos_terms.specs.ground_forms.Cases.{RealisesWired}
 use Rattle.gos_terms.proofs.ground_forms.ChildLemmas.{child_realises}
-use Rattle.gos_terms.proofs.ground_forms.WiredLemmas.{imports_are_ground}
+use Rattle.gos_terms.proofs.ground_forms.WiredLemmas.{imports_are_ports}
 use Rattle.gos_nodes.specs.products.Both.{Side, IsBoth, BothIsRegular}
 use Rattle.gos_nodes.specs.products.Realised.{SidesRealiseBoth}
 use Rattle.gos_terms.specs.run_children.Forks.{Branch}
@@ -140,7 +140,7 @@ module _ (types : Types) (ns : List ℕ) (ss : List Split) (m n : Numbered) (kep
         pair_realises : SidesRealiseBoth → IsRegular r → Realises (type_of_node node) r (meaning (terms_of env) node)
         pair_realises law regular =
             law (type_of_node m) (type_of_node n) r (side_at true) (side_at false) (meaning (inside ss (terms_of env)) m) (meaning (inside ss (terms_of env)) n)
-            (sides_so sides_regular (realised_are_ordered types env ns realised)) regular fit (imports_are_ground types i j node ns env pl r wired realised)
+            (sides_so sides_regular (realised_are_ordered types env ns realised)) regular fit (imports_are_ports types i j node ns env pl r wired realised)
             one_term other_term
 
 steady_so : (types : Types) (ns : List ℕ) (ss : List Split) (m n : Numbered) → IsKept types ns (Two (Pair (type_of_node m) (type_of_node n)) ss OfBoth m n)

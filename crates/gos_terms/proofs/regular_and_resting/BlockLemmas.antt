@@ -31,7 +31,7 @@ use Rattle.gos_terms.proofs.regions.FreshLemmas.{fresh_name, is_fresh}
 use Rattle.gos_terms.proofs.regions.NamedLemmas.{before, inner_here, inner_there, body_differ}
 use Rattle.gos_terms.specs.regular_and_resting.Cases.{BlockIsSteady}
 use Rattle.gos_terms.proofs.regular_and_resting.RestLemmas.{rests_after_answers, rests_where_restful}
-use Rattle.gos_terms.proofs.regular_and_resting.HeardLemmas.{body_heard}
+use Rattle.gos_terms.proofs.regions.HeardLemmas.{body_heard}
 use Rattle.gos_terms.proofs.regions.CutLemmas.{literals_within}
 
 -- the plan of a variable's name

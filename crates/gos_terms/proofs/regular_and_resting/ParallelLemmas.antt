@@ -1,15 +1,14 @@
 -- Both sides of `||`.
 use Rattle.std.specs.Prelude.{suc, ◌+◌, length}
-use Rattle.std.proofs.Common.{◌≡◌, [], ◌⊎◌, inl, inr, sym, subst}
+use Rattle.std.proofs.Common.{[], sym, subst}
 use Rattle.gos_types.specs.Types.{Com, IsDone}
 use Rattle.gos_check.specs.Nodes.{Two, OfPar}
-use Rattle.gos_plan.specs.Plans.{End, PartEnd, ResultEnd, Plan}
 use Rattle.gos_realises.specs.realises.Regular.{IsRegular}
-use Rattle.gos_realises.specs.realises.Realises.{NamesDiffer, HaveOtherNames}
+use Rattle.gos_realises.specs.realises.Realises.{NamesDiffer}
 use Rattle.gos_nodes.specs.windows.Nodes.{IsRestful}
 use Rattle.gos_nodes.specs.windows.OpenNodes.{IsHeard}
 use Rattle.gos_supplies.specs.turns.Rests.{Rests}
-use Rattle.gos_nodes.specs.parallel.Parallel.{IsJointOf, IsParallel}
+use Rattle.gos_nodes.specs.parallel.Parallel.{IsParallel}
 use Rattle.gos_nodes.proofs.parallel.RegularLemmas.{open_parallel_is_regular, open_parallel_is_restful}
 use Rattle.gos_compile.specs.Wiring.{parts_of, nodes}
 use Rattle.gos_terms.specs.regions.Frames.{AreSides}
@@ -19,10 +18,7 @@ use Rattle.gos_terms.proofs.regions.CutLemmas.{literals_within}
 use Rattle.gos_terms.proofs.regions.ParallelLemmas.{parallel_is_wired}
 use Rattle.gos_terms.specs.regular_and_resting.Cases.{ParallelIsSteady}
 use Rattle.gos_terms.proofs.regular_and_resting.RestLemmas.{rests_after_answers, rests_where_restful}
-use Rattle.gos_terms.proofs.regular_and_resting.HeardLemmas.{side_heard}
-
-other_way : (p q : Plan) → HaveOtherNames p.imports q.imports → HaveOtherNames q.imports p.imports
-other_way p q apart i j has also same = apart j i also has (sym same)
+use Rattle.gos_terms.proofs.regions.HeardLemmas.{sides_heard}
 
 pub parallel_is_steady : ParallelIsSteady
 parallel_is_steady types ns ms ks m n parted em en rm rn i j env pl r w supplies differ fit = (regular, rests_where_restful r done regular restful)
@@ -59,30 +55,18 @@ parallel_is_steady types ns ms ks m n parted em en rm rn i j env pl r w supplies
     right_restful : IsRestful sides.right
     right_restful = rests_after_answers sides.right (subst IsDone (sym of.right.outcome) tt) right.0 right.1
 
-    left_heard : IsHeard sides.left_cut r sides.left
-    left_heard =
-        side_heard (pl.own 0) 0 1 sides.left_cut sides.right_cut r sides.left sides.right of.left of.right left_names of.names sides.left_imports of.joints
-
-    right_heard : IsHeard sides.right_cut r sides.right
-    right_heard =
-        side_heard (pl.own 0) 1 0 sides.right_cut sides.left_cut r sides.right sides.left of.right of.left right_names (other_way sides.left sides.right of.names)
-        sides.right_imports (λ a b has. turned a b (of.joints a b has))
-      where
-        turned : (a b : End)
-            → (IsJointOf sides.left_cut sides.left a b ⊎ IsJointOf sides.right_cut sides.right a b) ⊎ ((a ≡ ResultEnd 0) × (b ≡ PartEnd (pl.own 0) 2))
-            → (IsJointOf sides.right_cut sides.right a b ⊎ IsJointOf sides.left_cut sides.left a b) ⊎ ((a ≡ ResultEnd 0) × (b ≡ PartEnd (pl.own 0) 2))
-        turned a b (inl (inl one)) = inl (inr one)
-        turned a b (inl (inr one)) = inl (inl one)
-        turned a b (inr run) = inr run
+    heard : IsHeard sides.left_cut r sides.left × IsHeard sides.right_cut r sides.right
+    heard =
+        sides_heard (pl.own 0) sides.left_cut sides.right_cut r sides.left sides.right of left_names right_names sides.left_imports sides.right_imports
 
     done : IsDone r.outcome
     done = subst IsDone (sym of.outcome) tt
 
     regular : IsRegular r
     regular =
-        open_parallel_is_regular (pl.own 0) sides.left_cut sides.right_cut r sides.left sides.right of left_heard right_heard fit differ left_names left.0 right_names right.0
+        open_parallel_is_regular (pl.own 0) sides.left_cut sides.right_cut r sides.left sides.right of heard.0 heard.1 fit differ left_names left.0 right_names right.0
 
     restful : IsRestful r
     restful =
-        open_parallel_is_restful (pl.own 0) sides.left_cut sides.right_cut r sides.left sides.right of left_heard right_heard fit differ left_names left.0 left_restful
+        open_parallel_is_restful (pl.own 0) sides.left_cut sides.right_cut r sides.left sides.right of heard.0 heard.1 fit differ left_names left.0 left_restful
         right_names right.0 right_restful

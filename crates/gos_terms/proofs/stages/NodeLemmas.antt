@@ -9,7 +9,8 @@ use Rattle.gos_joining.specs.webs.Cutting.{lies_at}
 use Rattle.gos_joining.proofs.webs.WebLemmas.{asks_there, serves_there}
 use Rattle.gos_joining.proofs.unions.UnionLemmas.{of_image, in_image}
 use Rattle.gos_nodes.specs.sessions.Sessions.{Form, own_part, run_shake}
-use Rattle.gos_nodes.specs.windows.Nodes.{Stage, IsStage, IsOfStage}
+use Rattle.gos_nodes.specs.windows.Nodes.{Stage, IsOfStage}
+use Rattle.gos_nodes.specs.windows.OpenNodes.{IsOpenStage}
 use Rattle.gos_nodes.specs.folds.Folds.{IsFold}
 use Rattle.gos_nodes.proofs.folds.RegionLemmas.{folded_joint}
 use Rattle.gos_terms.specs.wired.Wired.{Placing, dot_at}
@@ -17,6 +18,7 @@ use Rattle.gos_terms.specs.stages.Folding.{asked, child_web, child_back, child_f
 use Rattle.gos_terms.specs.stages.Nodes.{Cared, stage, IsCared, AreCovering, StagesMakeNode}
 use Rattle.gos_terms.proofs.stages.ChildFoldLemmas.{child_is_folded}
 use Rattle.gos_terms.proofs.stages.StageLemmas.{has_child_of, laid_of, web_of}
+use Rattle.gos_terms.proofs.stages.ChildImportLemmas.{child_is_heard}
 
 module _ (f : Form) (own : List Part) (ts : List Tie) (first : ℕ) (pl : Placing) (r : Plan) (d : ℕ) (es : List Cared)
     (web : IsOfWeb (record { ties = ts; at = dot_at first pl }) r)
@@ -108,7 +110,6 @@ stages_make_node f own ts first pl r d es web formed cared covers one staged =
       outcome = formed.outcome;
       done = formed.done;
       literals = formed.literals;
-      ground = formed.ground;
       names = formed.names;
       stages = stages;
       one = ones f own ts first pl r d es web formed.result cared covers one;
@@ -120,5 +121,15 @@ stages_make_node f own ts first pl r d es web formed cared covers one staged =
       parts = parts_so f own ts first pl r d es web formed.result cared covers;
     }
   where
-    stages : (g : Stage) → Contains (map (stage pl r) es) g → IsStage r d g
-    stages g has = let (e, listed, same) = of_image (stage pl r) es g has in subst (IsStage r d) same (cared e listed).stage
+    -- a child is asked where an import of it asks
+    of_cared : (e : Cared) → IsCared own ts first pl r d e → IsOpenStage r d (stage pl r e)
+    of_cared e it =
+        record {
+          stage = it.stage;
+          heard =
+              child_is_heard e.child own ts pl e.placing r e.plan it.child it.parts it.laid it.staged
+              (subst (λ (n : ℕ). IsOfWeb (record { ties = ts; at = dot_at n pl }) r) (sym it.begins) web) it.stage.names;
+        }
+
+    stages : (g : Stage) → Contains (map (stage pl r) es) g → IsOpenStage r d g
+    stages g has = let (e, listed, same) = of_image (stage pl r) es g has in subst (IsOpenStage r d) same (of_cared e (cared e listed))

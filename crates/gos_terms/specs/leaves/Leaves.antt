@@ -9,7 +9,7 @@ use Rattle.gos_model.specs.Terms.{Skip, Lit, Deref}
 use Rattle.gos_check.specs.Nodes.{Closed, Use, One, OfDeref}
 use Rattle.gos_plan.specs.Plans.{Plan}
 use Rattle.gos_plan.specs.TokenBits.{LiteralFits}
-use Rattle.gos_realises.specs.realises.Realises.{AllGround, NamesDiffer, Realises}
+use Rattle.gos_realises.specs.realises.Realises.{AllPorts, NamesDiffer, Realises}
 use Rattle.gos_compile.specs.Wiring.{Types}
 use Rattle.gos_terms.specs.wired.Wired.{Supplies, Placing, IsWired}
 
@@ -17,26 +17,26 @@ use Rattle.gos_terms.specs.wired.Wired.{Supplies, Placing, IsWired}
 abbrev pub UseIsRealised : Type 0
 UseIsRealised =
     (types : Types) (i j n : ℕ) (t : Type') (ns : List ℕ) (env : Supplies) (pl : Placing) (r : Plan)
-    → IsWired types i j (Use t [] n) ns env pl r → Contains ns n → t ≡ types n → All LiteralFits r.parts → AllGround r.imports → NamesDiffer r.imports
+    → IsWired types i j (Use t [] n) ns env pl r → Contains ns n → t ≡ types n → All LiteralFits r.parts → AllPorts r.imports → NamesDiffer r.imports
     → Realises t (env n).plan (env n).term → Realises t r (env n).term
 
 -- `skip` and a number: the node's own part, with all supplies beside it.
 abbrev pub SkipIsRealised : Type 0
 SkipIsRealised =
     (types : Types) (i j : ℕ) (ns : List ℕ) (env : Supplies) (pl : Placing) (r : Plan)
-    → IsWired types i j (Closed Com [] Skip) ns env pl r → All LiteralFits r.parts → AllGround r.imports → NamesDiffer r.imports
+    → IsWired types i j (Closed Com [] Skip) ns env pl r → All LiteralFits r.parts → AllPorts r.imports → NamesDiffer r.imports
     → Realises Com r Skip
 
 abbrev pub LiteralIsRealised : Type 0
 LiteralIsRealised =
     (types : Types) (i j w k : ℕ) (ns : List ℕ) (env : Supplies) (pl : Placing) (r : Plan)
     → IsWired types i j (Closed (Exp w) [] (Lit k w)) ns env pl r → IsWidth w → k < 2 ^ w → All LiteralFits r.parts
-    → AllGround r.imports → NamesDiffer r.imports → Realises (Exp w) r (Lit k w)
+    → AllPorts r.imports → NamesDiffer r.imports → Realises (Exp w) r (Lit k w)
 
 -- A variable that is read: the plan of its supply joined to the Deref, with the other supplies beside it.
 abbrev pub ReadIsRealised : Type 0
 ReadIsRealised =
     (types : Types) (i j w n : ℕ) (ns : List ℕ) (env : Supplies) (pl : Placing) (r : Plan)
     → IsWired types i j (One (Exp w) [] OfDeref (Use (Var w) [] n)) ns env pl r → Contains ns n → types n ≡ Var w
-    → All LiteralFits r.parts → AllGround r.imports → NamesDiffer r.imports
+    → All LiteralFits r.parts → AllPorts r.imports → NamesDiffer r.imports
     → Realises (Var w) (env n).plan (env n).term → Realises (Exp w) r (Deref (env n).term)

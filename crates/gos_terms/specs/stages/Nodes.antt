@@ -1,4 +1,4 @@
--- A wired node of which each joint and each part is its own part's or a child's is a node of stages.
+-- A wired node of which each joint and each part is its own part's or a child's is a node of stages, with imports of any types.
 --
 -- Read first: Stages; Sessions of gos_nodes. What is left to be known of a form is that its children cover it.
 use Rattle.std.specs.Prelude.{◌≡◌, ℕ, List, map, ◌⊎◌, Some, All, length, slice_get, Contains}
@@ -7,10 +7,11 @@ use Rattle.gos_plan.specs.Kinds.{Contact, Part}
 use Rattle.gos_plan.specs.Firing.{Phase}
 use Rattle.gos_plan.specs.Plans.{End, PartEnd, ResultEnd, Plan, contact_at}
 use Rattle.gos_plan.specs.TokenBits.{LiteralFits}
-use Rattle.gos_realises.specs.realises.Realises.{AllGround, NamesDiffer}
+use Rattle.gos_realises.specs.realises.Realises.{NamesDiffer}
 use Rattle.gos_joining.specs.webs.Webs.{Dot, Tie, IsOfWeb, joint}
 use Rattle.gos_nodes.specs.sessions.Sessions.{Form, Session, own_part, own_type, run_shake, session_of}
-use Rattle.gos_nodes.specs.windows.Nodes.{Stage, IsStage, IsNode}
+use Rattle.gos_nodes.specs.windows.Nodes.{Stage, IsStage}
+use Rattle.gos_nodes.specs.windows.OpenNodes.{IsOpenNode}
 use Rattle.gos_terms.specs.wired.Wired.{Placing, dot_at}
 use Rattle.gos_terms.specs.stages.Folding.{Child, asked, child_back, child_cut, IsChild, IsLaid}
 use Rattle.gos_terms.specs.stages.Regions.{HasParts, IsStaged}
@@ -51,7 +52,6 @@ pub record IsFormed (f : Form) (r : Plan) (d : ℕ) : Type 0 where
   pub outcome : r.outcome ≡ own_type f
   pub done : IsDone (own_type f)
   pub literals : All LiteralFits r.parts
-  pub ground : AllGround r.imports
   pub names : NamesDiffer r.imports
   pub result : Contains r.joints (joint (ResultEnd 0) (PartEnd d (run_shake (own_part f))))
 
@@ -64,4 +64,4 @@ StagesMakeNode =
     → ((e b : Cared) → Contains es e → Contains es b → asked e.child ≡ asked b.child → e ≡ b)
     → ((p : Phase) (n : ℕ) (s : Session) → session_of f p n ≡ Some s
     → (e : Cared) × Contains es e × (asked e.child ≡ s.asked_at) × (e.plan.outcome ≡ s.ty))
-    → IsNode r d f (map (stage pl r) es)
+    → IsOpenNode r d f (map (stage pl r) es)

@@ -12,7 +12,7 @@ use Rattle.gos_joining.specs.webs.Webs.{joint}
 use Rattle.gos_joining.specs.webs.Cutting.{Cut, lies_at, StandsIn}
 use Rattle.gos_nodes.specs.windows.OpenNodes.{IsHeard}
 use Rattle.gos_nodes.proofs.windows.PortLemmas.{stands_contact, one_place}
-use Rattle.gos_nodes.specs.parallel.Parallel.{IsJointOf, IsSide}
+use Rattle.gos_nodes.specs.parallel.Parallel.{IsJointOf, IsSide, IsParallel}
 use Rattle.gos_nodes.specs.blocks.Servers.{run_of}
 use Rattle.gos_nodes.specs.blocks.Block.{Block, IsBlock}
 use Rattle.gos_terms.specs.regions.Frames.{KeepsImports}
@@ -76,13 +76,13 @@ module _ (d h : ℕ) (f : Cut) (r p : Plan) (side : IsSide d h f r p) where
       let zero_is = (result_asks p.outcome (subst IsDone (sym side.outcome) tt) q c there).0 in
       let clash : PartEnd d h ≡ ImportEnd k n = sym side.result ∙ (ap (λ (x : ℕ). f.outer (ResultEnd x)) (sym zero_is) ∙ at) in cc clash
 
-  pub side_other : (k n : ℕ) (a b : End) → IsJointOf f p a b → (ImportEnd k n ≡ a) ⊎ (ImportEnd k n ≡ b) → Other f p k n
+  side_other : (k n : ℕ) (a b : End) → IsJointOf f p a b → (ImportEnd k n ≡ a) ⊎ (ImportEnd k n ≡ b) → Other f p k n
   side_other k n a b of which = of_joint f p k n (side_shake k n) (side_result k n) a b of which
 
 abbrev OfSides : Cut → Cut → Plan → Plan → ℕ → End → End → Type 0
 OfSides f g p q d a b = (IsJointOf f p a b ⊎ IsJointOf g q a b) ⊎ ((a ≡ ResultEnd 0) × (b ≡ PartEnd d 2))
 
-pub side_heard : (d h s : ℕ) (f g : Cut) (r p q : Plan) → IsSide d h f r p → IsSide d s g r q → NamesDiffer p.imports → HaveOtherNames p.imports q.imports
+side_heard : (d h s : ℕ) (f g : Cut) (r p q : Plan) → IsSide d h f r p → IsSide d s g r q → NamesDiffer p.imports → HaveOtherNames p.imports q.imports
     → KeepsImports f → ((a b : End) → Contains r.joints (joint a b) → OfSides f g p q d a b) → IsHeard f r p
 side_heard d h s f g r p q side other names apart keeps joints =
     heard_by f r p side.cut.right names keeps (side_import d h f r p side) own
@@ -102,6 +102,19 @@ side_heard d h s f g r p q side other names apart keeps joints =
         by_joint (inl (inr of)) which = absurd (not_other (side_other d s g r q other k n j.asking j.serving of which))
         by_joint (inr (first, last)) (inl is) = let clash : ImportEnd k n ≡ ResultEnd 0 = is ∙ first in absurd (cc clash)
         by_joint (inr (first, last)) (inr is) = let clash : ImportEnd k n ≡ PartEnd d 2 = is ∙ last in absurd (cc clash)
+
+-- so both sides of `||` are
+pub sides_heard : (d : ℕ) (f g : Cut) (r p q : Plan) → IsParallel d f g r p q → NamesDiffer p.imports → NamesDiffer q.imports → KeepsImports f → KeepsImports g
+    → IsHeard f r p × IsHeard g r q
+sides_heard d f g r p q is left_names right_names left_keeps right_keeps = (
+  side_heard d 0 1 f g r p q is.left is.right left_names is.names left_keeps is.joints,
+  side_heard d 1 0 g f r q p is.right is.left right_names (λ i j of_i of_j same. is.names j i of_j of_i (sym same)) right_keeps (λ a b has. turned a b (is.joints a b has)),
+)
+  where
+    turned : (a b : End) → OfSides f g p q d a b → OfSides g f q p d a b
+    turned a b (inl (inl one)) = inl (inr one)
+    turned a b (inl (inr one)) = inl (inl one)
+    turned a b (inr run) = inr run
 
 -- the body of a block
 module _ (r : Plan) (b : Block) (is : IsBlock r b) where
