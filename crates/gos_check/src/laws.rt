@@ -1,6 +1,8 @@
 // Laws of the definitions. Each is the contract of a function that does nothing.
 
-ghost use Rattle.std.specs.Prelude.{◌≤◌, length, None};
+ghost use Rattle.std.specs.Prelude.{◌≡◌, ◌≤◌, length, None};
+ghost use Rattle.gos_types.specs.declared.widths.TheConstants.{GREATEST_NUMBER};
+ghost use Rattle.gos_lex.specs.declared.numeral.TheConstants.{GREATEST_NUMERAL};
 ghost use Rattle.gos_lex.specs.Tokens.{Reads};
 ghost use Rattle.gos_syntax.specs.ParsedModules.{IsParsed};
 ghost use Rattle.gos_check.specs.Sizes.{IsCountableModule};
@@ -25,6 +27,11 @@ pub fn parsed_is_countable(text: &[u8], tokens: &[Token], program: &Module)
     requires scanned { Reads text.now 0 tokens.now None }
     requires parsed { IsParsed text.now tokens.now program.now }
     ensures { IsCountableModule program.now }
+{}
+
+/// The greatest number that a numeral may write is the greatest of the language: that of the greatest width.
+pub fn greatest_numeral()
+    ensures { GREATEST_NUMERAL ≡ GREATEST_NUMBER }
 {}
 
 /// Modules that are one but for their boxes have one typed term.

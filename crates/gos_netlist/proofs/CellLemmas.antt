@@ -3,6 +3,7 @@ use Rattle.std.proofs.Common.{◌≡◌, ◌⊎◌, inl, inr, ℕ, ◌^◌, ◌�
 use Rattle.std.specs.Fmt.{decimal}
 use Rattle.std.specs.List.{slice_range}
 use Rattle.std.proofs.Math.Nat.{pow-le-pow_right, one-le-pow}
+use Rattle.gos_types.specs.declared.widths.TheConstants.{GREATEST_WIDTH}
 use Rattle.gos_lex.specs.Items.{TextAt, Misses}
 use Rattle.gos_netlist.specs.declared.word.GateWord.{GateWord}
 use Rattle.gos_netlist.specs.declared.word.GateWord.TheVariants as gates
@@ -121,12 +122,12 @@ width_is_end gates.Less = inr refl
 width_is_end gates.Gate = inr refl
 width_is_end gates.Reg = inr refl
 
-pub width_code : (word : GateWord) → IsCode ℕ (IsInRange 1 32) (λ w. ended (width_end word) (decimal w))
-width_code word = number_code 1 32 (width_end word) (omega arith) (width_is_end word)
+pub width_code : (word : GateWord) → IsCode ℕ (IsInRange 1 GREATEST_WIDTH) (λ w. ended (width_end word) (decimal w))
+width_code word = number_code 1 GREATEST_WIDTH (width_end word) (omega arith) (width_is_end word)
 
 -- a word, a width and operands
 abbrev Parts : List ℕ → Type 0
-Parts = Then GateWord (λ _. Unit {0}) (λ word. ended 32 (gate_text word)) (λ word. Then ℕ (IsInRange 1 32) (λ w. ended (width_end word) (decimal w)) (IsOperandsText word))
+Parts = Then GateWord (λ _. Unit {0}) (λ word. ended 32 (gate_text word)) (λ word. Then ℕ (IsInRange 1 GREATEST_WIDTH) (λ w. ended (width_end word) (decimal w)) (IsOperandsText word))
 
 joined : (bytes : List ℕ) → Parts bytes → IsCellText bytes
 joined bytes (word, rest, is, (w, last, is_w, (f, has, text), middle), whole) =
@@ -175,10 +176,10 @@ template_has gates.Less w = (refl, (omega arith, (omega arith, tt)))
 template_has gates.Gate w = (refl, (omega arith, (omega arith, tt)))
 template_has gates.Reg w = (refl, (omega arith, tt))
 
-some_operands : (word : GateWord) (w : ℕ) → IsInRange 1 32 w → (rest : List ℕ) × IsOperandsText word w rest
+some_operands : (word : GateWord) (w : ℕ) → IsInRange 1 GREATEST_WIDTH w → (rest : List ℕ) × IsOperandsText word w rest
 some_operands word w is = (numbers_text (operands (template word)), (template word, template_has word w, refl))
 
-some_width : (word : GateWord) → Unit {0} → (rest : List ℕ) × Then ℕ (IsInRange 1 32) (λ w. ended (width_end word) (decimal w)) (IsOperandsText word) rest
+some_width : (word : GateWord) → Unit {0} → (rest : List ℕ) × Then ℕ (IsInRange 1 GREATEST_WIDTH) (λ w. ended (width_end word) (decimal w)) (IsOperandsText word) rest
 some_width word is =
     let more = some_operands word 1 (omega arith, omega arith) in
     (ended (width_end word) (decimal 1) ++ more.0, (1, more.0, (omega arith, omega arith), more.1, refl))
@@ -187,30 +188,30 @@ some_width word is =
 pub no_word : (text : List ℕ) (at place : ℕ) → Misses IsGateText text at place → Misses IsCellText text at place
 no_word text at place misses =
     misses_as Parts IsCellText text at place joined cut
-    (then_first GateWord (λ _. Unit {0}) (λ word. ended 32 (gate_text word)) (λ word. Then ℕ (IsInRange 1 32) (λ w. ended (width_end word) (decimal w)) (IsOperandsText word)) text at place some_width misses)
+    (then_first GateWord (λ _. Unit {0}) (λ word. ended 32 (gate_text word)) (λ word. Then ℕ (IsInRange 1 GREATEST_WIDTH) (λ w. ended (width_end word) (decimal w)) (IsOperandsText word)) text at place some_width misses)
 
 after_word : (word : GateWord) (text : List ℕ) (at mid place : ℕ) → at ≤ mid → mid ≤ length text → slice_range text at mid ≡ ended 32 (gate_text word)
-    → Misses (Then ℕ (IsInRange 1 32) (λ w. ended (width_end word) (decimal w)) (IsOperandsText word)) text mid place → Misses IsCellText text at place
+    → Misses (Then ℕ (IsInRange 1 GREATEST_WIDTH) (λ w. ended (width_end word) (decimal w)) (IsOperandsText word)) text mid place → Misses IsCellText text at place
 after_word word text at mid place after within first misses =
     misses_as Parts IsCellText text at place joined cut
-    (then_rest GateWord (λ _. Unit {0}) (λ word. ended 32 (gate_text word)) (λ word. Then ℕ (IsInRange 1 32) (λ w. ended (width_end word) (decimal w)) (IsOperandsText word)) text at mid place word gate_code tt after within first misses)
+    (then_rest GateWord (λ _. Unit {0}) (λ word. ended 32 (gate_text word)) (λ word. Then ℕ (IsInRange 1 GREATEST_WIDTH) (λ w. ended (width_end word) (decimal w)) (IsOperandsText word)) text at mid place word gate_code tt after within first misses)
 
 -- the width breaks off
-pub no_width : (old mid : TextAt) (word : GateWord) (place : ℕ) → Passed old mid (ended 32 (gate_text word)) → Misses (IsNumberText 1 32 (width_end word)) mid.text mid.at place
+pub no_width : (old mid : TextAt) (word : GateWord) (place : ℕ) → Passed old mid (ended 32 (gate_text word)) → Misses (IsNumberText 1 GREATEST_WIDTH (width_end word)) mid.text mid.at place
     → Misses IsCellText old.text old.at place
 no_width old mid word place passed misses =
     after_word word old.text old.at mid.at place passed.after passed.within passed.is
-    (then_first ℕ (IsInRange 1 32) (λ w. ended (width_end word) (decimal w)) (IsOperandsText word) old.text mid.at place (some_operands word)
-    (subst (λ (text : List ℕ). Misses (IsNumberText 1 32 (width_end word)) text mid.at place) passed.text misses))
+    (then_first ℕ (IsInRange 1 GREATEST_WIDTH) (λ w. ended (width_end word) (decimal w)) (IsOperandsText word) old.text mid.at place (some_operands word)
+    (subst (λ (text : List ℕ). Misses (IsNumberText 1 GREATEST_WIDTH (width_end word)) text mid.at place) passed.text misses))
 
 -- the operands break off
-pub no_operands : (old mid last : TextAt) (word : GateWord) (w place : ℕ) → Passed old mid (ended 32 (gate_text word)) → IsInRange 1 32 w → Passed mid last (ended (width_end word) (decimal w))
+pub no_operands : (old mid last : TextAt) (word : GateWord) (w place : ℕ) → Passed old mid (ended 32 (gate_text word)) → IsInRange 1 GREATEST_WIDTH w → Passed mid last (ended (width_end word) (decimal w))
     → Misses (IsOperandsText word w) last.text last.at place → Misses IsCellText old.text old.at place
 no_operands old mid last word w place first is second misses =
     let here = subst (λ (text : List ℕ). Misses (IsOperandsText word w) text last.at place) second.text misses in
     after_word word old.text old.at mid.at place first.after first.within first.is
-    (subst (λ (text : List ℕ). Misses (Then ℕ (IsInRange 1 32) (λ w. ended (width_end word) (decimal w)) (IsOperandsText word)) text mid.at place) first.text
-    (then_rest ℕ (IsInRange 1 32) (λ w. ended (width_end word) (decimal w)) (IsOperandsText word) mid.text mid.at last.at place w (width_code word) is second.after second.within second.is here))
+    (subst (λ (text : List ℕ). Misses (Then ℕ (IsInRange 1 GREATEST_WIDTH) (λ w. ended (width_end word) (decimal w)) (IsOperandsText word)) text mid.at place) first.text
+    (then_rest ℕ (IsInRange 1 GREATEST_WIDTH) (λ w. ended (width_end word) (decimal w)) (IsOperandsText word) mid.text mid.at last.at place w (width_code word) is second.after second.within second.is here))
 
 -- lines of cells don't begin one another
 pub cell_code : IsCode Cell IsWritableCell cell_text

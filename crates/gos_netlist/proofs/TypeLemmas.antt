@@ -3,6 +3,7 @@ use Rattle.std.proofs.Common.{◌≡◌, inr, ℕ, List, [], ◌++◌, get_or, r
 use Rattle.std.specs.Prelude.{codes}
 use Rattle.std.specs.Fmt.{decimal}
 use Rattle.std.proofs.lemmas.List.{append_cancel_left}
+use Rattle.gos_types.specs.declared.widths.TheConstants.{GREATEST_WIDTH}
 use Rattle.gos_types.specs.Types.{Type', Com, Exp, Var, Pair, Fun}
 use Rattle.gos_types.specs.TypeText.{type_text}
 use Rattle.gos_lex.specs.Items.{TextAt, Misses}
@@ -21,8 +22,8 @@ use Rattle.gos_netlist.proofs.WordLemmas.{type_code}
 -- what stands behind the word of a type
 abbrev TypeRest : TypeWord → List ℕ → Type 0
 TypeRest types.Com bytes = bytes ≡ []
-TypeRest types.Exp bytes = IsNumberText 1 32 32 bytes
-TypeRest types.Var bytes = IsNumberText 1 32 32 bytes
+TypeRest types.Exp bytes = IsNumberText 1 GREATEST_WIDTH 32 bytes
+TypeRest types.Var bytes = IsNumberText 1 GREATEST_WIDTH 32 bytes
 
 abbrev TypeParts : List ℕ → Type 0
 TypeParts = Then TypeWord (λ _. Unit {0}) (λ word. ended 32 (type_word word)) TypeRest
@@ -56,10 +57,10 @@ no_rest old mid word place passed misses =
     (then_rest TypeWord (λ _. Unit {0}) (λ word. ended 32 (type_word word)) TypeRest old.text old.at mid.at place word type_code tt passed.after passed.within passed.is
     (subst (λ (text : List ℕ). Misses (TypeRest word) text mid.at place) passed.text misses))
 
-pub no_exp_width : (old mid : TextAt) (place : ℕ) → Passed old mid (ended 32 (codes "exp")) → Misses (IsNumberText 1 32 32) mid.text mid.at place → Misses IsTypeText old.text old.at place
+pub no_exp_width : (old mid : TextAt) (place : ℕ) → Passed old mid (ended 32 (codes "exp")) → Misses (IsNumberText 1 GREATEST_WIDTH 32) mid.text mid.at place → Misses IsTypeText old.text old.at place
 no_exp_width old mid place passed misses = no_rest old mid types.Exp place passed misses
 
-pub no_var_width : (old mid : TextAt) (place : ℕ) → Passed old mid (ended 32 (codes "var")) → Misses (IsNumberText 1 32 32) mid.text mid.at place → Misses IsTypeText old.text old.at place
+pub no_var_width : (old mid : TextAt) (place : ℕ) → Passed old mid (ended 32 (codes "var")) → Misses (IsNumberText 1 GREATEST_WIDTH 32) mid.text mid.at place → Misses IsTypeText old.text old.at place
 no_var_width old mid place passed misses = no_rest old mid types.Var place passed misses
 
 -- the word and the width, passed one behind the other
@@ -74,11 +75,11 @@ pub port_type_code : IsCode Type' IsPortType (λ t. ended 32 (type_text t))
 port_type_code Com Com x y is_t is_u same = (refl, append_cancel_left (codes "com ") x y same)
 port_type_code (Exp v) (Exp w) x y is_t is_u same =
     let rest = append_cancel_left (codes "exp ") (ended 32 (decimal v) ++ x) (ended 32 (decimal w) ++ y) same in
-    let width = number_code 1 32 32 (omega arith) (inr refl) v w x y is_t is_u rest in
+    let width = number_code 1 GREATEST_WIDTH 32 (omega arith) (inr refl) v w x y is_t is_u rest in
     (ap (λ (n : ℕ). Exp n) width.0, width.1)
 port_type_code (Var v) (Var w) x y is_t is_u same =
     let rest = append_cancel_left (codes "var ") (ended 32 (decimal v) ++ x) (ended 32 (decimal w) ++ y) same in
-    let width = number_code 1 32 32 (omega arith) (inr refl) v w x y is_t is_u rest in
+    let width = number_code 1 GREATEST_WIDTH 32 (omega arith) (inr refl) v w x y is_t is_u rest in
     (ap (λ (n : ℕ). Var n) width.0, width.1)
 port_type_code Com (Exp w) x y is_t is_u same = let first : 99 ≡ 101 = ap (λ (bytes : List ℕ). get_or bytes 0 0) same in absurd (omega (arith, first))
 port_type_code Com (Var w) x y is_t is_u same = let first : 99 ≡ 118 = ap (λ (bytes : List ℕ). get_or bytes 0 0) same in absurd (omega (arith, first))

@@ -8,7 +8,7 @@ ghost use Rattle.gos_types.specs.Widths.{IsWidth};
 ghost use Rattle.gos_lex.specs.ItemTexts.{Passed};
 ghost use Rattle.gos_netlist.specs.inner.NetLines.{numbers_text, pin_count, word_for, HasWord, IsOperandsText, IsCellText};
 
-use crate::items::{few_nets, number};
+use crate::items::{LAST_WIDTH, few_nets, number};
 use crate::nets::{Cell, Gate, NetId};
 use crate::word::{GateWord, gate_word};
 use gos_lex::Cursor;
@@ -21,7 +21,7 @@ pub fn cell(cursor: &mut Cursor) -> Result<Cell, usize>
     ensures wrong { IfErr result (Misses IsCellText cursor.old.text cursor.old.at) }
 {
     let word = gate_word(cursor)?;
-    let width = number(cursor, 1, 32, word.width_end())? as u32;
+    let width = number(cursor, 1, LAST_WIDTH, word.width_end())? as u32;
     let gate = gate(cursor, word, width)?;
     Ok(Cell { width, gate })
 }

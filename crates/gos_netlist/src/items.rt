@@ -11,11 +11,15 @@ ghost use Rattle.gos_netlist.specs.inner.NetLines.{end_with, AreNets, IsNetsText
 
 use crate::nets::NetId;
 use gos_lex::Cursor;
+use gos_types::GREATEST_WIDTH;
 use smallvec::SmallVec;
 use std::alloc::Global;
 
 /// The greatest number of a net, and the greatest count.
 pub const LAST_NUMBER: u64 = 4_294_967_295;
+
+/// The last width of a cell or a port.
+pub const LAST_WIDTH: u64 = GREATEST_WIDTH as u64;
 
 /// The nets of a line: six at most.
 pub type LineNets = SmallVec<NetId, 6>;

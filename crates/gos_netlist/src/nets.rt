@@ -47,7 +47,7 @@ pub enum Gate {
 /// A cell.
 #[derive(Debug, Clone, Copy)]
 pub struct Cell {
-    /// The bits of the net that it drives, 1 to 32.
+    /// The bits of the net that it drives: 1 to the greatest width.
     pub width: u32,
     /// What it shows there.
     pub gate: Gate,

@@ -1,4 +1,5 @@
--- The pulses of a small circuit; one that keeps pace with its program, for every list of inputs, and one that does not.
+-- The pulses of a small circuit; one that keeps pace with its program, for all inputs in range that keep the protocol, and one that
+-- does not.
 --
 -- Read first: Pace; SmallNets of gos_netlist. They show that keeping pace can be met and can be missed.
 use Rattle.std.specs.Prelude.{[], ◌∷◌, codes}

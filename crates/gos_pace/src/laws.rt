@@ -14,7 +14,7 @@ pub fn latch_pulses()
     ensures { LatchFlattens }
 {}
 
-/// The circuit of `skip` keeps pace with it, for every list of inputs, and one that never answers does not.
+/// The circuit of `skip` keeps pace with it, for all inputs in range that keep the protocol, and one that never answers does not.
 pub fn keeping_pace()
     ensures keeps { SkipKeepsPace }
     ensures silent { SilentLags }

@@ -1,7 +1,7 @@
 -- A cycle of a driven run.
-use Rattle.std.proofs.Common.{◌≡◌, ◌≤◌, ◌^◌, ℕ, zero, suc, false, List, [], ◌∷◌, ◌++◌, All, length, reverse, take, get_or, refl, sym, ap, subst, ◌∙◌, arith, Option, Some, None, pow_mono}
+use Rattle.std.proofs.Common.{◌≡◌, ◌<◌, ◌^◌, ℕ, zero, suc, false, List, [], ◌∷◌, ◌++◌, All, length, reverse, take, get_or, refl, sym, ap, subst, ◌∙◌, arith, Option, Some, None, inl, inr}
 use Rattle.std.specs.Prelude.{slice_get}
-use Rattle.std.proofs.lemmas.Option.{slice_get-get_or}
+use Rattle.std.proofs.lemmas.Option.{get_or_from_slice_get, slice_get-get_or, slice_get_within}
 use Rattle.std.proofs.lemmas.List.{length-map}
 use Rattle.gos_netlist.specs.declared.event.Event.{Event}
 use Rattle.gos_netlist.specs.Nets.{Netlist}
@@ -28,9 +28,11 @@ use Rattle.gos_pulse.proofs.EventLemmas.{AreRows, IsNumberNet, IsRow}
 use Rattle.gos_pulse.proofs.RangeLemmas.{are_clean, none_are_clean}
 use Rattle.gos_pulse.proofs.ShownLemmas.{input_rows, inputs_are, outputs_are, outputs_each}
 
-bits_small : (net : Netlist) (e : Event) (number : Option ℕ) → IsAccepted net → IsNumberNet net.cells e number → e.bits ≤ 32
-bits_small net e None accepted none = omega (arith, none)
-bits_small net e (Some x) accepted fits = omega (arith, (accepted.widths x fits.0 fits.1).1, fits.2)
+-- a number that fits an event's net may be given to the netlist
+is_word : (net : Netlist) (e : Event) (number : Option ℕ) (n : ℕ) → IsNumberNet net.cells e number → n < 2 ^ e.bits → IsWord net.cells n
+is_word net e None n none fits = let low = subst (λ (b : ℕ). n < 2 ^ b) none fits in inl (omega (arith, low))
+is_word net e (Some x) n (c, is, same, end) fits =
+    inr (c, (x, slice_get_within net.cells x c is, get_or_from_slice_get net.cells x c c is), subst (λ (b : ℕ). n < 2 ^ b) (sym same) fits)
 
 row_at : (net : Netlist) (es : List Event) (ns : List EventNets) (k : ℕ) (e : Event) → AreRows net es ns → slice_get es k ≡ Some e → (n : EventNets) × IsRow net e n
 row_at net [] ns k e rows at = absurd (cc at)
@@ -38,17 +40,16 @@ row_at net (x ∷ es) [] k e rows at = absurd rows
 row_at net (x ∷ es) (n ∷ ns) zero e rows at = let same : x ≡ e = cc in (n, subst (λ (y : Event). IsRow net y n) same rows.0)
 row_at net (x ∷ es) (n ∷ ns) (suc k) e rows at = row_at net es ns k e rows.1 at
 
--- the values of inputs have at most 32 bits
-pub are_words : (net : Netlist) (given : List Pulse) → IsAccepted net → length given ≡ length (inputs_of net) → AreInRange (inputs_of net) given → All (λ p. IsWord p.value) given
+-- so may those of inputs
+pub are_words : (net : Netlist) (given : List Pulse) → IsAccepted net → length given ≡ length (inputs_of net) → AreInRange (inputs_of net) given
+    → All (λ p. IsWord net.cells p.value) given
 are_words net given accepted each range = λ k d less.
     let none : Event = record { port = 0; place = 0; input = false; bits = 0 } in
     let at_event = slice_get-get_or (inputs_of net) k none (omega (arith, less, each)) in
     let event : Event = get_or (inputs_of net) k none in
     let fits = (range k event (get_or given k d) at_event (slice_get-get_or given k d less)).0 in
     let row = row_at net (inputs_of net) (input_events net) k event (input_rows net accepted) at_event in
-    let small : event.bits ≤ 32 = bits_small net event row.0.number accepted row.1.number in
-    let more : 2 ^ event.bits ≤ 2 ^ 32 = pow_mono small in
-    omega (arith, fits, more)
+    is_word net event row.0.number (get_or given k d).value row.1.number fits
 
 module _ (old : Simulator) (past : List Label) (board : Board) (accepted : IsAccepted old.net) (begins : Begins old past board) where
   -- what was seen are the outputs of every settling

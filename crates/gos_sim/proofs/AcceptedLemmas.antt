@@ -1,49 +1,60 @@
 -- An accepted netlist has what a simulator asks of it.
-use Rattle.std.specs.Prelude.{◌≡◌, ◌≢◌, ℕ, zero, suc, ◌^◌, ◌<◌, ◌≤◌, Bool, true, false, ◌⊎◌, List, [], ◌∷◌, ◌++◌, Option, Some, None, length, get_or, take, filter, All, Contains, slice_get}
+use Rattle.std.specs.Prelude.{◌≡◌, ◌≢◌, ℕ, zero, suc, ◌<◌, ◌≤◌, Bool, true, false, ◌⊎◌, List, [], ◌∷◌, ◌++◌, Option, Some, None, length, get_or, map, nat_le, take, filter, All, Contains, slice_get}
 use Rattle.std.specs.List.{flat_map}
 use Rattle.std.specs.Bool.{beq}
 use Rattle.std.proofs.lemmas.Option.{slice_get-get_or, slice_get_within}
-use Rattle.std.proofs.Common.{arith, refl, sym, ◌∙◌, ap, subst, inl, inr, pow_mono}
+use Rattle.std.proofs.Common.{arith, refl, sym, ◌∙◌, ap, subst, inl, inr}
+use Rattle.std.proofs.lemmas.Bool.Decides.{nat_tests}
 use Rattle.std.proofs.lemmas.List.{append-nil, append_assoc}
+use Rattle.std.proofs.lemmas.List.Sums.{AllPass-from_list_all}
 use Rattle.std.proofs.lemmas.List.Elements.{All-append, All-cons, All-nil, All-filter, All-from_recursion, Contains-append_left, Contains-append_right, Contains-push, filter-append, filter_passes}
-use Rattle.gos_types.specs.declared.widths.TheConstants.{GREATEST_WIDTH}
 use Rattle.gos_types.specs.Types.{Type', Com, Exp, Var, Pair, Fun}
 use Rattle.gos_netlist.specs.Nets.{Function, Input, Const, Not, And, Or, Xor, Mux, Add, Sub, Eq, Less, Gate, Reg, Cell, pins, Side, Give, Take, NetPort, Netlist}
 use Rattle.gos_netlist.specs.Events.{is_input, net_count}
 use Rattle.gos_types.specs.Events.{Direction, Request, Answer}
-use Rattle.gos_netcheck.specs.CellRules.{HasRightWidths, NetsExist, OperandsFit, WidthsFit, widths_of}
+use Rattle.gos_netcheck.specs.CellRules.{NetsExist, OperandsFit, widths_of}
 use Rattle.gos_netcheck.specs.PortRules.{AllFit, AreNew, Fits, IsEnd, all_inputs, inputs_among, inputs_of, place, places}
 use Rattle.gos_netcheck.specs.Accepted.{IsAccepted}
 use Rattle.gos_sim.specs.declared.event_nets.EventNets.{EventNets}
 use Rattle.gos_sim.specs.EventNets.{Names, OnNets, all_events, comes_in, events_at, input_events, port_events}
-use Rattle.gos_sim.specs.inner.Program.{IsShort}
+use Rattle.gos_netlist.specs.declared.nets.Cell as declared
+use Rattle.gos_netlist.specs.Seen.{cell_of}
+use Rattle.gos_sim.specs.inner.Program.{IsShort, are_narrow}
+use Rattle.gos_sim.proofs.PlaceLemmas.{all_at, all_of_at, moved_from}
 use Rattle.gos_sim.specs.inner.Ready.{AreApart, AreCellsReady, AreTwo, IsReady}
 
--- a constant that fits its cell has at most 32 bits
-short : (ws : List ℕ) (w : ℕ) (f : Function) → w ≤ GREATEST_WIDTH → OperandsFit ws w f → IsShort f
-short ws w (Const k) h fits = let more : 2 ^ w ≤ 2 ^ 32 = pow_mono h in omega arith
-short ws w Input h fits = tt
-short ws w (Not a) h fits = tt
-short ws w (And a b) h fits = tt
-short ws w (Or a b) h fits = tt
-short ws w (Xor a b) h fits = tt
-short ws w (Mux s a b) h fits = tt
-short ws w (Add a b) h fits = tt
-short ws w (Sub a b) h fits = tt
-short ws w (Eq a b) h fits = tt
-short ws w (Less a b) h fits = tt
-short ws w (Gate s a) h fits = tt
-short ws w (Reg a) h fits = tt
+-- a constant fits its cell
+short : (ws : List ℕ) (w : ℕ) (f : Function) → OperandsFit ws w f → IsShort w f
+short ws w (Const k) fits = fits
+short ws w Input fits = tt
+short ws w (Not a) fits = tt
+short ws w (And a b) fits = tt
+short ws w (Or a b) fits = tt
+short ws w (Xor a b) fits = tt
+short ws w (Mux s a b) fits = tt
+short ws w (Add a b) fits = tt
+short ws w (Sub a b) fits = tt
+short ws w (Eq a b) fits = tt
+short ws w (Less a b) fits = tt
+short ws w (Gate s a) fits = tt
+short ws w (Reg a) fits = tt
 
 -- its cells
-cells_ready : (cells : List Cell) → NetsExist cells → WidthsFit cells → AreCellsReady cells
-cells_ready cells exist fit = λ n c is.
-    let right : HasRightWidths (widths_of cells) c = fit n c is in
-    record {
-      pins = All-from_recursion (λ a. a < length cells) (pins c.gate) (exist n c is);
-      width = right.1;
-      short = short (widths_of cells) c.width c.gate right.1 right.2;
-    }
+cells_ready : (cells : List Cell) → NetsExist cells → AreCellsReady cells
+cells_ready cells exist = λ n c is. record { pins = All-from_recursion (λ a. a < length cells) (pins c.gate) (exist n c is) }
+
+-- none has more bits than a wide word
+pub widths_below : (net : Netlist) → IsAccepted net → All (λ c. c.width ≤ 64) net.cells
+widths_below net accepted = all_of_at (λ c. c.width ≤ 64) net.cells (λ n c is. omega (arith, (accepted.widths n c is).1))
+
+-- none has more than a narrow one, where that was found
+pub narrow_widths : (cells : List declared.Cell) → are_narrow cells ≡ true → All (λ c. c.width ≤ 32) (map cell_of cells)
+narrow_widths cells are = all_of_at (λ c. c.width ≤ 32) (map cell_of cells) (λ n c is.
+    let (d, at_d, same) = moved_from cell_of cells n c is in
+    subst (λ (e : Cell). e.width ≤ 32) same (narrow d.width (all_at (λ d. nat_le d.width 32 ≡ true) cells n d (AllPass-from_list_all (λ d. nat_le d.width 32) cells are) at_d)))
+  where
+    narrow : (w : ℕ) → nat_le w 32 ≡ true → w ≤ 32
+    narrow w test = grind (arith, nat_tests)
 
 -- the nets of an event, its pulse's first
 abbrev nets_of_number : Option ℕ → List ℕ
@@ -266,7 +277,8 @@ ready_of_accepted net accepted =
     let ends = all_ends net.cells net.ports fit in
     let fresh : IsFresh [] (all_inputs net.ports) = all_fresh [] net.ports (λ k p is. (accepted.ports.each k p is).inputs) in
     record {
-      cells = cells_ready net.cells accepted.nets accepted.widths;
+      cells = cells_ready net.cells accepted.nets;
+      constants = λ n c is. short (widths_of net.cells) c.width c.gate (accepted.widths n c is).2;
       counts = All-from_slice_get net.ports (λ k p is. counts p.side p.ty net.cells p.nets (fit k p is));
       inputs = ends_of net.cells true (all_events net) ends;
       outputs = ends_of net.cells false (all_events net) ends;

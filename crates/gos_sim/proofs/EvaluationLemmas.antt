@@ -126,25 +126,20 @@ longer_part w gate last next xs on one room =
         ∙ ap (λ (ys : List _). part last xs ++ ys)
         (ap (take 1) (drop-drop last.count last.first xs ∙ ap (λ (m : ℕ). drop m xs) on.first) ∙ ap (λ (m : ℕ). take m (drop next.first xs)) (sym one))
 
--- the step that is next, and those behind it
-pub record IsNext {A : Type 0} (w : ℕ) (gate : A → declared.Gate) (n : ℕ) (xs : List A) (k : ℕ) (x : A) (count : ℕ) : Type 0 where
-  pub here : IsStepWithin count (record { net = n; width = w; gate = gate x })
-  pub others : All (IsStepWithin count) (steps_from w gate (n + 1) (drop (k + 1) xs))
-
 split : {A : Type 0} (w : ℕ) (gate : A → declared.Gate) (n : ℕ) (xs : List A) (k : ℕ) (x : A) → slice_get xs k ≡ Some x
     → steps_from w gate n (drop k xs) ≡ record { net = n; width = w; gate = gate x } ∷ steps_from w gate (n + 1) (drop (k + 1) xs)
 split w gate n xs k x is =
     ap (steps_from w gate n) (drop_one xs k x is)
     ∙ ap (λ (m : ℕ). record { net = n; width = w; gate = gate x } ∷ steps_from w gate m (drop (k + 1) xs)) (one_more n)
 
-pub next_step : {A : Type 0} (w : ℕ) (gate : A → declared.Gate) (n : ℕ) (xs : List A) (k : ℕ) (x : A) (count : ℕ) → slice_get xs k ≡ Some x
-    → All (IsStepWithin count) (steps_from w gate n (drop k xs)) → IsNext w gate n xs k x count
-next_step w gate n xs k x count is all =
-    let both = subst (All (IsStepWithin count)) (split w gate n xs k x is) all in
-    record {
-      here = All-head (IsStepWithin count) (record { net = n; width = w; gate = gate x }) (steps_from w gate (n + 1) (drop (k + 1) xs)) both;
-      others = All-tail (IsStepWithin count) (record { net = n; width = w; gate = gate x }) (steps_from w gate (n + 1) (drop (k + 1) xs)) both;
-    }
+-- what holds of all steps holds of the next, and of those behind it
+pub next_step : {A : Type 0} (P : Step → Type 0) (w : ℕ) (gate : A → declared.Gate) (n : ℕ) (xs : List A) (k : ℕ) (x : A) → slice_get xs k ≡ Some x
+    → All P (steps_from w gate n (drop k xs)) → P (record { net = n; width = w; gate = gate x }) × All P (steps_from w gate (n + 1) (drop (k + 1) xs))
+next_step P w gate n xs k x is all =
+    let both = subst (All P) (split w gate n xs k x is) all in (
+      All-head P (record { net = n; width = w; gate = gate x }) (steps_from w gate (n + 1) (drop (k + 1) xs)) both,
+      All-tail P (record { net = n; width = w; gate = gate x }) (steps_from w gate (n + 1) (drop (k + 1) xs)) both,
+    )
 
 pub next_after : {A : Type 0} (w : ℕ) (gate : A → declared.Gate) (n : ℕ) (xs : List A) (k : ℕ) (x : A) (v : Numbers) (y : ℕ) → slice_get xs k ≡ Some x
     → y ≡ shown w (function_of (gate x)) 0 0 (at v)
@@ -163,15 +158,16 @@ split_runs : (o : Operands) (runs : List Run) (k : ℕ) (r : Run) → slice_get 
     → flat_map (steps_of o) (drop k runs) ≡ steps_of o r ++ flat_map (steps_of o) (drop (k + 1) runs)
 split_runs o runs k r is = ap (flat_map (steps_of o)) (drop_one runs k r is) ∙ flat_map-cons (steps_of o) r (drop (k + 1) runs)
 
-pub run_within : (o : Operands) (runs : List Run) (k : ℕ) (r : Run) (count : ℕ) → slice_get runs k ≡ Some r
-    → All (IsStepWithin count) (flat_map (steps_of o) (drop k runs)) → All (IsStepWithin count) (steps_of o r)
-run_within o runs k r count is all =
-    All-left (IsStepWithin count) (steps_of o r) (flat_map (steps_of o) (drop (k + 1) runs)) (subst (All (IsStepWithin count)) (split_runs o runs k r is) all)
+-- what holds of all steps holds of those of that run, and of those behind it
+pub run_steps : (P : Step → Type 0) (o : Operands) (runs : List Run) (k : ℕ) (r : Run) → slice_get runs k ≡ Some r
+    → All P (flat_map (steps_of o) (drop k runs)) → All P (steps_of o r)
+run_steps P o runs k r is all =
+    All-left P (steps_of o r) (flat_map (steps_of o) (drop (k + 1) runs)) (subst (All P) (split_runs o runs k r is) all)
 
-pub runs_within : (o : Operands) (runs : List Run) (k : ℕ) (r : Run) (count : ℕ) → slice_get runs k ≡ Some r
-    → All (IsStepWithin count) (flat_map (steps_of o) (drop k runs)) → All (IsStepWithin count) (flat_map (steps_of o) (drop (k + 1) runs))
-runs_within o runs k r count is all =
-    All-right (IsStepWithin count) (steps_of o r) (flat_map (steps_of o) (drop (k + 1) runs)) (subst (All (IsStepWithin count)) (split_runs o runs k r is) all)
+pub later_steps : (P : Step → Type 0) (o : Operands) (runs : List Run) (k : ℕ) (r : Run) → slice_get runs k ≡ Some r
+    → All P (flat_map (steps_of o) (drop k runs)) → All P (flat_map (steps_of o) (drop (k + 1) runs))
+later_steps P o runs k r is all =
+    All-right P (steps_of o r) (flat_map (steps_of o) (drop (k + 1) runs)) (subst (All P) (split_runs o runs k r is) all)
 
 pub run_after : (o : Operands) (runs : List Run) (k : ℕ) (r : Run) (v w : Numbers) → slice_get runs k ≡ Some r → w ≡ after (steps_of o r) v
     → after (flat_map (steps_of o) (drop (k + 1) runs)) w ≡ after (flat_map (steps_of o) (drop k runs)) v

@@ -1,3 +1,4 @@
+pub mod SameLemmas
 pub mod PlaceLemmas
 pub mod StepLemmas
 pub mod LatchLemmas
@@ -19,6 +20,7 @@ pub mod SpotLemmas
 pub mod DraftLemmas
 pub mod CycleLemmas
 pub mod MachineLemmas
+pub mod WordLemmas
 pub mod PastLemmas
 pub mod VisitLemmas
 pub mod VisitLawLemmas

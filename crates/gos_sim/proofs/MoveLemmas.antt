@@ -6,7 +6,6 @@ use Rattle.std.proofs.lemmas.Bool.{cases_order}
 use Rattle.std.proofs.lemmas.List.{length-map, get_or-replicate, get_or_past, length-append, length-replicate, ext_get_or}
 use Rattle.std.proofs.lemmas.List.Elements.{All-contains, All-map, All-weaker}
 use Rattle.std.proofs.lemmas.Option.{slice_get-get_or, slice_get_within, get_or_from_slice_get}
-use Rattle.gos_types.specs.declared.widths.TheConstants.{GREATEST_WIDTH}
 use Rattle.gos_netlist.specs.declared.nets.Gate.TheVariants as gates
 use Rattle.gos_netlist.specs.Nets.{Function, Input, Const, Not, And, Or, Xor, Mux, Add, Sub, Eq, Less, Gate, Reg, Cell, pins}
 use Rattle.gos_netlist.specs.Seen.{function_of}
@@ -18,7 +17,7 @@ use Rattle.gos_sim.specs.declared.program.Step.{Step}
 use Rattle.gos_sim.specs.declared.program.Latch.{Latch}
 use Rattle.gos_sim.specs.EventNets.{Names, OnNets, OnNumber}
 use Rattle.gos_sim.specs.Cycle.{Gives, GivesAll, HasNumber, number_shown, pulse_shown}
-use Rattle.gos_sim.specs.inner.Program.{IsLatchWithin, IsShort, IsStepWithin, Spares, cell_of_step, reads}
+use Rattle.gos_sim.specs.inner.Program.{IsLatchWithin, IsShort, IsSized, IsStepWithin, Spares, cell_of_step, reads}
 use Rattle.gos_sim.specs.inner.Running.{AreLoaded, AreShown, AreTaken, HaveOnePin, KeepsOtherSteps, KeepsOthers}
 use Rattle.gos_sim.specs.inner.Ready.{AreApart, AreTwo}
 use Rattle.gos_sim.specs.inner.Evaluation.{bits_of}
@@ -86,20 +85,20 @@ pins_moved p (Less a b) = refl
 pins_moved p (Gate s a) = refl
 pins_moved p (Reg a) = refl
 
-short_moved : (p : ℕ → ℕ) (f : Function) → IsShort f → IsShort (moved p f)
-short_moved p Input h = tt
-short_moved p (Const k) h = h
-short_moved p (Not a) h = tt
-short_moved p (And a b) h = tt
-short_moved p (Or a b) h = tt
-short_moved p (Xor a b) h = tt
-short_moved p (Mux s a b) h = tt
-short_moved p (Add a b) h = tt
-short_moved p (Sub a b) h = tt
-short_moved p (Eq a b) h = tt
-short_moved p (Less a b) h = tt
-short_moved p (Gate s a) h = tt
-short_moved p (Reg a) h = tt
+short_moved : (bits : ℕ) (p : ℕ → ℕ) (f : Function) → IsShort bits f → IsShort bits (moved p f)
+short_moved bits p Input h = tt
+short_moved bits p (Const k) h = h
+short_moved bits p (Not a) h = tt
+short_moved bits p (And a b) h = tt
+short_moved bits p (Or a b) h = tt
+short_moved bits p (Xor a b) h = tt
+short_moved bits p (Mux s a b) h = tt
+short_moved bits p (Add a b) h = tt
+short_moved bits p (Sub a b) h = tt
+short_moved bits p (Eq a b) h = tt
+short_moved bits p (Less a b) h = tt
+short_moved bits p (Gate s a) h = tt
+short_moved bits p (Reg a) h = tt
 
 -- it shows what the function shows of the values at its places
 shown_moved : (w : ℕ) (p : ℕ → ℕ) (f : Function) (v : ℕ → ℕ) → shown w (moved p f) 0 0 v ≡ shown w f 0 0 (λ a. v (p a))
@@ -169,20 +168,20 @@ shown_bits w p (Less a b) v = refl
 shown_bits w p (Gate s a) v = refl
 shown_bits w p (Reg a) v = refl
 
-bits_small : (f : Function) (w : ℕ) → w ≤ GREATEST_WIDTH → bits_of f w ≤ GREATEST_WIDTH
-bits_small Input w h = omega arith
-bits_small (Const k) w h = omega arith
-bits_small (Not a) w h = h
-bits_small (And a b) w h = omega arith
-bits_small (Or a b) w h = omega arith
-bits_small (Xor a b) w h = omega arith
-bits_small (Mux s a b) w h = omega arith
-bits_small (Add a b) w h = h
-bits_small (Sub a b) w h = h
-bits_small (Eq a b) w h = omega arith
-bits_small (Less a b) w h = omega arith
-bits_small (Gate s a) w h = omega arith
-bits_small (Reg a) w h = omega arith
+bits_small : (f : Function) (w bits : ℕ) → w ≤ bits → bits_of f w ≤ bits
+bits_small Input w bits h = omega arith
+bits_small (Const k) w bits h = omega arith
+bits_small (Not a) w bits h = h
+bits_small (And a b) w bits h = omega arith
+bits_small (Or a b) w bits h = omega arith
+bits_small (Xor a b) w bits h = omega arith
+bits_small (Mux s a b) w bits h = omega arith
+bits_small (Add a b) w bits h = h
+bits_small (Sub a b) w bits h = h
+bits_small (Eq a b) w bits h = omega arith
+bits_small (Less a b) w bits h = omega arith
+bits_small (Gate s a) w bits h = omega arith
+bits_small (Reg a) w bits h = omega arith
 
 -- steps show at places what they show at nets
 shown_by_net : (places v : Numbers) (old new : List Step) → AreStepsMoved (at places) old new → All (IsStepWithin (length places)) old → AreShown new v
@@ -310,8 +309,14 @@ step_within places count s t numbering m within =
       net = subst (λ (n : ℕ). n < count) (sym m.net) (numbering.below s.net within.net);
       reads = subst (All (λ a. a < count)) (sym (reads_moved (at places) s t m))
           (All-map (λ a. a < count) (at places) (reads s) (All-weaker (λ a. a < length places) (λ a. at places a < count) numbering.below (reads s) within.reads));
-      width = subst (λ (w : ℕ). w ≤ GREATEST_WIDTH) (sym m.width) (bits_small (function_of s.gate) s.width within.width);
-      short = subst IsShort (sym m.gate) (short_moved (at places) (function_of s.gate) within.short);
+    }
+
+-- it has at most as many bits
+pub bits_moved : (bits : ℕ) (p : ℕ → ℕ) (s t : Step) → IsStepMoved p s t → IsSized bits s → IsSized bits t
+bits_moved bits p s t m has =
+    record {
+      width = subst (λ (w : ℕ). w ≤ bits) (sym m.width) (bits_small (function_of s.gate) s.width bits has.width);
+      short = subst (IsShort bits) (sym m.gate) (short_moved bits p (function_of s.gate) has.short);
     }
 
 -- a step that spares what another one reads does so at places

@@ -185,7 +185,7 @@ steps_at_within cells n c ready at_n = by_test (is_source (function_of c.gate))
     by_test true = All-nil (IsStepWithin (length cells))
     by_test false =
         All-cons (IsStepWithin (length cells)) (record { net = n; width = c.width; gate = c.gate }) []
-        (record { net = slice_get_within cells n c at_n; reads = cell.pins; width = cell.width; short = cell.short }) (All-nil (IsStepWithin (length cells)))
+        (record { net = slice_get_within cells n c at_n; reads = cell.pins }) (All-nil (IsStepWithin (length cells)))
 
 -- it is a cell
 pub below_cells : (cells : List declared.Cell) (order : List ℕ) (i n : ℕ) → IsOrder (map cell_of cells) order → slice_get order i ≡ Some n → n < length cells

@@ -54,9 +54,9 @@ repeated net registers values given shows cycle =
     }
 
 -- where the last cycle left the values as they were, and they stand still
-pub still_repeats : (net : Netlist) (m : Machine) (active : Active) (registers values before : Numbers) (still : Bool) (past : Past) → IsTrue still
-    → past ≡ Still → IsBuilt net m active registers values before still past → Repeats (seen net m registers values before past)
-still_repeats net m active registers values before still past stands is built =
+pub still_repeats : (bits : ℕ) (net : Netlist) (m : Machine) (active : Active) (registers values before : Numbers) (still : Bool) (past : Past) → IsTrue still
+    → past ≡ Still → IsBuilt bits net m active registers values before still past → Repeats (seen net m registers values before past)
+still_repeats bits net m active registers values before still past stands is built =
     subst (λ (p : Past). Repeats (seen net m registers values before p)) (sym is)
     (repeated net (nets registers) (nets values) [] shows
     (machine_cycle net m built.machine registers values registers (nets values ∷ nets values ∷ []) [] shows built.others

@@ -274,3 +274,10 @@ pub known_alone : (o : Operands) (runs : List Run) (k : ℕ) (one : Run) (old : 
     → IsOneWithin o (flat_map (steps_of o) runs) k one old
 known_alone o runs k one old fit alone low within =
     one_within o (flat_map (steps_of o) runs) k one old (one_alone o (flat_map (steps_of o) runs) k one low (alone o fit).2) within
+
+-- what holds of all steps holds of a step alone
+pub alone_steps : (P : Step → Type 0) (o : Operands) (runs : List Run) (k : ℕ) (one : Run) → All (Fits o) runs → IsAlone runs k one
+    → k < length (flat_map (steps_of o) runs) → All P (flat_map (steps_of o) runs) → All P (steps_of o one)
+alone_steps P o runs k one fit alone low all =
+    let is = one_alone o (flat_map (steps_of o) runs) k one low (alone o fit).2 in
+    subst (All P) (sym is.own) (All-cons P is.step [] (all_at P (flat_map (steps_of o) runs) k is.step all is.is) (All-nil P))

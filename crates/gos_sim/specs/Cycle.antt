@@ -1,8 +1,8 @@
 -- What a simulator is seen as, and what a cycle does.
 --
 -- Read first: EventNets; Settling of gos_netlist.
-use Rattle.std.specs.Prelude.{◌≡◌, ℕ, ◌<◌, ◌^◌, Bool, List, [], ◌∷◌, take, Option, Some, None, slice_get, length, map, replicate, nat_eq, if◌then◌else◌}
-use Rattle.gos_netlist.specs.Nets.{Netlist}
+use Rattle.std.specs.Prelude.{◌≡◌, ℕ, ◌<◌, ◌^◌, ◌⊎◌, Bool, Contains, List, [], ◌∷◌, take, Option, Some, None, slice_get, length, map, replicate, nat_eq, if◌then◌else◌}
+use Rattle.gos_netlist.specs.Nets.{Cell, Netlist}
 use Rattle.gos_netlist.specs.Settling.{Numbers, at, Settling, next_registers}
 use Rattle.gos_sim.specs.declared.event_nets.EventNets.{EventNets}
 use Rattle.gos_sim.specs.declared.pulse.Pulse.{Pulse}
@@ -19,9 +19,9 @@ pub record Simulator : Type 0 where
 abbrev pub at_reset : Netlist → Simulator
 at_reset net = record { net = net; registers = replicate (length net.cells) 0; settlings = [] }
 
--- a number of at most 32 bits
-abbrev pub IsWord : ℕ → Type 0
-IsWord n = n < 2 ^ 32
+-- a number of at most 32 bits, or of as many as one of these cells has
+abbrev pub IsWord : List Cell → ℕ → Type 0
+IsWord cells n = (n < 2 ^ 32) ⊎ ((c : Cell) × Contains cells c × (n < 2 ^ c.width))
 
 -- the value of a pulse's net
 abbrev pub bit : Bool → ℕ

@@ -15,3 +15,4 @@ pub mod Marks
 pub mod Readers
 pub mod Active
 pub mod Machine
+pub mod Sizes

@@ -1,8 +1,8 @@
 // A cycle in which little changes: only what hangs on the changes is evaluated.
 ghost use Rattle.std.specs.Prelude.{◌≡◌, ℕ, ◌+◌, ◌<◌, ◌/◌, ◌^◌, ◌⊎◌, ◌++◌, ◌∷◌, [], All, IfOk, IsFalse, IsTrue, length, set};
 ghost use Rattle.gos_netlist.specs.Settling.{at};
-ghost use Rattle.gos_sim.specs.Cycle.{GivesAll, IsWord};
-ghost use Rattle.gos_sim.specs.inner.Program.{IsLatchWithin, IsStepWithin};
+ghost use Rattle.gos_sim.specs.Cycle.{GivesAll};
+ghost use Rattle.gos_sim.specs.inner.Program.{HaveBits, IsLatchWithin, IsStepWithin};
 ghost use Rattle.gos_sim.specs.inner.Running.{AreShown, AreTaken};
 ghost use Rattle.gos_sim.specs.inner.Marks.{AreUnmarked};
 ghost use Rattle.gos_sim.specs.inner.Readers.{ReadAll};
@@ -21,6 +21,8 @@ use crate::pulse::Pulse;
 use crate::readers::readers_of;
 use crate::running::{latch, show};
 use crate::wake::Wake;
+use crate::word::Word;
+use crate::words::Words;
 use gos_types::NoMemory;
 use std::alloc::Global;
 
@@ -48,13 +50,15 @@ pub struct Active {
 }
 
 // Evaluates a step, into the values.
-fn show_step(wake: &mut Wake, program: &Program, step: usize, values: &mut [u32])
+fn show_step<W: Word>(wake: &mut Wake, program: &Program, step: usize, values: &mut Words<W>)
     requires steps { All (IsStepWithin (length values.old)) program.now }
+    requires sized { HaveBits W.bits program.now }
     requires step { step < length program.now }
     requires wake { IsWake (length values.old) wake.old }
     ensures evaluated { IsEvaluated program.now step values.old values.new }
     ensures follows { Follows wake.old wake.new values.old values.new }
     ensures wake { IsWake (length values.old) wake.new }
+    ensures long { length values.new ≡ length values.old }
 {
     if let Some(net) = program.evaluate_step(step, values) {
         wake.note(net);
@@ -62,18 +66,25 @@ fn show_step(wake: &mut Wake, program: &Program, step: usize, values: &mut [u32]
 }
 
 // Takes the value of a register's pin over, and notes the register where it had another one.
-fn take_latch(changed: &mut Log, latch: &Latch, values: &[u32], registers: &mut [u32])
+fn take_latch<W: Word>(
+    changed: &mut Log,
+    latch: &Latch,
+    values: &Words<W>,
+    registers: &mut Words<W>,
+)
     requires pin { latch.now.pin < length values.now }
     requires net { latch.now.net < length registers.old }
     ensures taken { registers.new ≡ set registers.old latch.now.net (at values.now latch.now.pin) }
     ensures noted { (p : ℕ) → Lacks changed.new p → Lacks changed.old p × (at registers.new p ≡ at registers.old p) }
     ensures listed { (changed.new.places.items ≡ changed.old.places.items) ⊎ (changed.new.places.items ≡ changed.old.places.items ++ latch.now.net ∷ []) }
+    ensures held { length registers.new ≡ length registers.old }
 {
-    let value = values[latch.pin as usize];
-    if registers[latch.net as usize] == value {
+    let net = latch.net as usize;
+    let value = values.get(latch.pin as usize);
+    if registers.get(net).is(value) {
         return;
     }
-    registers[latch.net as usize] = value;
+    registers.set(net, value);
     changed.note(latch.net);
 }
 
@@ -145,20 +156,21 @@ impl Active {
     }
 
     // Runs a cycle. The answer says whether the values stand still after it.
-    pub fn cycle(
+    pub fn cycle<W: Word>(
         &mut self,
         machine: &Machine,
         course: Course,
         inputs: &[Pulse],
         outputs: &mut [Pulse],
-        registers: &mut [u32],
-        values: &mut [u32],
+        registers: &mut Words<W>,
+        values: &mut Words<W>,
     ) -> bool
         requires ready { IsRunnable (length values.old) (plan_of machine.now) }
         requires same { length registers.old ≡ length values.old }
         requires inputs { length inputs.now ≡ length machine.now.inputs.items }
         requires outputs { length outputs.old ≡ length machine.now.outputs.items }
-        requires numbers { All (λ p. IsWord p.value) inputs.now }
+        requires numbers { All (λ p. p.value < 2 ^ W.bits) inputs.now }
+        requires sized { HaveBits W.bits machine.now.program }
         requires still { IsTrue (is_rest course) → IsStill (plan_of machine.now) registers.old values.old }
         requires given { IsTrue (is_rest course) → GivesAll machine.now.inputs.items inputs.now values.old }
         requires few { IsTrue (is_few course) → IsTrue self.old.settled }
@@ -171,6 +183,8 @@ impl Active {
         ensures all { IsTrue (is_all course) → IsTrue self.new.wake.touched.full }
         ensures awake { IsAwake (length values.old) machine.now.program machine.now.latches.items self.new }
         ensures settled { HasSettled machine.now.program machine.now.latches.items self.new values.new registers.new }
+        ensures long { length values.new ≡ length values.old }
+        ensures held { length registers.new ≡ length registers.old }
     {
         match course {
             Course::Rest => machine.run(inputs, outputs, registers, values, true),
@@ -184,8 +198,15 @@ impl Active {
     }
 
     // Evaluates an item: a step into the values, or a latch into the registers.
-    fn follow(&mut self, machine: &Machine, item: usize, values: &mut [u32], registers: &mut [u32])
+    fn follow<W: Word>(
+        &mut self,
+        machine: &Machine,
+        item: usize,
+        values: &mut Words<W>,
+        registers: &mut Words<W>,
+    )
         requires ready { IsRunnable (length values.old) (plan_of machine.now) }
+        requires sized { HaveBits W.bits machine.now.program }
         requires same { length registers.old ≡ length values.old }
         requires wake { IsWake (length values.old) self.old.wake }
         requires reading { ReadAll machine.now.program machine.now.latches.items self.old.wake.readers }
@@ -194,6 +215,8 @@ impl Active {
         ensures reading { ReadAll machine.now.program machine.now.latches.items self.new.wake.readers }
         ensures stand { Stand machine.now.program machine.now.latches.items self.new.wake.marks.words.items values.new registers.new }
         ensures swept { SweepsOn machine.now.program machine.now.latches.items self.old values.old registers.old self.new values.new registers.new }
+        ensures long { length values.new ≡ length values.old }
+        ensures held { length registers.new ≡ length registers.old }
     {
         let steps = machine.program.len();
         if item < steps {
@@ -209,14 +232,15 @@ impl Active {
     }
     // Evaluates what is marked, and what hangs on it, until nothing is left. Answers whether it came to an end: it gives up where
     // that is more than so many items.
-    fn sweep(
+    fn sweep<W: Word>(
         &mut self,
         machine: &Machine,
         most: usize,
-        values: &mut [u32],
-        registers: &mut [u32],
+        values: &mut Words<W>,
+        registers: &mut Words<W>,
     ) -> bool
         requires ready { IsRunnable (length values.old) (plan_of machine.now) }
+        requires sized { HaveBits W.bits machine.now.program }
         requires same { length registers.old ≡ length values.old }
         requires wake { IsWake (length values.old) self.old.wake }
         requires reading { ReadAll machine.now.program machine.now.latches.items self.old.wake.readers }
@@ -227,6 +251,8 @@ impl Active {
         ensures shown { IsTrue result → AreShown machine.now.program values.new }
         ensures taken { IsTrue result → AreTaken machine.now.latches.items values.new registers.new }
         ensures swept { SweepsOn machine.now.program machine.now.latches.items self.old values.old registers.old self.new values.new registers.new }
+        ensures long { length values.new ≡ length values.old }
+        ensures held { length registers.new ≡ length registers.old }
     {
         let mut word = 0;
         for _ in 0..most {
@@ -242,11 +268,17 @@ impl Active {
         false
     }
     // Gives the values what the inputs and the registers have, and marks what reads those that changed.
-    fn begin(&mut self, machine: &Machine, inputs: &[Pulse], registers: &[u32], values: &mut [u32])
+    fn begin<W: Word>(
+        &mut self,
+        machine: &Machine,
+        inputs: &[Pulse],
+        registers: &Words<W>,
+        values: &mut Words<W>,
+    )
         requires ready { IsRunnable (length values.old) (plan_of machine.now) }
         requires same { length registers.now ≡ length values.old }
         requires inputs { length inputs.now ≡ length machine.now.inputs.items }
-        requires numbers { All (λ p. IsWord p.value) inputs.now }
+        requires numbers { All (λ p. p.value < 2 ^ W.bits) inputs.now }
         requires awake { IsAwake (length values.old) machine.now.program machine.now.latches.items self.old }
         requires settled { IsSettled machine.now.program machine.now.latches.items self.old values.old registers.now }
         ensures wake { IsWake (length values.old) self.new.wake }
@@ -254,6 +286,7 @@ impl Active {
         ensures stand { Stand machine.now.program machine.now.latches.items self.new.wake.marks.words.items values.new registers.now }
         ensures begun { HasBegun (plan_of machine.now) inputs.now registers.now values.new }
         ensures swept { HasSwept machine.now.program machine.now.latches.items values.old values.new registers.now self.new values.new registers.now }
+        ensures long { length values.new ≡ length values.old }
     {
         self.wake.touched.clear();
         self.wake.give(&machine.inputs, inputs, values);
@@ -263,19 +296,20 @@ impl Active {
     }
     // Runs a cycle, where the values are those of the one before, and evaluates few cells if few change. The answer says whether
     // the values stand still after it.
-    pub fn run(
+    pub fn run<W: Word>(
         &mut self,
         machine: &Machine,
         inputs: &[Pulse],
         outputs: &mut [Pulse],
-        registers: &mut [u32],
-        values: &mut [u32],
+        registers: &mut Words<W>,
+        values: &mut Words<W>,
     ) -> bool
         requires ready { IsRunnable (length values.old) (plan_of machine.now) }
         requires same { length registers.old ≡ length values.old }
         requires inputs { length inputs.now ≡ length machine.now.inputs.items }
         requires outputs { length outputs.old ≡ length machine.now.outputs.items }
-        requires numbers { All (λ p. IsWord p.value) inputs.now }
+        requires numbers { All (λ p. p.value < 2 ^ W.bits) inputs.now }
+        requires sized { HaveBits W.bits machine.now.program }
         requires awake { IsAwake (length values.old) machine.now.program machine.now.latches.items self.old }
         requires settled { IsSettled machine.now.program machine.now.latches.items self.old values.old registers.old }
         ensures run { RunsThrough (plan_of machine.now) inputs.now registers.old values.new outputs.new registers.new }
@@ -283,6 +317,8 @@ impl Active {
         ensures awake { IsAwake (length values.old) machine.now.program machine.now.latches.items self.new }
         ensures settled { IsSettled machine.now.program machine.now.latches.items self.new values.new registers.new }
         ensures noted { (p : ℕ) → Lacks self.new.wake.touched p → at values.new p ≡ at values.old p }
+        ensures long { length values.new ≡ length values.old }
+        ensures held { length registers.new ≡ length registers.old }
     {
         self.begin(machine, inputs, registers, values);
         let most = machine.program.len() / PART + LEAST;

@@ -3,7 +3,7 @@ ghost use Rattle.std.specs.Prelude.{◌≡◌, ℕ, ◌+◌, ◌<◌, ◌≤◌,
 ghost use Rattle.std.specs.List.{flat_map};
 ghost use Rattle.gos_netlist.specs.Seen.{cell_of, function_of, number_of};
 ghost use Rattle.gos_netlist.specs.Settling.{Numbers, at};
-ghost use Rattle.gos_sim.specs.inner.Program.{HaveOneCell, IsShort, IsStepWithin, SparesEarlier, is_source, steps_at, steps_named};
+ghost use Rattle.gos_sim.specs.inner.Program.{HaveBits, HaveOneCell, IsStepWithin, SparesEarlier, is_source, steps_at, steps_named};
 ghost use Rattle.gos_sim.specs.inner.Ready.{AreCellsReady};
 ghost use Rattle.gos_sim.specs.inner.Drafts.{AddsSteps, AreCounted, AreUpTo, IsDraft, IsDraftOf};
 ghost use Rattle.gos_sim.specs.inner.Places.{AreStepsMoved, none};
@@ -17,6 +17,8 @@ use crate::operations::{
 use crate::places::step_moved;
 use crate::program::Step;
 use crate::spots::{Spot, Spots, alone, spots_of};
+use crate::word::Word;
+use crate::words::Words;
 use gos_netlist::{Cell, Gate, NetId};
 use gos_types::NoMemory;
 use std::alloc::Global;
@@ -57,7 +59,7 @@ pub struct Run {
 #[derive(Drop)]
 pub struct Operands {
     /// The constants.
-    pub constants: Vec<u32>,
+    pub constants: Vec<u64>,
     /// The pins of those with one.
     pub pins: Vec<NetId>,
     /// The pins of those with two.
@@ -96,12 +98,14 @@ impl Model for Program {
 
 impl Program {
     // Evaluates the steps, in their order.
-    pub fn evaluate(&self, values: &mut [u32])
+    pub fn evaluate<W: Word>(&self, values: &mut Words<W>)
         requires steps { All (IsStepWithin (length values.old)) self.now }
+        requires sized { HaveBits W.bits self.now }
         requires order { SparesEarlier self.now }
         requires one { HaveOneCell self.now }
         ensures shown { AreShown self.now values.new }
         ensures others { KeepsOtherSteps self.now values.old values.new }
+        ensures long { length values.new ≡ length values.old }
     {
         evaluate_runs(&self.runs, &self.operands, values);
     }
@@ -122,11 +126,13 @@ impl Program {
     }
 
     // Evaluates a step by itself. The answer is its net, if its value has changed.
-    pub fn evaluate_step(&self, step: usize, values: &mut [u32]) -> Option<u32>
+    pub fn evaluate_step<W: Word>(&self, step: usize, values: &mut Words<W>) -> Option<u32>
         requires steps { All (IsStepWithin (length values.old)) self.now }
+        requires sized { HaveBits W.bits self.now }
         requires step { step < length self.now }
         ensures evaluated { IsEvaluated self.now step values.old values.new }
         ensures told { Tells result values.old values.new }
+        ensures long { length values.new ≡ length values.old }
     {
         evaluate_alone(&self.runs, &self.spots, &self.operands, step, values)
     }
@@ -175,26 +181,28 @@ fn first_gate<O: Operation>(operation: &O, operands: &[O::Operand]) -> Gate
 }
 
 // Evaluates a step of runs by itself. The answer is its net, if its value has changed.
-fn evaluate_alone(
+fn evaluate_alone<W: Word>(
     runs: &[Run],
     spots: &[Spot],
     operands: &Operands,
     step: usize,
-    values: &mut [u32],
+    values: &mut Words<W>,
 ) -> Option<u32>
     requires fit { All (Fits operands.now) runs.now }
     requires spots { All (IsSpot runs.now) spots.now }
     requires numbered { All IsNumbered runs.now }
     requires steps { All (IsStepWithin (length values.old)) (flat_map (steps_of operands.now) runs.now) }
+    requires sized { HaveBits W.bits (flat_map (steps_of operands.now) runs.now) }
     requires step { step < length (flat_map (steps_of operands.now) runs.now) }
     ensures evaluated { IsEvaluated (flat_map (steps_of operands.now) runs.now) step values.old values.new }
     ensures told { Tells result values.old values.new }
+    ensures long { length values.new ≡ length values.old }
 {
     let one = alone(runs, spots, step);
     let net = one.net as usize;
-    let before = values[net];
+    let before = values.get(net);
     evaluate_run(&one, operands, values);
-    if values[net] == before {
+    if values.get(net).is(before) {
         None
     } else {
         Some(one.net)
@@ -202,10 +210,12 @@ fn evaluate_alone(
 }
 
 // Evaluates the steps of runs.
-fn evaluate_runs(runs: &[Run], operands: &Operands, values: &mut [u32])
+fn evaluate_runs<W: Word>(runs: &[Run], operands: &Operands, values: &mut Words<W>)
     requires fit { All (Fits operands.now) runs.now }
     requires steps { All (IsStepWithin (length values.old)) (flat_map (steps_of operands.now) runs.now) }
-    ensures { values.new ≡ after (flat_map (steps_of operands.now) runs.now) values.old }
+    requires sized { HaveBits W.bits (flat_map (steps_of operands.now) runs.now) }
+    ensures values { values.new ≡ after (flat_map (steps_of operands.now) runs.now) values.old }
+    ensures long { length values.new ≡ length values.old }
 {
     for run in runs {
         evaluate_run(run, operands, values);
@@ -213,10 +223,12 @@ fn evaluate_runs(runs: &[Run], operands: &Operands, values: &mut [u32])
 }
 
 // Evaluates the steps of a run.
-fn evaluate_run(run: &Run, operands: &Operands, values: &mut [u32])
+fn evaluate_run<W: Word>(run: &Run, operands: &Operands, values: &mut Words<W>)
     requires fits { Fits operands.now run.now }
     requires steps { All (IsStepWithin (length values.old)) (steps_of operands.now run.now) }
-    ensures { values.new ≡ after (steps_of operands.now run.now) values.old }
+    requires sized { HaveBits W.bits (steps_of operands.now run.now) }
+    ensures values { values.new ≡ after (steps_of operands.now run.now) values.old }
+    ensures long { length values.new ≡ length values.old }
 {
     let net = run.net;
     let width = run.width;
@@ -246,14 +258,24 @@ fn part<'a, T>(run: &Run, operands: &'a [T]) -> &'a [T]
 }
 
 // Evaluates steps that do the same, with these operands and at nets from this one on.
-fn evaluate_part<O: Operation>(operation: &O, net: u32, operands: &[O::Operand], values: &mut [u32])
+fn evaluate_part<O: Operation, W: Word>(
+    operation: &O,
+    net: u32,
+    operands: &[O::Operand],
+    values: &mut Words<W>,
+)
     requires steps { All (IsStepWithin (length values.old)) (steps_from (O.width operation.now) (O.gate operation.now) net operands.now) }
-    ensures { values.new ≡ after (steps_from (O.width operation.now) (O.gate operation.now) net operands.now) values.old }
+    requires sized { HaveBits W.bits (steps_from (O.width operation.now) (O.gate operation.now) net operands.now) }
+    ensures values { values.new ≡ after (steps_from (O.width operation.now) (O.gate operation.now) net operands.now) values.old }
+    ensures long { length values.new ≡ length values.old }
 {
+    let many = values.len();
     let mut place = net as usize;
     for operand in operands {
         let value = operation.value(operand, values);
-        values[place] = value;
+        // So the next place is a number too.
+        prove!(place < many);
+        values.set(place, value);
         place += 1;
     }
 }
@@ -396,14 +418,13 @@ impl Operands {
     // Adds the operand of a step, and gives the run of that step alone.
     fn add(&mut self, step: Step) -> Result<Run, NoMemory>
         requires inside { IsFalse (is_source (function_of step.gate)) }
-        requires short { IsShort (function_of step.gate) }
         requires room { AreUpTo 4294967294 self.old }
         ensures { IfOk result (IsAdded self.old self.new step) }
     {
         let (net, width) = (step.net, step.width);
         let (kind, width, first) = match step.gate {
             Gate::Input | Gate::Reg(_) => unreachable!(),
-            Gate::Const(k) => (Kind::Const, 0, added(&mut self.constants, k as u32)?),
+            Gate::Const(k) => (Kind::Const, 0, added(&mut self.constants, k)?),
             Gate::Not(a) => (Kind::Not, width, added(&mut self.pins, a)?),
             Gate::And(a, b) => (Kind::And, 0, added(&mut self.pairs, Pair { a, b })?),
             Gate::Or(a, b) => (Kind::Or, 0, added(&mut self.pairs, Pair { a, b })?),

@@ -1,10 +1,11 @@
 // A netlist as it runs: its events, its steps and its latches.
 ghost use Rattle.std.specs.Prelude.{◌≡◌, ◌+◌, ◌<◌, ◌≤◌, ◌^◌, All, IfOk, IsTrue, length, map};
 ghost use Rattle.gos_netlist.specs.Seen.{number_of};
-ghost use Rattle.gos_sim.specs.Cycle.{GivesAll, IsWord};
+ghost use Rattle.gos_sim.specs.Cycle.{GivesAll};
 ghost use Rattle.gos_sim.specs.inner.Machine.{IsMachine, IsRunnable, IsStill, RunsThrough, Settles, SettlesAtReset, plan_of};
 ghost use Rattle.gos_netcheck.specs.Schedule.{IsSchedule};
 ghost use Rattle.gos_netcheck.specs.Levels.{AreLevels};
+ghost use Rattle.gos_sim.specs.inner.Program.{HaveBits};
 ghost use Rattle.gos_sim.specs.inner.Ready.{IsReady};
 
 use crate::chains::Chains;
@@ -16,6 +17,8 @@ use crate::places::{Places, events_moved, latches_moved, numbered};
 use crate::program::{Latch, latches};
 use crate::pulse::Pulse;
 use crate::running::{give, is_given, latch, load, show};
+use crate::word::Word;
+use crate::words::Words;
 use gos_netlist::{NetId, Netlist};
 use gos_types::NoMemory;
 use std::alloc::Global;
@@ -72,7 +75,7 @@ pub fn machine_of(
 
 impl Machine {
     // Whether the values of the nets are already those of a cycle with these inputs: `still` says whether they stand still.
-    pub fn rests(&self, inputs: &[Pulse], values: &[u32], still: bool) -> bool
+    pub fn rests<W: Word>(&self, inputs: &[Pulse], values: &Words<W>, still: bool) -> bool
         requires ready { IsRunnable (length values.now) (plan_of self.now) }
         requires inputs { length inputs.now ≡ length self.now.inputs.items }
         ensures still { IsTrue result → IsTrue still }
@@ -84,24 +87,27 @@ impl Machine {
     // Runs a cycle: from the registers and the inputs to the values of the nets, the outputs and the next registers. `rests`
     // says whether the values are those of the cycle as they are, and the answer whether they stand still after it: then
     // another cycle with the same inputs has nothing to evaluate.
-    pub fn run(
+    pub fn run<W: Word>(
         &self,
         inputs: &[Pulse],
         outputs: &mut [Pulse],
-        registers: &mut [u32],
-        values: &mut [u32],
+        registers: &mut Words<W>,
+        values: &mut Words<W>,
         rests: bool,
     ) -> bool
         requires ready { IsRunnable (length values.old) (plan_of self.now) }
         requires same { length registers.old ≡ length values.old }
         requires inputs { length inputs.now ≡ length self.now.inputs.items }
         requires outputs { length outputs.old ≡ length self.now.outputs.items }
-        requires numbers { All (λ p. IsWord p.value) inputs.now }
+        requires numbers { All (λ p. p.value < 2 ^ W.bits) inputs.now }
+        requires sized { HaveBits W.bits self.now.program }
         requires still { IsTrue rests → IsStill (plan_of self.now) registers.old values.old }
         requires given { IsTrue rests → GivesAll self.now.inputs.items inputs.now values.old }
         ensures run { RunsThrough (plan_of self.now) inputs.now registers.old values.new outputs.new registers.new }
         ensures still { IsTrue result → IsStill (plan_of self.now) registers.new values.new }
         ensures rests { IsTrue rests → values.new ≡ values.old }
+        ensures long { length values.new ≡ length values.old }
+        ensures held { length registers.new ≡ length registers.old }
     {
         if rests {
             show(&self.outputs, values, outputs);
@@ -113,12 +119,14 @@ impl Machine {
     }
 
     // Settles the values of the nets for the registers and the inputs.
-    fn settle(&self, inputs: &[Pulse], registers: &[u32], values: &mut [u32])
+    fn settle<W: Word>(&self, inputs: &[Pulse], registers: &Words<W>, values: &mut Words<W>)
         requires ready { IsRunnable (length values.old) (plan_of self.now) }
         requires same { length registers.now ≡ length values.old }
         requires inputs { length inputs.now ≡ length self.now.inputs.items }
-        requires numbers { All (λ p. IsWord p.value) inputs.now }
+        requires numbers { All (λ p. p.value < 2 ^ W.bits) inputs.now }
+        requires sized { HaveBits W.bits self.now.program }
         ensures settles { Settles (plan_of self.now) inputs.now registers.now values.new }
+        ensures long { length values.new ≡ length values.old }
     {
         give(&self.inputs, inputs, values);
         load(&self.latches, registers, values);
@@ -126,21 +134,28 @@ impl Machine {
     }
 
     // Settles the values of the nets where all registers and inputs are 0.
-    pub fn settle_at_reset(&self, values: &mut [u32])
+    pub fn settle_at_reset<W: Word>(&self, values: &mut Words<W>)
         requires ready { IsRunnable (length values.old) (plan_of self.now) }
+        requires sized { HaveBits W.bits self.now.program }
         ensures settles { SettlesAtReset (plan_of self.now) values.new }
+        ensures long { length values.new ≡ length values.old }
     {
-        values.fill(0);
+        values.clear();
         self.program.evaluate(values);
     }
 
     // The values of so many nets where all registers and inputs are 0.
-    pub fn values_at_reset(&self, alloc: Global, count: usize) -> Result<Vec<u32>, NoMemory>
+    pub fn values_at_reset<W: Word>(
+        &self,
+        alloc: Global,
+        count: usize,
+    ) -> Result<Words<W>, NoMemory>
         requires ready { IsRunnable count (plan_of self.now) }
-        ensures each { IfOk result (λ values. length values.items ≡ count) }
-        ensures settles { IfOk result (λ values. SettlesAtReset (plan_of self.now) values.items) }
+        requires sized { HaveBits W.bits self.now.program }
+        ensures each { IfOk result (λ values. length values ≡ count) }
+        ensures settles { IfOk result (λ values. SettlesAtReset (plan_of self.now) values) }
     {
-        let mut values = vec![in alloc; 0; count]?;
+        let mut values = Words::zeros(alloc, count)?;
         self.settle_at_reset(&mut values);
         Ok(values)
     }

@@ -1,13 +1,15 @@
 // What steps do: an operation for each kind of gate, which gives the value of a step from those of the nets that it reads.
-ghost use Rattle.std.specs.Prelude.{◌≡◌, ℕ, ◌+◌, ◌-◌, ◌<◌, ◌≤◌, ◌^◌, ◌%◌, length, nat_eq, if◌then◌else◌};
+ghost use Rattle.std.specs.Prelude.{◌≡◌, ℕ, ◌<◌, length, nat_eq, if◌then◌else◌};
 ghost use Rattle.gos_netlist.specs.declared.nets.Gate as declared;
 ghost use Rattle.gos_netlist.specs.declared.nets.Gate.TheVariants as gates;
 ghost use Rattle.gos_netlist.specs.Seen.{function_of};
 ghost use Rattle.gos_netlist.specs.Settling.{at, shown};
+ghost use Rattle.gos_sim.specs.inner.Program.{HasBits};
 ghost use Rattle.gos_sim.specs.inner.Ready.{IsCellWithin};
 
+use crate::word::Word;
+use crate::words::Words;
 use gos_netlist::{Gate, NetId};
-use gos_types::greatest;
 
 /// The nets that a step of two pins reads.
 #[derive(Clone, Copy)]
@@ -39,9 +41,10 @@ pub trait Operation {
     ghost gate: { Self → Self.Operand → declared.Gate };
 
     /// What a step shows, from the values of the nets.
-    fn value(&self, operand: &Self::Operand, values: &[u32]) -> u32
-        requires { IsCellWithin (length values.now) (record { width = width self.now; gate = function_of (gate self.now operand.now) }) }
-        ensures { result ≡ shown (width self.now) (function_of (gate self.now operand.now)) 0 0 (at values.now) };
+    fn value<W: Word>(&self, operand: &Self::Operand, values: &Words<W>) -> W
+        requires within { IsCellWithin (length values.now) (record { width = width self.now; gate = function_of (gate self.now operand.now) }) }
+        requires sized { HasBits W.bits (record { width = width self.now; gate = function_of (gate self.now operand.now) }) }
+        ensures { W.number result ≡ shown (width self.now) (function_of (gate self.now operand.now)) 0 0 (at values.now) };
 
     /// What the step is.
     fn gate_of(&self, operand: &Self::Operand) -> Gate
@@ -94,18 +97,18 @@ pub struct Less;
 pub struct Pass;
 
 impl Operation for Constant {
-    type Operand = u32;
+    type Operand = u64;
 
     ghost width = { λ _. 0 };
 
     ghost gate = { λ _ k. gates.Const k };
 
-    fn value(&self, constant: &u32, _values: &[u32]) -> u32 {
-        *constant
+    fn value<W: Word>(&self, constant: &u64, _values: &Words<W>) -> W {
+        W::of(*constant)
     }
 
-    fn gate_of(&self, constant: &u32) -> Gate {
-        Gate::Const(u64::from(*constant))
+    fn gate_of(&self, constant: &u64) -> Gate {
+        Gate::Const(*constant)
     }
 }
 
@@ -116,8 +119,8 @@ impl Operation for Not {
 
     ghost gate = { λ _ a. gates.Not a };
 
-    fn value(&self, pin: &NetId, values: &[u32]) -> u32 {
-        turned(self.width, value_at(values, *pin))
+    fn value<W: Word>(&self, pin: &NetId, values: &Words<W>) -> W {
+        value_at(values, *pin).turned(self.width)
     }
 
     fn gate_of(&self, pin: &NetId) -> Gate {
@@ -132,8 +135,8 @@ impl Operation for And {
 
     ghost gate = { λ _ p. gates.And p.a p.b };
 
-    fn value(&self, pair: &Pair, values: &[u32]) -> u32 {
-        value_at(values, pair.a) & value_at(values, pair.b)
+    fn value<W: Word>(&self, pair: &Pair, values: &Words<W>) -> W {
+        value_at(values, pair.a).and(value_at(values, pair.b))
     }
 
     fn gate_of(&self, pair: &Pair) -> Gate {
@@ -148,8 +151,8 @@ impl Operation for Or {
 
     ghost gate = { λ _ p. gates.Or p.a p.b };
 
-    fn value(&self, pair: &Pair, values: &[u32]) -> u32 {
-        value_at(values, pair.a) | value_at(values, pair.b)
+    fn value<W: Word>(&self, pair: &Pair, values: &Words<W>) -> W {
+        value_at(values, pair.a).or(value_at(values, pair.b))
     }
 
     fn gate_of(&self, pair: &Pair) -> Gate {
@@ -164,8 +167,8 @@ impl Operation for Xor {
 
     ghost gate = { λ _ p. gates.Xor p.a p.b };
 
-    fn value(&self, pair: &Pair, values: &[u32]) -> u32 {
-        value_at(values, pair.a) ^ value_at(values, pair.b)
+    fn value<W: Word>(&self, pair: &Pair, values: &Words<W>) -> W {
+        value_at(values, pair.a).xor(value_at(values, pair.b))
     }
 
     fn gate_of(&self, pair: &Pair) -> Gate {
@@ -180,7 +183,7 @@ impl Operation for Mux {
 
     ghost gate = { λ _ t. gates.Mux t.s t.a t.b };
 
-    fn value(&self, triple: &Triple, values: &[u32]) -> u32 {
+    fn value<W: Word>(&self, triple: &Triple, values: &Words<W>) -> W {
         let (a, b) = (value_at(values, triple.a), value_at(values, triple.b));
         chosen(value_at(values, triple.s), a, b)
     }
@@ -197,12 +200,8 @@ impl Operation for Add {
 
     ghost gate = { λ _ p. gates.Add p.a p.b };
 
-    fn value(&self, pair: &Pair, values: &[u32]) -> u32 {
-        sum(
-            self.width,
-            value_at(values, pair.a),
-            value_at(values, pair.b),
-        )
+    fn value<W: Word>(&self, pair: &Pair, values: &Words<W>) -> W {
+        value_at(values, pair.a).sum(self.width, value_at(values, pair.b))
     }
 
     fn gate_of(&self, pair: &Pair) -> Gate {
@@ -217,12 +216,8 @@ impl Operation for Sub {
 
     ghost gate = { λ _ p. gates.Sub p.a p.b };
 
-    fn value(&self, pair: &Pair, values: &[u32]) -> u32 {
-        difference(
-            self.width,
-            value_at(values, pair.a),
-            value_at(values, pair.b),
-        )
+    fn value<W: Word>(&self, pair: &Pair, values: &Words<W>) -> W {
+        value_at(values, pair.a).difference(self.width, value_at(values, pair.b))
     }
 
     fn gate_of(&self, pair: &Pair) -> Gate {
@@ -237,8 +232,8 @@ impl Operation for Equal {
 
     ghost gate = { λ _ p. gates.Eq p.a p.b };
 
-    fn value(&self, pair: &Pair, values: &[u32]) -> u32 {
-        u32::from(value_at(values, pair.a) == value_at(values, pair.b))
+    fn value<W: Word>(&self, pair: &Pair, values: &Words<W>) -> W {
+        W::of_bit(value_at(values, pair.a).is(value_at(values, pair.b)))
     }
 
     fn gate_of(&self, pair: &Pair) -> Gate {
@@ -253,8 +248,8 @@ impl Operation for Less {
 
     ghost gate = { λ _ p. gates.Less p.a p.b };
 
-    fn value(&self, pair: &Pair, values: &[u32]) -> u32 {
-        u32::from(value_at(values, pair.a) < value_at(values, pair.b))
+    fn value<W: Word>(&self, pair: &Pair, values: &Words<W>) -> W {
+        W::of_bit(value_at(values, pair.a).is_below(value_at(values, pair.b)))
     }
 
     fn gate_of(&self, pair: &Pair) -> Gate {
@@ -269,8 +264,12 @@ impl Operation for Pass {
 
     ghost gate = { λ _ p. gates.Gate p.a p.b };
 
-    fn value(&self, pair: &Pair, values: &[u32]) -> u32 {
-        chosen(value_at(values, pair.a), value_at(values, pair.b), 0)
+    fn value<W: Word>(&self, pair: &Pair, values: &Words<W>) -> W {
+        chosen(
+            value_at(values, pair.a),
+            value_at(values, pair.b),
+            W::of_bit(false),
+        )
     }
 
     fn gate_of(&self, pair: &Pair) -> Gate {
@@ -279,49 +278,16 @@ impl Operation for Pass {
 }
 
 // The value of a net.
-fn value_at(values: &[u32], net: NetId) -> u32
+fn value_at<W: Word>(values: &Words<W>, net: NetId) -> W
     requires { net.0 < length values.now }
-    ensures { result ≡ at values.now net.0 }
+    ensures { W.number result ≡ at values.now net.0 }
 {
-    values[net.0 as usize]
+    values.get(net.0 as usize)
 }
 
 // The first value where the selector is 1, else the second.
-fn chosen(selector: u32, a: u32, b: u32) -> u32
-    ensures { result ≡ (if nat_eq selector 1 then a else b) }
+fn chosen<W: Word>(selector: W, a: W, b: W) -> W
+    ensures { W.number result ≡ (if nat_eq (W.number selector) 1 then W.number a else W.number b) }
 {
-    if selector == 1 { a } else { b }
-}
-
-// All of so many bits turned.
-fn turned(width: u32, a: u32) -> u32
-    requires { width ≤ 32 }
-    ensures { result ≡ 2 ^ width - 1 - a }
-{
-    greatest(width).saturating_sub(u64::from(a)) as u32
-}
-
-// The sum in so many bits.
-fn sum(width: u32, a: u32, b: u32) -> u32
-    requires { width ≤ 32 }
-    ensures { result ≡ (a + b) % 2 ^ width }
-{
-    lowest(width, u64::from(a) + u64::from(b))
-}
-
-// The difference in so many bits.
-fn difference(width: u32, a: u32, b: u32) -> u32
-    requires { width ≤ 32 }
-    ensures { result ≡ (a + 2 ^ width - b) % 2 ^ width }
-{
-    let next = greatest(width) + 1;
-    lowest(width, (u64::from(a) + next).saturating_sub(u64::from(b)))
-}
-
-// The lowest bits of a number, so many of them.
-fn lowest(width: u32, number: u64) -> u32
-    requires { width ≤ 32 }
-    ensures { result ≡ number % 2 ^ width }
-{
-    (number & greatest(width)) as u32
+    if selector.is(W::of_bit(true)) { a } else { b }
 }

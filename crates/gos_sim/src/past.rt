@@ -6,6 +6,8 @@ ghost use Rattle.gos_sim.specs.inner.Active.{Lacks};
 
 use crate::course::Course;
 use crate::log::Log;
+use crate::word::Word;
+use crate::words::Words;
 use std::mem::swap;
 
 /// How the values of the nets came about.
@@ -36,16 +38,16 @@ impl Past {
 
 // Makes the values those before: they are copied where few will change, and else give room for new ones. Where no new ones come,
 // both are left.
-pub fn turn(values: &mut Vec<u32>, before: &mut Vec<u32>, touched: &Log, course: Course)
-    requires same { length before.old.items ≡ length values.old.items }
-    requires within { All (λ p. p < length values.old.items) touched.now.places.items }
-    requires noted { IsTrue (is_few course) → (p : ℕ) → Lacks touched.now p → at before.old.items p ≡ at values.old.items p }
+pub fn turn<W: Word>(values: &mut Words<W>, before: &mut Words<W>, touched: &Log, course: Course)
+    requires same { length before.old ≡ length values.old }
+    requires within { All (λ p. p < length values.old) touched.now.places.items }
+    requires noted { IsTrue (is_few course) → (p : ℕ) → Lacks touched.now p → at before.old p ≡ at values.old p }
     ensures rest { IsTrue (is_rest course) → values.new ≡ values.old }
     ensures left { IsTrue (is_rest course) → before.new ≡ before.old }
     ensures few { IsTrue (is_few course) → values.new ≡ values.old }
-    ensures turned { IsFalse (is_rest course) → before.new.items ≡ values.old.items }
-    ensures each { length values.new.items ≡ length values.old.items }
-    ensures kept { length before.new.items ≡ length values.old.items }
+    ensures turned { IsFalse (is_rest course) → before.new ≡ values.old }
+    ensures each { length values.new ≡ length values.old }
+    ensures kept { length before.new ≡ length values.old }
 {
     match course {
         Course::Rest => {}
@@ -55,27 +57,27 @@ pub fn turn(values: &mut Vec<u32>, before: &mut Vec<u32>, touched: &Log, course:
 }
 
 // Copies values. Those that aren't noted are the same.
-fn keep(touched: &Log, values: &[u32], before: &mut [u32])
+fn keep<W: Word>(touched: &Log, values: &Words<W>, before: &mut Words<W>)
     requires same { length before.old ≡ length values.now }
     requires within { All (λ p. p < length values.now) touched.now.places.items }
     requires noted { (p : ℕ) → Lacks touched.now p → at before.old p ≡ at values.now p }
     ensures { before.new ≡ values.now }
 {
     if touched.full {
-        before.copy_from_slice(values);
+        before.copy_from(values);
     } else {
         keep_noted(&touched.places, values, before);
     }
 }
 
 // Copies the values of some places. All others are the same.
-fn keep_noted(places: &[u32], values: &[u32], before: &mut [u32])
+fn keep_noted<W: Word>(places: &[u32], values: &Words<W>, before: &mut Words<W>)
     requires same { length before.old ≡ length values.now }
     requires within { All (λ p. p < length values.now) places.now }
     requires noted { (p : ℕ) → All (λ q. q ≢ p) places.now → at before.old p ≡ at values.now p }
     ensures { before.new ≡ values.now }
 {
     for place in places {
-        before[*place as usize] = values[*place as usize];
+        before.set(*place as usize, values.get(*place as usize));
     }
 }

@@ -1,7 +1,7 @@
 // The parts of a cycle: what the values of the nets are, and what the registers are after it.
-ghost use Rattle.std.specs.Prelude.{◌≡◌, ◌-◌, ◌<◌, All, IsTrue, length, map, set};
+ghost use Rattle.std.specs.Prelude.{◌≡◌, ◌-◌, ◌<◌, ◌^◌, All, IsTrue, length, map, set};
 ghost use Rattle.gos_netlist.specs.Settling.{at};
-ghost use Rattle.gos_sim.specs.Cycle.{Gives, GivesAll, IsWord, pulse_shown};
+ghost use Rattle.gos_sim.specs.Cycle.{Gives, GivesAll, pulse_shown};
 ghost use Rattle.gos_sim.specs.inner.Program.{IsLatchWithin};
 ghost use Rattle.gos_sim.specs.inner.Running.{AreLoaded, AreTaken, HaveOnePin, KeepsOtherNets, KeepsOthers};
 ghost use Rattle.gos_sim.specs.EventNets.{OnNets};
@@ -10,15 +10,18 @@ ghost use Rattle.gos_sim.specs.inner.Ready.{AreApart, AreTwo};
 use crate::event_nets::EventNets;
 use crate::program::{Latch, Step};
 use crate::pulse::Pulse;
+use crate::word::Word;
+use crate::words::Words;
 use gos_netlist::{Gate, NetId};
 
 // Gives the nets of the input events what the pulses say.
-pub fn give(events: &[EventNets], pulses: &[Pulse], values: &mut [u32])
+pub fn give<W: Word>(events: &[EventNets], pulses: &[Pulse], values: &mut Words<W>)
     requires each { length pulses.now ≡ length events.now }
     requires nets { All (OnNets (λ a. a < length values.old)) events.now }
     requires apart { AreApart events.now }
-    requires pulses { All (λ p. IsWord p.value) pulses.now }
+    requires pulses { All (λ p. p.value < 2 ^ W.bits) pulses.now }
     ensures given { GivesAll events.now pulses.now values.new }
+    ensures long { length values.new ≡ length values.old }
 {
     for (place, event) in events.iter().enumerate() {
         give_pulse(event, pulses[place], values);
@@ -26,21 +29,22 @@ pub fn give(events: &[EventNets], pulses: &[Pulse], values: &mut [u32])
 }
 
 // Gives the nets of an event what its pulse says.
-fn give_pulse(event: &EventNets, pulse: Pulse, values: &mut [u32])
+fn give_pulse<W: Word>(event: &EventNets, pulse: Pulse, values: &mut Words<W>)
     requires nets { OnNets (λ a. a < length values.old) event.now }
     requires apart { AreTwo event.now }
-    requires word { IsWord pulse.value }
+    requires word { pulse.value < 2 ^ W.bits }
     ensures given { Gives values.new event.now pulse }
     ensures others { KeepsOtherNets event.now values.old values.new }
+    ensures long { length values.new ≡ length values.old }
 {
-    values[event.pulse as usize] = u32::from(pulse.on);
+    values.set(event.pulse as usize, W::of_bit(pulse.on));
     if let Some(number) = event.number {
-        values[number as usize] = pulse.value as u32;
+        values.set(number as usize, W::of(pulse.value));
     }
 }
 
 // Whether the nets of the input events have what the pulses say.
-pub fn is_given(events: &[EventNets], pulses: &[Pulse], values: &[u32]) -> bool
+pub fn is_given<W: Word>(events: &[EventNets], pulses: &[Pulse], values: &Words<W>) -> bool
     requires each { length pulses.now ≡ length events.now }
     requires nets { All (OnNets (λ a. a < length values.now)) events.now }
     ensures { IsTrue result → GivesAll events.now pulses.now values.now }
@@ -54,31 +58,33 @@ pub fn is_given(events: &[EventNets], pulses: &[Pulse], values: &[u32]) -> bool
 }
 
 // Whether the nets of an event have what its pulse says.
-fn has_pulse(event: &EventNets, pulse: Pulse, values: &[u32]) -> bool
+fn has_pulse<W: Word>(event: &EventNets, pulse: Pulse, values: &Words<W>) -> bool
     requires { OnNets (λ a. a < length values.now) event.now }
     ensures { IsTrue result → Gives values.now event.now pulse }
 {
-    let same = values[event.pulse as usize] == u32::from(pulse.on);
+    let same = values.get(event.pulse as usize).is(W::of_bit(pulse.on));
     match event.number {
-        Some(number) => same && u64::from(values[number as usize]) == pulse.value,
+        Some(number) => same && values.get(number as usize).number() == pulse.value,
         None => same,
     }
 }
 
 // Gives the nets of the registers what the registers hold.
-pub fn load(latches: &[Latch], registers: &[u32], values: &mut [u32])
+pub fn load<W: Word>(latches: &[Latch], registers: &Words<W>, values: &mut Words<W>)
     requires registers { All (IsLatchWithin (length registers.now)) latches.now }
     requires nets { All (IsLatchWithin (length values.old)) latches.now }
     ensures loaded { AreLoaded latches.now registers.now values.new }
     ensures others { KeepsOthers latches.now values.old values.new }
+    ensures long { length values.new ≡ length values.old }
 {
     for latch in latches {
-        values[latch.net as usize] = registers[latch.net as usize];
+        let net = latch.net as usize;
+        values.set(net, registers.get(net));
     }
 }
 
 // Shows the pulses of the output events.
-pub fn show(events: &[EventNets], values: &[u32], pulses: &mut [Pulse])
+pub fn show<W: Word>(events: &[EventNets], values: &Words<W>, pulses: &mut [Pulse])
     requires each { length pulses.old ≡ length events.now }
     requires nets { All (OnNets (λ a. a < length values.now)) events.now }
     ensures { pulses.new ≡ map (pulse_shown values.now) events.now }
@@ -89,26 +95,27 @@ pub fn show(events: &[EventNets], values: &[u32], pulses: &mut [Pulse])
 }
 
 // What an event shows.
-fn pulse_of(event: &EventNets, values: &[u32]) -> Pulse
+fn pulse_of<W: Word>(event: &EventNets, values: &Words<W>) -> Pulse
     requires { OnNets (λ a. a < length values.now) event.now }
     ensures { result ≡ pulse_shown values.now event.now }
 {
-    let on = values[event.pulse as usize] == 1;
+    let on = values.get(event.pulse as usize).is(W::of_bit(true));
     let value = match event.number {
-        Some(number) => u64::from(values[number as usize]),
+        Some(number) => values.get(number as usize).number(),
         None => 0,
     };
     Pulse { on, value }
 }
 
 // Takes the values of the pins over into the registers. Answers whether all of them had these values before.
-pub fn latch(latches: &[Latch], values: &[u32], registers: &mut [u32]) -> bool
+pub fn latch<W: Word>(latches: &[Latch], values: &Words<W>, registers: &mut Words<W>) -> bool
     requires pins { All (IsLatchWithin (length values.now)) latches.now }
     requires nets { All (IsLatchWithin (length registers.old)) latches.now }
     requires one { HaveOnePin latches.now }
     ensures taken { AreTaken latches.now values.now registers.new }
     ensures others { KeepsOthers latches.now registers.old registers.new }
     ensures same { IsTrue result → registers.new ≡ registers.old }
+    ensures held { length registers.new ≡ length registers.old }
 {
     let mut same = true;
     for latch in latches {
@@ -119,14 +126,16 @@ pub fn latch(latches: &[Latch], values: &[u32], registers: &mut [u32]) -> bool
 }
 
 // Takes the value of a register's pin over. Answers whether it had that value before.
-fn take_over(latch: &Latch, values: &[u32], registers: &mut [u32]) -> bool
+fn take_over<W: Word>(latch: &Latch, values: &Words<W>, registers: &mut Words<W>) -> bool
     requires pin { latch.now.pin < length values.now }
     requires net { latch.now.net < length registers.old }
     ensures taken { registers.new ≡ set registers.old latch.now.net (at values.now latch.now.pin) }
     ensures same { IsTrue result → registers.new ≡ registers.old }
+    ensures held { length registers.new ≡ length registers.old }
 {
-    let value = values[latch.pin as usize];
-    let same = registers[latch.net as usize] == value;
-    registers[latch.net as usize] = value;
+    let net = latch.net as usize;
+    let value = values.get(latch.pin as usize);
+    let same = registers.get(net).is(value);
+    registers.set(net, value);
     same
 }

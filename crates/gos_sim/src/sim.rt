@@ -1,36 +1,38 @@
-// The simulator.
-ghost use Rattle.std.specs.Prelude.{◌≡◌, ◌+◌, ◌<◌, ◌^◌, All, IfErr, IfOk, IsFalse, IsTrue, length, replicate};
+// The simulator: one in narrow words where all nets are so narrow, and else one in wide ones.
+ghost use Rattle.std.specs.Prelude.{◌≡◌, All, IfErr, IfOk, IsTrue, length};
 ghost use Rattle.gos_netcheck.specs.Accepted.{IsAccepted};
 ghost use Rattle.gos_sim.specs.EventNets.{input_events, output_events};
 ghost use Rattle.gos_sim.specs.Cycle.{IsCycle, IsNextOutput, IsWord, at_reset};
 ghost use Rattle.gos_sim.specs.Visits.{HasVisited};
 ghost use Rattle.gos_sim.specs.Repeats.{Repeats};
-ghost use Rattle.gos_sim.specs.inner.Active.{IsAwake};
-ghost use Rattle.gos_sim.specs.inner.Machine.{IsMachine, SettlesAtReset, plan_of};
+ghost use Rattle.gos_sim.specs.inner.Program.{are_narrow};
 
-use crate::active::Active;
-use crate::machine::{Machine, machine_of};
-use crate::past::{Past, turn};
 use crate::pulse::Pulse;
-use crate::running::show;
-use crate::visits::levels_visited;
+use crate::word_sim::WordSim;
 use gos_netcheck::Checked;
-use gos_netlist::Netlist;
-use gos_types::NoMemory;
+use gos_netlist::{Cell, Netlist};
 use std::alloc::Global;
 use std::marker::Model;
 
 /// A netlist that runs. Clauses see it as the netlist, what its registers hold, and its last two settlings.
-#[derive(Drop)]
 pub struct Sim {
-    net: Checked,
-    machine: Machine,
-    active: Active,
-    registers: Vec<u32>,
-    values: Vec<u32>,
-    before: Vec<u32>,
-    still: bool,
-    past: Past,
+    words: Sizes,
+}
+
+// By hand, so that it is one call for whoever lets a simulator go, and not an arm for each size.
+impl Drop for Sim {
+    fn drop(self) {
+        let Sim { words: _ } = self;
+    }
+}
+
+/// A simulator, by the size of its words.
+#[derive(Drop)]
+pub enum Sizes {
+    /// Words of 32 bits.
+    Narrow(WordSim<u32>),
+    /// Words of 64 bits.
+    Wide(WordSim<u64>),
 }
 
 impl Model for Sim {
@@ -42,31 +44,32 @@ impl Model for Sim {
 
     ghost coded = { Prim.hlevel (codes, type_code) };
 
-    ghost use Rattle.gos_sim.specs.inner.Machine.{IsBuilt, seen};
+    ghost use Rattle.gos_sim.specs.inner.Sizes.{seen_in};
 
-    ghost view = { λ s. seen s.net s.machine s.registers.items s.values.items s.before.items s.past };
-
-    ghost invariant = { λ s. IsBuilt s.net s.machine s.active s.registers.items s.values.items s.before.items s.still s.past };
+    ghost view = { λ s. seen_in s.words };
 }
 
 impl Sim {
     /// A simulator with all registers 0. `Err` is want of memory alone, and hands the netlist back.
+    #[tactic(auto, using(crate::proofs::AcceptedLemmas::widths_below, crate::proofs::AcceptedLemmas::narrow_widths))]
     pub fn new(alloc: Global, net: Checked) -> Result<Sim, Checked>
         ensures made { IfOk result (λ sim. sim ≡ at_reset net) }
         ensures refused { IfErr result (λ back. back ≡ net) }
     {
-        match parts_of(alloc, &net) {
-            Ok((machine, active, registers, values, before)) => Ok(Sim {
-                net,
-                machine,
-                active,
-                registers,
-                values,
-                before,
-                still: false,
-                past: Past::Reset,
-            }),
-            Err(NoMemory) => Err(net),
+        if has_narrow_nets(&net.netlist().cells) {
+            match WordSim::new(alloc, net) {
+                Ok(sim) => Ok(Sim {
+                    words: Sizes::Narrow(sim),
+                }),
+                Err(net) => Err(net),
+            }
+        } else {
+            match WordSim::new(alloc, net) {
+                Ok(sim) => Ok(Sim {
+                    words: Sizes::Wide(sim),
+                }),
+                Err(net) => Err(net),
+            }
         }
     }
 
@@ -74,14 +77,20 @@ impl Sim {
     pub fn inputs(&self) -> usize
         ensures { result ≡ length (input_events self.now.net) }
     {
-        self.machine.inputs.len()
+        match &self.words {
+            Sizes::Narrow(sim) => sim.inputs(),
+            Sizes::Wide(sim) => sim.inputs(),
+        }
     }
 
     /// How many output events there are.
     pub fn outputs(&self) -> usize
         ensures { result ≡ length (output_events self.now.net) }
     {
-        self.machine.outputs.len()
+        match &self.words {
+            Sizes::Narrow(sim) => sim.outputs(),
+            Sizes::Wide(sim) => sim.outputs(),
+        }
     }
 
     /// The netlist that runs.
@@ -89,7 +98,10 @@ impl Sim {
         ensures value { result.now ≡ self.now.net }
         ensures accepted { IsAccepted self.now.net }
     {
-        self.net.netlist()
+        match &self.words {
+            Sizes::Narrow(sim) => sim.netlist(),
+            Sizes::Wide(sim) => sim.netlist(),
+        }
     }
 
     /// Writes the outputs of the coming cycle, in event order. They come from registers, and so don't depend on its inputs.
@@ -97,7 +109,10 @@ impl Sim {
         requires { length outputs.old ≡ length (output_events self.now.net) }
         ensures { IsNextOutput self.now outputs.new }
     {
-        show(&self.machine.outputs, &self.registers, outputs);
+        match &self.words {
+            Sizes::Narrow(sim) => sim.peek(outputs),
+            Sizes::Wide(sim) => sim.peek(outputs),
+        }
     }
 
     /// Runs a cycle with these inputs and writes its outputs, both in event order. Where an event has no number, the
@@ -105,28 +120,14 @@ impl Sim {
     pub fn cycle(&mut self, inputs: &[Pulse], outputs: &mut [Pulse])
         requires inputs { length inputs.now ≡ length (input_events self.old.net) }
         requires outputs { length outputs.old ≡ length (output_events self.old.net) }
-        requires numbers { All (λ p. IsWord p.value) inputs.now }
+        requires numbers { All (λ p. IsWord self.old.net.cells p.value) inputs.now }
         ensures cycle { IsCycle self.old inputs.now outputs.new self.new }
         ensures net { self.new.net ≡ self.old.net }
     {
-        let rests = self.machine.rests(inputs, &self.values, self.still);
-        let course = self.active.course(rests);
-        turn(
-            &mut self.values,
-            &mut self.before,
-            &self.active.wake.touched,
-            course,
-        );
-        let stands = self.active.cycle(
-            &self.machine,
-            course,
-            inputs,
-            outputs,
-            &mut self.registers,
-            &mut self.values,
-        );
-        self.still = stands;
-        self.past = self.past.after(course);
+        match &mut self.words {
+            Sizes::Narrow(sim) => sim.cycle(inputs, outputs),
+            Sizes::Wide(sim) => sim.cycle(inputs, outputs),
+        }
     }
 
     /// The number of levels above 0 in which, in the last cycle, some cell had a pin whose value differed from the settling
@@ -134,19 +135,9 @@ impl Sim {
     pub fn visited(&self) -> u64
         ensures { HasVisited self.now.net.cells self.now.settlings result }
     {
-        match self.past {
-            Past::Reset | Past::Still => 0,
-            Past::First | Past::Later => {
-                let machine = &self.machine;
-                let cells = &self.net.netlist().cells;
-                levels_visited(
-                    &machine.levels,
-                    cells,
-                    &machine.places,
-                    &self.before,
-                    &self.values,
-                )
-            }
+        match &self.words {
+            Sizes::Narrow(sim) => sim.visited(),
+            Sizes::Wide(sim) => sim.visited(),
         }
     }
 
@@ -155,9 +146,9 @@ impl Sim {
     pub fn repeats(&self) -> bool
         ensures { IsTrue result → Repeats self.now }
     {
-        match self.past {
-            Past::Still => self.still,
-            Past::Reset | Past::First | Past::Later => false,
+        match &self.words {
+            Sizes::Narrow(sim) => sim.repeats(),
+            Sizes::Wide(sim) => sim.repeats(),
         }
     }
 
@@ -165,43 +156,16 @@ impl Sim {
     pub fn reset(&mut self)
         ensures { self.new ≡ at_reset self.old.net }
     {
-        self.registers.fill(0);
-        self.machine.settle_at_reset(&mut self.values);
-        self.active.reset();
-        self.still = false;
-        self.past = Past::Reset;
+        match &mut self.words {
+            Sizes::Narrow(sim) => sim.reset(),
+            Sizes::Wide(sim) => sim.reset(),
+        }
     }
 }
 
-// The machine of a netlist, with what it has to know of changes, the registers, the values where all registers and inputs are 0,
-// and room for those before them, all by place.
-fn parts_of(
-    alloc: Global,
-    net: &Checked,
-) -> Result<(Machine, Active, Vec<u32>, Vec<u32>, Vec<u32>), NoMemory>
-    ensures machine { IfOk result (λ parts. IsMachine net.now parts.0) }
-    ensures fresh { IfOk result (λ parts. IsFalse parts.1.settled) }
-    ensures awake { IfOk result (λ parts. IsAwake parts.0.count parts.0.program parts.0.latches.items parts.1) }
-    ensures registers { IfOk result (λ parts. parts.2.items ≡ replicate parts.0.count 0) }
-    ensures each { IfOk result (λ parts. length parts.3.items ≡ parts.0.count) }
-    ensures values { IfOk result (λ parts. SettlesAtReset (plan_of parts.0) parts.3.items) }
-    ensures before { IfOk result (λ parts. parts.4.items ≡ replicate parts.0.count 0) }
+// Whether all nets have numbers of narrow words.
+fn has_narrow_nets(cells: &[Cell]) -> bool
+    ensures { result ≡ are_narrow cells.now }
 {
-    let machine = machine_for(alloc, net)?;
-    let count = machine.count;
-    let registers = vec![in alloc; 0; count]?;
-    let before = vec![in alloc; 0; count]?;
-    let values = machine.values_at_reset(alloc, count)?;
-    let active = Active::new(alloc, &machine, count)?;
-    Ok((machine, active, registers, values, before))
-}
-
-// The machine of an accepted netlist.
-#[tactic(auto, using(crate::proofs::AcceptedLemmas::ready_of_accepted))]
-fn machine_for(alloc: Global, net: &Checked) -> Result<Machine, NoMemory>
-    ensures machine { IfOk result (IsMachine net.now) }
-    ensures few { IfOk result (λ machine. length machine.program + length machine.latches.items < 2 ^ 32) }
-{
-    let levels = net.levels(alloc)?;
-    machine_of(alloc, net.netlist(), net.schedule(), &levels)
+    cells.iter().all(|cell| cell.width <= u32::BITS)
 }

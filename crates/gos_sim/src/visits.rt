@@ -8,15 +8,17 @@ ghost use Rattle.gos_sim.specs.inner.Places.{by_net};
 ghost use Rattle.gos_sim.specs.inner.Counting.{CountsVisited, HasVisit, LacksVisit, has_changed, one_has_changed};
 
 use crate::chains::Chains;
+use crate::word::Word;
+use crate::words::Words;
 use gos_netlist::{Cell, Gate, NetId};
 
 // How many levels above 0 have a cell that reads a net whose value differs from the one before.
-pub fn levels_visited(
+pub fn levels_visited<W: Word>(
     levels: &Chains,
     cells: &[Cell],
     places: &[u32],
-    before: &[u32],
-    values: &[u32],
+    before: &Words<W>,
+    values: &Words<W>,
 ) -> u64
     requires each { length levels.now.next.items ≡ length cells.now }
     requires bounded { IsBounded (length cells.now) levels.now.heads.items levels.now.next.items }
@@ -36,13 +38,13 @@ pub fn levels_visited(
 }
 
 // Whether a level has a cell that reads a net whose value differs. Goes through its nets, from the last one to the first.
-fn is_visited(
+fn is_visited<W: Word>(
     levels: &Chains,
     level: usize,
     cells: &[Cell],
     places: &[u32],
-    before: &[u32],
-    values: &[u32],
+    before: &Words<W>,
+    values: &Words<W>,
 ) -> bool
     requires level { level < length levels.now.heads.items }
     requires each { length levels.now.next.items ≡ length cells.now }
@@ -66,7 +68,7 @@ fn is_visited(
 }
 
 // Whether a cell reads a net whose value differs.
-fn reads_change(cell: Cell, places: &[u32], before: &[u32], values: &[u32]) -> bool
+fn reads_change<W: Word>(cell: Cell, places: &[u32], before: &Words<W>, values: &Words<W>) -> bool
     requires pins { All (λ a. a < length places.now) (pins (function_of cell.gate)) }
     requires there { All (λ p. p < length values.now) places.now }
     requires before { length before.now ≡ length values.now }
@@ -95,12 +97,12 @@ fn reads_change(cell: Cell, places: &[u32], before: &[u32], values: &[u32]) -> b
 
 // Whether the value of a net differs.
 #[tactic(auto, using(crate::proofs::MoveLemmas::at_by_net))]
-fn has_changed(net: NetId, places: &[u32], before: &[u32], values: &[u32]) -> bool
+fn has_changed<W: Word>(net: NetId, places: &[u32], before: &Words<W>, values: &Words<W>) -> bool
     requires net { net.0 < length places.now }
     requires there { All (λ p. p < length values.now) places.now }
     requires before { length before.now ≡ length values.now }
     ensures { result ≡ has_changed (by_net places.now before.now) (by_net places.now values.now) net.0 }
 {
     let place = places[net.0 as usize] as usize;
-    values[place] != before[place]
+    !values.get(place).is(before.get(place))
 }

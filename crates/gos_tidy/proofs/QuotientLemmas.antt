@@ -5,6 +5,7 @@
 -- where such a fact holds. A ring makes one, and so does a constant that is too wide.
 use Rattle.std.proofs.Common.{◌≡◌, ◌⊎◌, inl, inr, ◌^◌, ◌<◌, ◌≤◌, ℕ, zero, suc, List, [], ◌∷◌, length, get_or, slice_get, Option, Some, Contains, refl, sym, ap, subst, ◌∙◌, arith, pow_pos}
 use Rattle.std.proofs.lemmas.Option.{slice_get_within, slice_get_cases}
+use Rattle.gos_types.specs.declared.widths.TheConstants.{GREATEST_WIDTH}
 use Rattle.gos_netlist.specs.Nets.{Function, Input, Const, Not, And, Or, Xor, Mux, Add, Sub, Eq, Less, Gate, Reg, Cell, pins}
 use Rattle.gos_netlist.specs.Settling.{shown}
 use Rattle.gos_netlist.specs.Cycles.{IsRegister, Feeds, Chain, HasCycle}
@@ -307,21 +308,21 @@ module _ (cells others : List Cell) (f : ℕ → ℕ) (roots : List ℕ) (acycli
       by_kind n c there here stays
     where
       of_const : (n : ℕ) (c : Cell) → slice_get cells n ≡ Some c → slice_get others (f n) ≡ Some e → (k : ℕ) → IsConst others (f n) k
-          → (1 ≤ e.width) × (e.width ≤ 32) × OperandsFit (widths_of others) e.width e.gate
+          → (1 ≤ e.width) × (e.width ≤ GREATEST_WIDTH) × OperandsFit (widths_of others) e.width e.gate
       of_const n c there here k (w, const) =
           let (d, there_too, width) = q.widths n c there in
           let same : record { width = w; gate = Const k } ≡ e = one_cell others (f n) (record { width = w; gate = Const k }) e const here in
           let of_width : w ≡ c.width = one_width others (f n) (record { width = w; gate = Const k }) d const there_too ∙ width in
           let fit = fits n c there in
-          subst (λ (x : Cell). (1 ≤ x.width) × (x.width ≤ 32) × OperandsFit (widths_of others) x.width x.gate) same
-          (subst (λ (v : ℕ). 1 ≤ v) (sym of_width) fit.0, subst (λ (v : ℕ). v ≤ 32) (sym of_width) fit.1, consts_fit (f n) w k const)
+          subst (λ (x : Cell). (1 ≤ x.width) × (x.width ≤ GREATEST_WIDTH) × OperandsFit (widths_of others) x.width x.gate) same
+          (subst (λ (v : ℕ). 1 ≤ v) (sym of_width) fit.0, subst (λ (v : ℕ). v ≤ GREATEST_WIDTH) (sym of_width) fit.1, consts_fit (f n) w k const)
 
       by_kind : (n : ℕ) (c : Cell) → slice_get cells n ≡ Some c → slice_get others (f n) ≡ Some e → Stays others f n c
-          → (1 ≤ e.width) × (e.width ≤ 32) × OperandsFit (widths_of others) e.width e.gate
+          → (1 ≤ e.width) × (e.width ≤ GREATEST_WIDTH) × OperandsFit (widths_of others) e.width e.gate
       by_kind n c there here (inl kept) =
           let same : record { width = c.width; gate = renamed f c.gate } ≡ e = one_cell others (f n) (record { width = c.width; gate = renamed f c.gate }) e kept here in
           let fit = fits n c there in
-          subst (λ (x : Cell). (1 ≤ x.width) × (x.width ≤ 32) × OperandsFit (widths_of others) x.width x.gate) same
+          subst (λ (x : Cell). (1 ≤ x.width) × (x.width ≤ GREATEST_WIDTH) × OperandsFit (widths_of others) x.width x.gate) same
           (fit.0, fit.1, renamed_fits (widths_of cells) (widths_of others) c.width c.gate f fit.2 (λ a pin. pin_width n a c there pin))
       by_kind n c there here (inr (inl (u, consts, shows))) = of_const n c there here (shown c.width c.gate 0 0 u) (shows 0 0)
       by_kind n c there here (inr (inr closed)) = of_const n c there here 0 (closed_zero others f n c.gate closed)

@@ -3,7 +3,7 @@
 use crate::constants::{operands, value};
 use crate::renaming::{entry, renamed_cell};
 use gos_netlist::{Cell, Gate, NetId};
-use gos_types::NoMemory;
+use gos_types::{GREATEST_WIDTH, NoMemory};
 use std::alloc::Global;
 
 // What is known of the nets of a class.
@@ -70,7 +70,7 @@ impl Classes {
 
     // What a gate of classes shows, where all its nets are constants.
     fn folded(&self, width: u32, gate: Gate) -> Option<u64> {
-        if width > 32 {
+        if width > GREATEST_WIDTH {
             return None;
         }
         let (first, second, third) = operands(gate)?;

@@ -1,7 +1,7 @@
 -- The machine of a netlist, and how it runs through a cycle.
 --
 -- Read first: Running, Order, Ready, Past; Levels of gos_netcheck.
-use Rattle.std.specs.Prelude.{◌≡◌, ◌≢◌, ℕ, ◌<◌, Bool, IsTrue, List, All, Some, length, map, replicate, slice_get}
+use Rattle.std.specs.Prelude.{◌≡◌, ◌≢◌, ℕ, ◌<◌, ◌≤◌, Bool, IsTrue, List, All, Some, length, map, replicate, slice_get}
 use Rattle.gos_netlist.specs.Nets.{Cell, Netlist}
 use Rattle.gos_netlist.specs.Cycles.{IsRegister}
 use Rattle.gos_netlist.specs.Settling.{Numbers, at}
@@ -121,9 +121,10 @@ pub record IsState (count : ℕ) (registers values before : Numbers) : Type 0 wh
   pub values_each : length values ≡ count
   pub before_each : length before ≡ count
 
--- what a simulator keeps; `still` only where a cycle has come and the values stand still
-pub record IsBuilt (net : Netlist) (m : Machine) (active : Active) (registers values before : Numbers) (still : Bool) (past : Past) : Type 0 where
+-- what a simulator keeps in words of so many bits; `still` only where a cycle has come and the values stand still
+pub record IsBuilt (bits : ℕ) (net : Netlist) (m : Machine) (active : Active) (registers values before : Numbers) (still : Bool) (past : Past) : Type 0 where
   pub machine : IsMachine net m
+  pub widths : All (λ c. c.width ≤ bits) net.cells
   pub state : IsState m.count registers values before
   pub others : HoldNothingElse net.cells (by_net m.places.items registers)
   pub stands : IsTrue still → IsStill (plan_of m) registers values × HasCome past

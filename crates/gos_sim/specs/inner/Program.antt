@@ -2,15 +2,14 @@
 --
 -- Read first: Nets and Cycles of gos_netlist. A step is a cell that is neither an input nor a register, and a latch is a
 -- register with its pin. No step writes a net that it or an earlier one has read.
-use Rattle.std.specs.Prelude.{◌≡◌, ◌≢◌, ℕ, ◌<◌, ◌≤◌, Bool, true, false, IsFalse, if◌then◌else◌, List, [], ◌∷◌, ◌++◌, All, Contains, Some, get_or, slice_get}
-use Rattle.gos_types.specs.declared.widths.TheConstants.{GREATEST_WIDTH}
+use Rattle.std.specs.Prelude.{◌≡◌, ◌≢◌, ℕ, ◌<◌, ◌≤◌, ◌^◌, Bool, true, false, IsFalse, if◌then◌else◌, List, [], ◌∷◌, ◌++◌, All, Contains, Some, get_or, nat_le, slice_get}
+use Rattle.std.specs.List.{list_all}
 use Rattle.gos_netlist.specs.declared.nets.Cell as declared
 use Rattle.gos_netlist.specs.declared.nets.Gate.TheVariants as gates
 use Rattle.gos_netlist.specs.Nets.{Function, Input, Const, Reg, Cell, pins}
 use Rattle.gos_netlist.specs.Seen.{function_of}
 use Rattle.gos_sim.specs.declared.program.Step.{Step}
 use Rattle.gos_sim.specs.declared.program.Latch.{Latch}
-use Rattle.gos_sim.specs.Cycle.{IsWord}
 
 -- whether the value of a cell in a cycle is known before any other: it is an input or a register
 abbrev pub is_source : Function → Bool
@@ -67,17 +66,31 @@ pub record AreLatches (cells : List Cell) (latches : List Latch) : Type 0 where
   pub sound : All (IsLatchOf cells) latches
   pub whole : (n a : ℕ) (c : Cell) → slice_get cells n ≡ Some c → c.gate ≡ Reg a → HasLatch latches n
 
--- a constant has at most 32 bits
-abbrev pub IsShort : Function → Type 0
-IsShort (Const k) = IsWord k
-IsShort f = Unit {0}
+-- a constant has at most so many bits
+abbrev pub IsShort : ℕ → Function → Type 0
+IsShort bits (Const k) = k < 2 ^ bits
+IsShort bits f = Unit {0}
 
--- a step of no more than the greatest width whose nets are below a count
+-- a cell has at most so many bits, and so has its constant
+pub record HasBits (bits : ℕ) (c : Cell) : Type 0 where
+  pub width : c.width ≤ bits
+  pub short : IsShort bits c.gate
+
+-- the cell of each step has
+abbrev pub IsSized : ℕ → Step → Type 0
+IsSized bits s = HasBits bits (cell_of_step s)
+
+abbrev pub HaveBits : ℕ → List Step → Type 0
+HaveBits bits steps = All (IsSized bits) steps
+
+-- each cell has at most as many bits as a narrow word
+abbrev pub are_narrow : List declared.Cell → Bool
+are_narrow cells = list_all (λ c. nat_le c.width 32) cells
+
+-- a step whose nets are below a count
 pub record IsStepWithin (count : ℕ) (s : Step) : Type 0 where
   pub net : s.net < count
   pub reads : All (λ a. a < count) (reads s)
-  pub width : s.width ≤ GREATEST_WIDTH
-  pub short : IsShort (function_of s.gate)
 
 -- a latch whose nets are below a count
 pub record IsLatchWithin (count : ℕ) (l : Latch) : Type 0 where

@@ -2,7 +2,6 @@
 --
 -- Read first: EventNets, Program.
 use Rattle.std.specs.Prelude.{◌≡◌, ◌≢◌, ℕ, ◌<◌, ◌≤◌, List, All, Some, length, slice_get}
-use Rattle.gos_types.specs.declared.widths.TheConstants.{GREATEST_WIDTH}
 use Rattle.gos_netlist.specs.Nets.{Input, Cell, Netlist, pins}
 use Rattle.gos_netlist.specs.Cycles.{IsRegister}
 use Rattle.gos_sim.specs.declared.event_nets.EventNets.{EventNets}
@@ -10,11 +9,9 @@ use Rattle.gos_sim.specs.EventNets.{input_events, output_events, OnNets, Names}
 use Rattle.gos_netlist.specs.Events.{net_count}
 use Rattle.gos_sim.specs.inner.Program.{IsShort}
 
--- a cell of no more than the greatest width whose pins are below a count
+-- a cell whose pins are below a count
 pub record IsCellWithin (count : ℕ) (c : Cell) : Type 0 where
   pub pins : All (λ a. a < count) (pins c.gate)
-  pub width : c.width ≤ GREATEST_WIDTH
-  pub short : IsShort c.gate
 
 -- all cells, each with pins that are cells
 abbrev pub AreCellsReady : List Cell → Type 0
@@ -40,6 +37,7 @@ pub record AreApart (events : List EventNets) : Type 0 where
 -- what is asked
 pub record IsReady (net : Netlist) : Type 0 where
   pub cells : AreCellsReady net.cells
+  pub constants : (n : ℕ) (c : Cell) → slice_get net.cells n ≡ Some c → IsShort c.width c.gate
   pub counts : All (λ p. net_count p.ty ≤ length p.nets) net.ports
   pub inputs : All (OnNets (IsInputNet net.cells)) (input_events net)
   pub outputs : All (OnNets (IsRegisterNet net.cells)) (output_events net)

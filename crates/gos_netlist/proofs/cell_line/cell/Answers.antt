@@ -3,6 +3,7 @@ use Rattle.std.specs.Fmt.{decimal}
 use Rattle.gos_lex.specs.Items.{Misses}
 use Rattle.gos_lex.specs.ItemTexts.{IsNumberText, Passed, ended}
 use Rattle.std.proofs.lemmas.Result.{err_from_is_err_and}
+use Rattle.gos_types.specs.declared.widths.TheConstants.{GREATEST_WIDTH}
 use Rattle.gos_netlist.specs.Seen.{function_of}
 use Rattle.gos_netlist.proofs.CellLemmas.{no_word, no_width, no_operands, cell_passed}
 use Rattle.gos_netlist.proofs.cell_line.cell.Goals as goal
@@ -16,7 +17,7 @@ returns-in_err-word-clause-wrong c =
 pub returns-in_err-width-clause-wrong : goal.returns-in_err-width-clause-wrong
 returns-in_err-width-clause-wrong c =
     let mid = c.gate_word.new.cursor in
-    let here = subst (λ (end : ℕ). Misses (IsNumberText 1 32 end) mid.text mid.at c.in_err-width.field-0.0) c.width_end.ensures c.in_err-width.ensures.wrong in
+    let here = subst (λ (end : ℕ). Misses (IsNumberText 1 GREATEST_WIDTH end) mid.text mid.at c.in_err-width.field-0.0) c.width_end.ensures c.in_err-width.ensures.wrong in
     let known = no_width c.args.cursor.now c.gate_word.new.cursor c.in_ok-word.word c.in_err-width.field-0.0 c.in_ok-word.ensures.passed here in
     let p = err_from_is_err_and c.from_residual-in_err-width.result c.from_residual-in_err-width.ensures.1 in
     rw (p.1, p.2) known

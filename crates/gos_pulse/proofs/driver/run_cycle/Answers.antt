@@ -79,7 +79,7 @@ cycle-requires-clause-numbers c =
     let has = has_ports net r.accepted in
     let taken = c.in-None.ensures net (seen_after net c.begin.new.self r.past) has (c.begin.ensures r.past r.rests).stands r.known in
     let given = c.give_all-rest.ensures.given net (seen_after net c.begin.new.self r.past) taken.taken has taken.stands r.left in
-    subst (λ (ps : List Pulse). All (λ p. IsWord p.value) ps) (sym c.deref.ensures.value)
+    subst (λ (ps : List Pulse). All (λ p. IsWord net.cells p.value) ps) (sym c.deref.ensures.value)
     (are_words net c.give_all-rest.new.board.inputs.items r.accepted given.stands.rests.inputs given.stands.in_range)
 
 pub returns-in-None-clause-cycle : goal.returns-in-None-clause-cycle

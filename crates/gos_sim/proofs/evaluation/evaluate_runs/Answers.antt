@@ -1,29 +1,35 @@
 use Rattle.std.specs.List.{flat_map}
 use Rattle.std.proofs.Common.{◌≡◌, ◌∙◌, ◌+◌, ℕ, All, arith, drop, length, subst, sym}
 use Rattle.std.proofs.lemmas.Option.{slice_get-get_or}
-use Rattle.gos_sim.specs.inner.Program.{IsStepWithin}
+use Rattle.gos_sim.specs.inner.Program.{IsSized, IsStepWithin}
 use Rattle.gos_sim.specs.inner.Evaluation.{steps_of}
-use Rattle.gos_sim.proofs.EvaluationLemmas.{no_runs_left, run_after, run_within, runs_within}
+use Rattle.gos_sim.proofs.EvaluationLemmas.{later_steps, no_runs_left, run_after, run_steps}
 use Rattle.gos_sim.proofs.evaluation.evaluate_runs.Goals as goal
 
 pub evaluate_run-requires-clause-steps : goal.evaluate_run-requires-clause-steps
-evaluate_run-requires-clause-steps c =
+evaluate_run-requires-clause-steps g c =
     let is = slice_get-get_or c.args.runs.now c.loop-run.run-index _ c.loop-run-test.true in
-    run_within c.args.operands.now c.args.runs.now c.loop-run.run-index _ (length c.loop-run.values) is c.loop-run.invariant.within
+    run_steps (IsStepWithin (length c.loop-run.values)) c.args.operands.now c.args.runs.now c.loop-run.run-index _ is c.loop-run.invariant.within
+
+pub evaluate_run-requires-clause-sized : goal.evaluate_run-requires-clause-sized
+evaluate_run-requires-clause-sized g c =
+    let is = slice_get-get_or c.args.runs.now c.loop-run.run-index _ c.loop-run-test.true in
+    run_steps (IsSized g.W.Word.bits) c.args.operands.now c.args.runs.now c.loop-run.run-index _ is c.loop-run.invariant.sized
 
 pub loop-run-preserved : goal.loop-run-preserved
-loop-run-preserved c =
+loop-run-preserved g c =
     let is = slice_get-get_or c.args.runs.now c.loop-run.run-index _ c.loop-run-test.true in
-    let each : length c.evaluate_run.new.values ≡ length c.loop-run.values = omega arith in
+    let each : length c.evaluate_run.new.values ≡ length c.loop-run.values = c.evaluate_run.ensures.long in
     record {
       each = each ∙ c.loop-run.invariant.each;
       within = subst (λ (n : ℕ). All (IsStepWithin n) (flat_map (steps_of c.args.operands.now) (drop (c.loop-run.run-index + 1) c.args.runs.now))) (sym each)
-          (runs_within c.args.operands.now c.args.runs.now c.loop-run.run-index _ (length c.loop-run.values) is c.loop-run.invariant.within);
-      rest = run_after c.args.operands.now c.args.runs.now c.loop-run.run-index _ c.loop-run.values c.evaluate_run.new.values is c.evaluate_run.ensures
+          (later_steps (IsStepWithin (length c.loop-run.values)) c.args.operands.now c.args.runs.now c.loop-run.run-index _ is c.loop-run.invariant.within);
+      sized = later_steps (IsSized g.W.Word.bits) c.args.operands.now c.args.runs.now c.loop-run.run-index _ is c.loop-run.invariant.sized;
+      rest = run_after c.args.operands.now c.args.runs.now c.loop-run.run-index _ c.loop-run.values c.evaluate_run.new.values is c.evaluate_run.ensures.values
           ∙ c.loop-run.invariant.rest;
     }
 
-pub returns : goal.returns
-returns c =
+pub returns-clause-values : goal.returns-clause-values
+returns-clause-values g c =
     sym (no_runs_left c.args.operands.now c.args.runs.now c.loop-run.run-index c.loop-run.values (omega (arith, c.loop-run-test.false)))
     ∙ c.loop-run.invariant.rest

@@ -1,11 +1,13 @@
+use Rattle.std.proofs.Common.{◌≡◌, length}
 use Rattle.gos_sim.specs.inner.Running.{KeepsOthers}
 use Rattle.gos_sim.proofs.LatchLemmas.{AreLoadedBefore}
 use Rattle.gos_sim.proofs.running.load.Given as goal
 
 -- the registers so far are loaded
 abbrev pub invariant-loop-latch : goal.invariant-loop-latch
-invariant-loop-latch l =
+invariant-loop-latch g l =
     record {
       loaded : AreLoadedBefore l.latches l.registers l.latch-index l.values;
+      long : length l.values ≡ length l.initial.values;
       others : KeepsOthers l.latches l.initial.values l.values;
     }

@@ -8,12 +8,12 @@ use Rattle.gos_sim.proofs.ProgramLemmas.{cell_at, pins_below}
 use Rattle.gos_sim.proofs.visits.is_visited.Goals as goal
 
 pub reads_change-requires-clause-pins : goal.reads_change-requires-clause-pins
-reads_change-requires-clause-pins c =
+reads_change-requires-clause-pins g c =
     pins_below c.args.cells.now (c.loop-link.link - 1) (length c.args.places.now) _ c.requires.cells (omega (arith, c.loop-link-test.true, c.loop-link.invariant.below))
     (c.requires.places ∙ sym (length-map c.args.cells.now cell_of))
 
 pub returns-then-reads_change-clause-visited : goal.returns-then-reads_change-clause-visited
-returns-then-reads_change-clause-visited c = λ yes.
+returns-then-reads_change-clause-visited g c = λ yes.
     let cells = map cell_of c.args.cells.now in
     let before = by_net c.args.places.now c.args.before.now in
     let values = by_net c.args.places.now c.args.values.now in
@@ -25,7 +25,7 @@ returns-then-reads_change-clause-visited c = λ yes.
     (subst (λ (l : ℕ). AreQuiet c.args.levels.now cells before values c.args.level l) next c.loop-link.invariant.quiet)
 
 pub loop-link-preserved : goal.loop-link-preserved
-loop-link-preserved c =
+loop-link-preserved g c =
     let cells = map cell_of c.args.cells.now in
     let before = by_net c.args.places.now c.args.before.now in
     let values = by_net c.args.places.now c.args.values.now in
@@ -40,6 +40,6 @@ loop-link-preserved c =
     }
 
 pub returns-clause-other : goal.returns-clause-other
-returns-clause-other c = λ no.
+returns-clause-other g c = λ no.
     lacks_visit c.args.levels.now (map cell_of c.args.cells.now) (by_net c.args.places.now c.args.before.now) (by_net c.args.places.now c.args.values.now) c.args.level c.loop-link.link
     (omega (arith, c.loop-link-test.false)) c.loop-link.invariant.quiet

@@ -6,7 +6,7 @@ use Rattle.gos_sim.proofs.visits.levels_visited.Goals.{then-is_visited, else-is_
 use Rattle.gos_sim.proofs.visits.levels_visited.Goals as goal
 
 pub loop-level-preserved : goal.loop-level-preserved
-loop-level-preserved c =
+loop-level-preserved g c =
     let cells = map cell_of c.args.cells.now in
     let before = by_net c.args.places.now c.args.before.now in
     let values = by_net c.args.places.now c.args.values.now in
@@ -29,6 +29,6 @@ loop-level-preserved c =
     ]
 
 pub returns : goal.returns
-returns c =
+returns g c =
     counts_all c.args.levels.now (map cell_of c.args.cells.now) (by_net c.args.places.now c.args.before.now) (by_net c.args.places.now c.args.values.now) c.loop-level.level c.loop-level.count
     (omega (arith, c.loop-level-test.false)) c.loop-level.invariant.counts

@@ -6,7 +6,7 @@ use Rattle.gos_sim.proofs.visits.levels_visited.Given as goal
 
 -- the levels so far are counted
 abbrev pub invariant-loop-level : goal.invariant-loop-level
-invariant-loop-level l =
+invariant-loop-level g l =
     record {
       above : 1 ≤ l.level;
       within : l.count ≤ l.level;

@@ -14,7 +14,7 @@ use Rattle.gos_sim.proofs.SweepLemmas.{stand_begun}
 use Rattle.gos_sim.proofs.active.Active.begin.Goals as goal
 
 pub load-requires-clause-loaded : goal.load-requires-clause-loaded
-load-requires-clause-loaded c =
+load-requires-clause-loaded g c =
     let latches = c.args.machine.now.latches.items in
     let given = subst (λ (es : List EventNets). KeepsOtherEvents es c.args.values.now c.give.new.values) c.deref.ensures.value c.give.ensures.others in
     subst (λ (ls : List Latch). AreLoadedButNoted ls c.args.self.now.changed c.args.registers.now c.give.new.values) (sym c.deref-2.ensures.value)
@@ -23,11 +23,11 @@ load-requires-clause-loaded c =
     ∙ c.requires.settled.unchanged j l at_j lacks)
 
 pub load-requires-clause-listed : goal.load-requires-clause-listed
-load-requires-clause-listed c =
+load-requires-clause-listed g c =
     subst (λ (ls : List Latch). All (HasLatch ls) c.args.self.now.changed.places.items) (sym c.deref-2.ensures.value) c.requires.awake.noted
 
 pub returns-clause-stand : goal.returns-clause-stand
-returns-clause-stand c =
+returns-clause-stand g c =
     let steps = c.args.machine.now.program in
     let latches = c.args.machine.now.latches.items in
     let old : Wake = record { readers = c.args.self.now.wake.readers; marks = c.args.self.now.wake.marks; touched = c.clear.new.self } in
@@ -45,7 +45,7 @@ returns-clause-stand c =
     c.requires.settled.shown c.requires.settled.taken kept
 
 pub returns-clause-begun : goal.returns-clause-begun
-returns-clause-begun c =
+returns-clause-begun g c =
     record {
       first = c.give.new.values;
       pulses = subst (λ (es : List EventNets). GivesAll es c.args.inputs.now c.give.new.values) c.deref.ensures.value c.give.ensures.given;

@@ -9,7 +9,7 @@ use Rattle.gos_sim.proofs.SweepLemmas.{stand_latch, stand_none, stand_step, swep
 use Rattle.gos_sim.proofs.active.Active.follow.Goals as goal
 
 pub returns-then-item-steps-clause-swept : goal.returns-then-item-steps-clause-swept
-returns-then-item-steps-clause-swept c = λ start loaded held swept.
+returns-then-item-steps-clause-swept g c = λ start loaded held swept.
     let steps = c.args.machine.now.program in
     let v = c.args.values.now in
     let done = c.show_step.ensures.evaluated in
@@ -22,7 +22,7 @@ returns-then-item-steps-clause-swept c = λ start loaded held swept.
     (subst (Follows old.wake new.wake v) done.values c.show_step.ensures.follows) refl swept)
 
 pub returns-then-item-steps-clause-stand : goal.returns-then-item-steps-clause-stand
-returns-then-item-steps-clause-stand c =
+returns-then-item-steps-clause-stand g c =
     let steps = c.args.machine.now.program in
     let latches = c.args.machine.now.latches.items in
     let old = c.args.self.now.wake in
@@ -35,7 +35,7 @@ returns-then-item-steps-clause-stand c =
     (subst (Follows old c.show_step.new.wake v) done.values c.show_step.ensures.follows) c.requires.stand)
 
 pub returns-then-item-steps-2-clause-stand : goal.returns-then-item-steps-2-clause-stand
-returns-then-item-steps-2-clause-stand c =
+returns-then-item-steps-2-clause-stand g c =
     let steps = c.args.machine.now.program in
     let latches = c.args.machine.now.latches.items in
     let v = c.args.values.now in
@@ -52,7 +52,7 @@ returns-then-item-steps-2-clause-stand c =
     (omega (arith, within, c.requires.same)) c.requires.stand)
 
 pub returns-then-item-steps-2-clause-swept : goal.returns-then-item-steps-2-clause-swept
-returns-then-item-steps-2-clause-swept c = λ start loaded held swept.
+returns-then-item-steps-2-clause-swept g c = λ start loaded held swept.
     let steps = c.args.machine.now.program in
     let latches = c.args.machine.now.latches.items in
     let old = c.args.self.now in
@@ -70,7 +70,7 @@ returns-then-item-steps-2-clause-swept c = λ start loaded held swept.
     c.take_latch.ensures.listed swept)
 
 pub returns-else-item-steps-2-clause-stand : goal.returns-else-item-steps-2-clause-stand
-returns-else-item-steps-2-clause-stand c =
+returns-else-item-steps-2-clause-stand g c =
     let steps = c.args.machine.now.program in
     let latches = c.args.machine.now.latches.items in
     let count : c.len-steps.result ≡ length steps = c.len-steps.ensures in

@@ -7,7 +7,7 @@ use Rattle.gos_sim.specs.inner.Active.{IsWake}
 use Rattle.gos_sim.proofs.active.Active.run.Goals as goal
 
 pub returns-then-sweep-clause-run : goal.returns-then-sweep-clause-run
-returns-then-sweep-clause-run c =
+returns-then-sweep-clause-run g c =
     let begun = c.begin.ensures.begun in
     let swept = c.sweep.ensures.swept c.args.values.now c.begin.new.values c.args.registers.now c.begin.ensures.swept in
     record {
@@ -26,7 +26,7 @@ returns-then-sweep-clause-run c =
     }
 
 pub returns-then-sweep-clause-still : goal.returns-then-sweep-clause-still
-returns-then-sweep-clause-still c = λ none.
+returns-then-sweep-clause-still g c = λ none.
     let swept = c.sweep.ensures.swept c.args.values.now c.begin.new.values c.args.registers.now c.begin.ensures.swept in
     record {
       registers = λ j l at_j. swept.unchanged j l at_j
@@ -36,7 +36,7 @@ returns-then-sweep-clause-still c = λ none.
     }
 
 pub returns-then-sweep-clause-awake : goal.returns-then-sweep-clause-awake
-returns-then-sweep-clause-awake c =
+returns-then-sweep-clause-awake g c =
     let swept = c.sweep.ensures.swept c.args.values.now c.begin.new.values c.args.registers.now c.begin.ensures.swept in
     let same : length c.begin.new.values ≡ length c.args.values.now = omega arith in
     record {
@@ -47,7 +47,7 @@ returns-then-sweep-clause-awake c =
     }
 
 pub returns-then-sweep-clause-settled : goal.returns-then-sweep-clause-settled
-returns-then-sweep-clause-settled c =
+returns-then-sweep-clause-settled g c =
     record {
       shown = c.sweep.ensures.shown c.if-sweep.true;
       taken = c.sweep.ensures.taken c.if-sweep.true;
@@ -55,11 +55,11 @@ returns-then-sweep-clause-settled c =
     }
 
 pub returns-then-sweep-clause-noted : goal.returns-then-sweep-clause-noted
-returns-then-sweep-clause-noted c =
+returns-then-sweep-clause-noted g c =
     (c.sweep.ensures.swept c.args.values.now c.begin.new.values c.args.registers.now c.begin.ensures.swept).noted
 
 pub returns-clause-run : goal.returns-clause-run
-returns-clause-run c =
+returns-clause-run g c =
     let begun = c.begin.ensures.begun in
     let swept = c.sweep.ensures.swept c.args.values.now c.begin.new.values c.args.registers.now c.begin.ensures.swept in
     let values = c.evaluate.new.values in

@@ -1,14 +1,16 @@
-use Rattle.std.proofs.Common.{ℕ, ◌≡◌, arith, length, subst}
+use Rattle.std.proofs.Common.{ℕ, ◌∙◌, subst}
 use Rattle.gos_sim.specs.inner.Active.{IsWake}
 use Rattle.gos_sim.proofs.active.Active.sweep.Goals as goal
 
 pub loop-preserved : goal.loop-preserved
-loop-preserved c =
+loop-preserved g c =
     let known = c.loop.invariant in
     let follow = c.follow.ensures in
-    let same : length c.loop.values ≡ length c.args.values.now = omega arith in
+    let same = known.long in
     record {
       wake = subst (λ (n : ℕ). IsWake n c.follow.new.self.wake) same follow.wake;
+      long = follow.long ∙ known.long;
+      held = follow.held ∙ known.held;
       reading = follow.reading;
       stand = follow.stand;
       swept = λ start loaded held before.

@@ -1,23 +1,12 @@
-use Rattle.std.proofs.Common.{List, ℕ, ◌≡◌, ◌<◌, ◌∙◌, All, ap, length, subst, sym}
+use Rattle.std.proofs.Common.{ap, subst, sym, ◌∙◌}
 use Rattle.gos_sim.specs.Cycle.{IsNextOutput, Simulator}
-use Rattle.gos_sim.specs.inner.Past.{settlings_of}
-use Rattle.gos_sim.specs.inner.Places.{by_net}
-use Rattle.gos_sim.specs.declared.event_nets.EventNets.{EventNets}
-use Rattle.gos_sim.specs.EventNets.{OnNets}
-use Rattle.gos_sim.proofs.MachineLemmas.{machine_output, machine_runnable}
+use Rattle.gos_sim.specs.inner.Sizes.{seen_in}
 use Rattle.gos_sim.proofs.sim.Sim.peek.Goals as goal
 
-pub show-requires-clause-nets : goal.show-requires-clause-nets
-show-requires-clause-nets c =
-    let parts = c.self.inside in
-    let each : parts.machine.count ≡ length c.deref-2.result.now = sym (ap length c.deref-2.ensures.value ∙ c.self.invariant.state.registers_each) in
-    subst (λ (es : List EventNets). All (OnNets (λ a. a < length c.deref-2.result.now)) es) (sym c.deref.ensures.value)
-    (subst (λ (n : ℕ). All (OnNets (λ a. a < n)) parts.machine.outputs.items) each (machine_runnable parts.net parts.machine c.self.invariant.machine).outputs)
+pub returns-in-Narrow : goal.returns-in-Narrow
+returns-in-Narrow c =
+    subst (λ (s : Simulator). IsNextOutput s c.peek.new.outputs) (ap seen_in (sym c.in-Narrow.is) ∙ c.self.view_is) c.peek.ensures
 
-pub returns : goal.returns
-returns c =
-    let parts = c.self.inside in
-    subst (λ (s : Simulator). IsNextOutput s c.show.new.pulses) c.self.view_is
-    (machine_output parts.net parts.machine c.self.invariant.machine parts.registers.items
-    (settlings_of parts.past (by_net parts.machine.places.items parts.values.items) (by_net parts.machine.places.items parts.before.items)) c.show.new.pulses
-    (rw (c.deref.ensures.value, c.deref-2.ensures.value) at c.show.ensures))
+pub returns-in-Wide : goal.returns-in-Wide
+returns-in-Wide c =
+    subst (λ (s : Simulator). IsNextOutput s c.peek-in-Wide.new.outputs) (ap seen_in (sym c.in-Wide.is) ∙ c.self.view_is) c.peek-in-Wide.ensures

@@ -6,10 +6,11 @@ use Rattle.gos_sim.proofs.wake.Wake.load_noted.Given as goal
 
 -- the places so far have what the registers hold
 abbrev pub invariant-loop-place : goal.invariant-loop-place
-invariant-loop-place l =
+invariant-loop-place g l =
     record {
       loaded : (p : ℕ) → LoadedButListed l.places l.registers l.initial.values p → LoadedButListed (drop l.place-index l.places) l.registers l.values p;
       others : (p : ℕ) → All (λ q. q ≢ p) l.places → at l.values p ≡ at l.initial.values p;
+      long : length l.values ≡ length l.initial.values;
       follows : Follows l.initial.self l.self l.initial.values l.values;
       wake : IsWake (length l.initial.values) l.self;
     }
