@@ -17,3 +17,4 @@ mod EndLemmas
 mod SlimLemmas
 mod TextLemmas
 mod ReadLemmas
+mod ShellLemmas

@@ -305,7 +305,7 @@ pub written_fine : (is : List SeenImport) → AreWritten is → ImportsFine (map
 written_fine [] h = tt
 written_fine (i ∷ is) (w, h) = (w, written_fine is h)
 
-imports_range : (is : List PlanImport) → ImportsFine (map import_of is) → All (λ (i : PlanImport). IsSmall i.ty) is
+pub imports_range : (is : List PlanImport) → ImportsFine (map import_of is) → All (λ (i : PlanImport). IsSmall i.ty) is
 imports_range [] h = All-nil (λ (i : PlanImport). IsSmall i.ty)
 imports_range (i ∷ is) (fine, h) = All-cons (λ (i : PlanImport). IsSmall i.ty) i is fine (imports_range is h)
 

@@ -16,7 +16,7 @@ use Rattle.gos_ties.specs.declared.points.Point.{Point}
 use Rattle.gos_ties.specs.declared.points.Tie.{Tie}
 use Rattle.gos_ties.specs.Ties.{point, at, Meet, Path, here, along, Connects, joint, Has}
 use Rattle.gos_compile.specs.Wiring.{all_ties}
-use Rattle.gos_compile.specs.SmallPlans.{skip_plan, SkipIsPlanned, same_term, same_plan, SameIsPlanned, two_imports, both_term, both_plan, BothIsPlanned, TurnedIsNotPlanned}
+use Rattle.gos_compile.specs.SmallPlans.{skip_plan, SkipIsPlanned, same_term, same_plan, SameIsPlanned, two_imports, both_term, both_plan, BothIsPlanned, TurnedIsNotPlanned, ShellIsNotPlanned}
 
 -- the plan of skip
 
@@ -222,3 +222,6 @@ both_is_planned =
 
 pub turned_is_not_planned : TurnedIsNotPlanned
 turned_is_not_planned planned = let (first, (second, rest)) = planned.order in omega (arith, second)
+
+pub shell_is_not_planned : ShellIsNotPlanned
+shell_is_not_planned planned = let weight = planned.weight in omega (arith, weight)

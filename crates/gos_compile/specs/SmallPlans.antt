@@ -10,6 +10,7 @@ use Rattle.gos_plan.specs.Kinds.{Skip, Seq}
 use Rattle.gos_plan.specs.Plans.{PartEnd, ImportEnd, ResultEnd, Plan}
 use Rattle.gos_ties.specs.Ties.{joint}
 use Rattle.gos_compile.specs.Wiring.{IsPlanOf}
+use Rattle.gos_compile.specs.Shells.{shell_of}
 
 -- the plan of `skip`
 abbrev pub skip_plan : Plan
@@ -59,3 +60,7 @@ both_turned =
 
 abbrev pub TurnedIsNotPlanned : Type 0
 TurnedIsNotPlanned = IsPlanOf two_imports Com 17 both_term both_turned → ⊥
+
+-- nor is the module's shell
+abbrev pub ShellIsNotPlanned : Type 0
+ShellIsNotPlanned = IsPlanOf two_imports Com 17 both_term (shell_of two_imports Com) → ⊥

@@ -51,8 +51,8 @@ pub fn compile(alloc: Global, program: &Linear) -> Result<Plan, NoMemory>
     Ok(plan)
 }
 
-// The imports of a plan.
-fn plan_imports(alloc: Global, imports: &[Import]) -> Result<Vec<PlanImport>, NoMemory>
+/// The imports of a plan.
+pub(crate) fn plan_imports(alloc: Global, imports: &[Import]) -> Result<Vec<PlanImport>, NoMemory>
     ensures imports { IfOk result (λ found. map plans.import_of found.items ≡ map sources.import_of imports.now) }
     ensures names { IfOk result (λ found. HaveNames found.items) }
 {

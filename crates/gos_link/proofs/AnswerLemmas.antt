@@ -17,14 +17,15 @@ use Rattle.gos_link.specs.declared.services.Service.{Service}
 use Rattle.gos_link.specs.declared.fault.LinkFault.{LinkFault}
 use Rattle.gos_link.specs.declared.fault.LinkFault.TheVariants as faults
 use Rattle.gos_link.specs.Services.{instance_named, BindsOn}
-use Rattle.gos_link.specs.Linked.{Port, IsDone, IsFirstHigher, IsSecond, IsPlaced, IsNamed, IsGrounded, IsLight, IsWrongWhole, count_ports, first_unplaced, outcome_of, plans_of, ports_of, whole_of, wiring_of}
+use Rattle.gos_link.specs.Linked.{Port, IsDone, IsFirstHigher, IsSecond, IsPlaced, IsNamed, IsGrounded, IsLight, IsOfLinks, IsWrongWhole, count_ports, first_unplaced, outcome_of, plans_of, ports_of, whole_of, wiring_of}
 use Rattle.gos_link.specs.Order.{ends_from, position_in, AreInOrder}
 use Rattle.gos_link.specs.Answers.{IsSameFault, LinkedIsOne, HasOneFault, LinkedHasNoFault}
+use Rattle.gos_link.specs.Faces.{LinksHaveNoFault, LinksAreOne}
 use Rattle.gos_link.proofs.PortLemmas.{same_at}
 use Rattle.gos_link.proofs.FewLemmas.{same_size}
 use Rattle.gos_link.proofs.ServiceLemmas.{in_contained, contains_in}
 use Rattle.gos_link.proofs.JoinedLemmas.{has_in, in_has}
-use Rattle.gos_link.proofs.SeenLemmas.{binds_too}
+use Rattle.gos_link.proofs.FaceLemmas.{binds_too, same_faces}
 use Rattle.gos_link.proofs.StageLemmas.{both_are, same_some, some_none, one_stage, never_passes, one_meaning, one_wrong, right_or_wrong}
 
 -- how bind lines end
@@ -260,6 +261,28 @@ module _ (joins_one : JoiningIsOne) (b : Build) (ps : List SeenPlan) (ss : List 
   never_both root p f light joining small wrong =
       let (m, low, one) = stops f wrong in never_passes Passed down Stopped clash m 7 f low one (root, p, light, joining, small)
 
+  -- what is wrong of links is wrong before the weight
+  stops_early : (f : LinkFault) → IsOfLinks f → IsWrongWhole b ps ss f → (n : ℕ) × (suc n ≤ 5) × Stopped n f
+  stops_early (faults.TooHeavy weight) light w = absurd light
+  stops_early (faults.TooLarge size ports) light w = absurd light
+  stops_early (faults.NoInstance line name) light (at, same, none) = (0, omega arith, ((λ i. faults.NoInstance (at i) (same i)), none))
+  stops_early (faults.Unplaced name) light (root, finds, unplaced) = (1, omega arith, (root, name, refl, finds, unplaced))
+  stops_early (faults.OpenTwice name first second) light (root, one, other, placed, seconds, is, at, and) =
+      (2, omega arith, (root, one, other, (λ i. faults.OpenTwice (is i) (at i) (and i)), placed, seconds))
+  stops_early (faults.NotGround name) light (root, named, inl (never, is)) = (3, omega arith, (root, ap faults.NotGround is, named, never))
+  stops_early (faults.NotGround name) light (root, named, inr (done, l, higher, is)) = (4, omega arith, (root, l, ap faults.NotGround is, named, done, higher))
+  stops_early (faults.Form line) light w = absurd w
+  stops_early (faults.NoImport line name) light w = absurd w
+  stops_early (faults.TypeDiffers line want got) light w = absurd w
+  stops_early (faults.BoundTwice first second) light w = absurd w
+  stops_early (faults.UsedTwice first second) light w = absurd w
+  stops_early (faults.Loop line) light w = absurd w
+  stops_early faults.NoMemory light w = absurd w
+
+  never_grounded : (root : ℕ) (f : LinkFault) → IsGrounded b ps ss root → IsOfLinks f → IsWrongWhole b ps ss f → ⊥
+  never_grounded root f grounded light wrong =
+      let (m, low, one) = stops_early f light wrong in never_passes Passed down Stopped clash m 5 f low one (root, grounded)
+
 pub linked_is_one : JoiningIsOne → LinkedIsOne
 linked_is_one joins_one b ps qs p q seen one other = λ i.
     record { weight = alike.weight i; imports = alike.imports i; outcome = alike.outcome i; parts = alike.parts i; joints = joints i }
@@ -267,7 +290,7 @@ linked_is_one joins_one b ps qs p q seen one other = λ i.
     services : one.services ≡ other.services
     services =
         (binds_agree b.instances.items qs [] b.binds.items one.services other.services None None
-        (binds_too ps qs seen b.instances.items [] b.binds.items one.services one.binds) other.binds).0
+        (binds_too ps qs (same_faces ps qs seen) b.instances.items [] b.binds.items one.services None one.binds) other.binds).0
 
     roots : one.root ≡ other.root
     roots =
@@ -307,3 +330,16 @@ linked_has_no_fault joins_one b ps p f linked (inr (ts, other, wrong)) =
     let (same, ends) = binds_agree b.instances.items ps [] b.binds.items linked.services ts None None linked.binds other in
     never_both joins_one b ps linked.services linked.root p f linked.light linked.joining (linked.small, linked.few)
     (subst (λ (us : List Service). IsWrongWhole b ps us f) (sym same) wrong)
+
+pub links_have_no_fault : JoiningIsOne → LinksHaveNoFault
+links_have_no_fault joins_one b ps all f links light (inl (ts, other)) =
+    absurd (binds_agree b.instances.items ps [] b.binds.items all.services ts None (Some f) links.binds other).1
+links_have_no_fault joins_one b ps all f links light (inr (ts, other, wrong)) =
+    let (same, ends) = binds_agree b.instances.items ps [] b.binds.items all.services ts None None links.binds other in
+    never_grounded joins_one b ps all.services all.root f links.grounded light (subst (λ (us : List Service). IsWrongWhole b ps us f) (sym same) wrong)
+
+pub links_are_one : LinksAreOne
+links_are_one b ps one other links also =
+    let (services, ends) = binds_agree b.instances.items ps [] b.binds.items one.services other.services None None links.binds also.binds in
+    let root = same_some (instance_named b.instances.items b.root) one.root other.root links.grounded.named.placed.finds_root also.grounded.named.placed.finds_root in
+    λ i. record { services = services i; root = root i }

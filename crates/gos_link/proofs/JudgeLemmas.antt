@@ -1,12 +1,14 @@
 -- What is wrong of a build behind its bind lines, from what was found of its ports.
-use Rattle.std.specs.Prelude.{◌≡◌, ℕ, ◌<◌, List, [], ◌∷◌, length, map, Some, None, option_map, slice_get}
-use Rattle.std.proofs.Common.{refl, sym, ◌∙◌, ap, subst, arith, inl, inr}
+use Rattle.std.specs.Prelude.{◌≡◌, ℕ, ◌<◌, List, [], ◌∷◌, ◌++◌, length, map, Some, None, option_map, slice_get}
+use Rattle.std.proofs.Common.{refl, sym, ◌∙◌, ap, subst, arith, inl, inr, append-nil, append_assoc}
 use Rattle.std.proofs.lemmas.List.{length-map}
 use Rattle.std.proofs.lemmas.Option.{slice_get-map, slice_get_within}
 use Rattle.gos_types.specs.Types.{Type', type_of}
 use Rattle.gos_types.proofs.ListLemmas.{element_at}
 use Rattle.gos_plan.specs.Seen.{SeenPlan, plan_of}
 use Rattle.gos_plan.specs.Joining.{LeftImport, all_left}
+use Rattle.gos_link.specs.declared.build.Instance.{Instance}
+use Rattle.gos_link.specs.declared.build.Bind.{Bind}
 use Rattle.gos_link.specs.declared.build.Build.{Build}
 use Rattle.gos_link.specs.declared.services.Service.{Service}
 use Rattle.gos_link.specs.declared.opens.Open.{Open}
@@ -17,8 +19,9 @@ use Rattle.gos_link.specs.Linked.{Port, AreGround, IsDone, IsFirstHigher, IsPlac
 use Rattle.gos_link.specs.inner.Judged.{IsJudged}
 use Rattle.gos_link.specs.inner.Opens.{open_seen, opens_among}
 use Rattle.gos_link.specs.inner.Ports.{AllDiffer, IsOpenTwice}
-use Rattle.gos_link.specs.inner.Tops.{AreTops}
-use Rattle.gos_link.proofs.BindLemmas.{instance_low}
+use Rattle.gos_link.specs.inner.Tops.{AreTops, moved, top_at}
+use Rattle.gos_link.proofs.AboveLemmas.{above_none}
+use Rattle.gos_link.proofs.BindLemmas.{instance_low, tops_meant}
 use Rattle.gos_link.proofs.BoundLemmas.{joinable, root_unused}
 use Rattle.gos_link.proofs.PlaceLemmas.{open_at}
 use Rattle.gos_link.proofs.ServiceLemmas.{opens_left}
@@ -32,10 +35,23 @@ plan_low ss ps k l at =
     let plan = r.plan_is in
     omega (arith, low, size, plan)
 
+-- instances end somewhere, as they serve one another by right lines
+tops_on : (is : List Instance) (ps : List SeenPlan) (before : List Service) (bs : List Bind) (ss : List Service) (tops : List ℕ) → AreTops (length is) before tops
+    → BindsOn is ps before bs ss None → (after : List ℕ) × AreTops (length is) (before ++ ss) after
+tops_on is ps before [] [] tops known binds = (tops, subst (λ (ts : List Service). AreTops (length is) ts tops) (sym (append-nil before)) known)
+tops_on is ps before [] (s ∷ ss) tops known binds = absurd binds
+tops_on is ps before (b ∷ bs) [] tops known binds = absurd binds
+tops_on is ps before (b ∷ bs) (s ∷ ss) tops known (right, rest) =
+    let next : List ℕ = map (moved s.giver (top_at tops s.user)) tops in
+    let (after, ends) = tops_on is ps (before ++ s ∷ []) bs ss next (tops_meant is ps before b s tops next known right refl) rest in
+    (after, subst (λ (ts : List Service). AreTops (length is) ts after) (append_assoc before (s ∷ []) ss) ends)
+
 -- a build whose bind lines are right and whose instances have their places
 pub judged : (b : Build) (ps : List SeenPlan) (ss : List Service) (root : ℕ) → length ps ≡ length b.instances.items
-    → BindsOn b.instances.items ps [] b.binds.items ss None → ((tops : List ℕ) × AreTops (length b.instances.items) ss tops) → IsPlaced b ss root → IsJudged b ps ss root
-judged b ps ss root each binds (tops, known) placed =
+    → BindsOn b.instances.items ps [] b.binds.items ss None → IsPlaced b ss root → IsJudged b ps ss root
+judged b ps ss root each binds placed =
+    let none = above_none (length b.instances.items) in
+    let (tops, known) = tops_on b.instances.items ps [] b.binds.items ss none.0 none.1 binds in
     let low = instance_low b.instances.items b.root root placed.finds_root in
     let unused = root_unused b.instances.items ss root tops known low placed.placed in
     let (p, at) = element_at ps root (let below : root < length ps = omega (arith, low, each) in below) in

@@ -23,7 +23,8 @@ mod TieLemmas
 mod JudgeLemmas
 mod WholeLemmas
 mod StageLemmas
-mod SeenLemmas
+mod FaceLemmas
 mod AnswerLemmas
 mod ReadingLemmas
+mod SmallLinkLemmas
 pub mod CountedLemmas

@@ -4,5 +4,7 @@ pub mod Services
 pub mod Order
 pub mod SmallOrders
 pub mod Linked
+pub mod Faces
+pub mod SmallLinks
 pub mod Answers
 pub mod inner

@@ -194,3 +194,20 @@ abbrev pub IsUnlinked : Build → List SeenPlan → LinkFault → Type 0
 IsUnlinked b ps fault =
     ((ss : List Service) × BindsOn b.instances.items ps [] b.binds.items ss (Some fault))
     ⊎ ((ss : List Service) × BindsOn b.instances.items ps [] b.binds.items ss None × IsWrongWhole b ps ss fault)
+
+-- what bind lines mean, and the number of the root
+pub record SeenLinks : Type 0 where
+  pub services : List Service
+  pub root : ℕ
+
+-- What is asked of a build before its weight: the bind lines are right and mean these services, this instance is its root, and its
+-- ports are right.
+pub record AreLinks (b : Build) (ps : List SeenPlan) (links : SeenLinks) : Type 0 where
+  pub binds : BindsOn b.instances.items ps [] b.binds.items links.services None
+  pub grounded : IsGrounded b ps links.services links.root
+
+-- the fault is none of the weight, the size or the number of ports
+abbrev pub IsOfLinks : LinkFault → Type 0
+IsOfLinks (faults.TooHeavy weight) = ⊥
+IsOfLinks (faults.TooLarge size ports) = ⊥
+IsOfLinks fault = Unit {0}

@@ -90,6 +90,13 @@ impl Services {
         Ok(Services { all, bound, used })
     }
 
+    /// The services, in the order of their lines.
+    pub fn all(&self) -> &[Service]
+        ensures { result.now ≡ self.now }
+    {
+        self.all.as_slice()
+    }
+
     /// The number of the first service of an import.
     pub fn number_bound(&self, user: usize, import: usize) -> Option<usize>
         ensures number { result ≡ number_bound self.now user import }

@@ -3,6 +3,7 @@
 ghost use Rattle.std.specs.Prelude.{◌≡◌, ◌≢◌, ◌<◌, [], ℕ, List, Some, None, length, map, IfOk, IfErr};
 ghost use Rattle.gos_types.specs.Types.{type_of};
 ghost use Rattle.gos_link.specs.Services.{import_named, Means, IsRightBind, IsWrongBind, BindsOn};
+ghost use Rattle.gos_link.specs.Linked.{IsOfLinks};
 ghost use Rattle.gos_link.specs.inner.Served.{AreAbove};
 ghost use Rattle.gos_link.specs.inner.Tops.{AreTops, top_at};
 
@@ -45,7 +46,8 @@ pub(crate) fn copy_name(alloc: Global, name: &Name) -> Result<Name, NoMemory>
 
 // That a line names no instance.
 pub(crate) fn no_instance(alloc: Global, line: u64, name: &Name) -> LinkFault
-    ensures { result ≢ LinkFault.NoMemory → result ≡ LinkFault.NoInstance line name.now }
+    ensures names { result ≢ LinkFault.NoMemory → result ≡ LinkFault.NoInstance line name.now }
+    ensures light { IsOfLinks result }
 {
     match copy_name(alloc, name) {
         Ok(name) => LinkFault::NoInstance { line, name },
@@ -55,7 +57,8 @@ pub(crate) fn no_instance(alloc: Global, line: u64, name: &Name) -> LinkFault
 
 // That a line names no import.
 fn no_import(alloc: Global, line: u64, name: &Name) -> LinkFault
-    ensures { result ≢ LinkFault.NoMemory → result ≡ LinkFault.NoImport line name.now }
+    ensures names { result ≢ LinkFault.NoMemory → result ≡ LinkFault.NoImport line name.now }
+    ensures light { IsOfLinks result }
 {
     match copy_name(alloc, name) {
         Ok(name) => LinkFault::NoImport { line, name },
@@ -65,8 +68,9 @@ fn no_import(alloc: Global, line: u64, name: &Name) -> LinkFault
 
 // That a line binds different types.
 fn type_differs(alloc: Global, line: u64, want: &Ty, got: &Ty) -> Result<LinkFault, NoMemory>
-    ensures { IfOk result (λ fault. (w : Ty) × (g : Ty) × (fault ≡ LinkFault.TypeDiffers line w g) × (type_of w ≡ type_of want.now)
+    ensures types { IfOk result (λ fault. (w : Ty) × (g : Ty) × (fault ≡ LinkFault.TypeDiffers line w g) × (type_of w ≡ type_of want.now)
         × (type_of g ≡ type_of got.now)) }
+    ensures light { IfOk result IsOfLinks }
 {
     let want = copy(alloc, want)?;
     let got = copy(alloc, got)?;
@@ -83,6 +87,7 @@ fn meaning(
     requires { length plans.now ≡ length instances.now }
     ensures means { IfOk result (Means instances.now plans.now bind.now) }
     ensures fault { IfErr result (λ fault. fault ≢ LinkFault.NoMemory → (before : List Service) → IsWrongBind instances.now plans.now before bind.now fault) }
+    ensures light { IfErr result IsOfLinks }
 {
     let Some(user) = instances.number(&bind.user) else {
         return Err(no_instance(alloc, bind.line, &bind.user));
@@ -120,6 +125,7 @@ fn service_of(
     requires tops { (tops : List ℕ) × AreTops (length instances.now) before.now tops × AreAbove before.now tops above.now }
     ensures right { IfOk result (IsRightBind instances.now plans.now before.now bind.now) }
     ensures fault { IfErr result (λ fault. fault ≢ LinkFault.NoMemory → IsWrongBind instances.now plans.now before.now bind.now fault) }
+    ensures light { IfErr result IsOfLinks }
 {
     let service = meaning(alloc, instances, plans, bind)?;
     let second = service.line;
@@ -168,9 +174,9 @@ pub(crate) fn services_of(
 ) -> Result<Services, LinkFault>
     requires { length plans.now ≡ length instances.now }
     ensures right { IfOk result (λ services. BindsOn instances.now plans.now [] binds.now services None) }
-    ensures tops { IfOk result (λ services. (tops : List ℕ) × AreTops (length instances.now) services tops) }
     ensures fault { IfErr result (λ fault. fault ≢ LinkFault.NoMemory
         → (services : List Service) × BindsOn instances.now plans.now [] binds.now services (Some fault)) }
+    ensures light { IfErr result IsOfLinks }
 {
     let mut services = Services::new(alloc);
     let mut above = Vec::new(alloc);

@@ -4,7 +4,7 @@ ghost use Rattle.std.specs.Prelude.{◌≡◌, ◌≢◌, ◌<◌, ◌≤◌, �
 ghost use Rattle.gos_types.specs.Types.{type_of};
 ghost use Rattle.gos_plan.specs.Seen.{SeenPlan};
 ghost use Rattle.gos_plan.specs.Joining.{LeftImport};
-ghost use Rattle.gos_link.specs.Linked.{AreDifferent, AreGround, IsDone, IsFirstHigher, IsPlaced, IsSecond, IsWrongWhole, first_unplaced, is_placed, port_of};
+ghost use Rattle.gos_link.specs.Linked.{AreDifferent, AreGround, IsDone, IsFirstHigher, IsOfLinks, IsPlaced, IsSecond, IsWrongWhole, first_unplaced, is_placed, port_of};
 ghost use Rattle.gos_link.specs.inner.Opens.{open_seen};
 ghost use Rattle.gos_link.specs.inner.Ports.{port_seen, AllDiffer, IsOpenTwice};
 
@@ -56,6 +56,7 @@ pub(crate) fn root_of(
     requires { instances.now ≡ build.now.instances.items }
     ensures placed { IfOk result (IsPlaced build.now services.now) }
     ensures fault { IfErr result (λ fault. fault ≢ LinkFault.NoMemory → (ps : List SeenPlan) → IsWrongWhole build.now ps services.now fault) }
+    ensures light { IfErr result IsOfLinks }
 {
     let Some(root) = instances.number(&build.root) else {
         return Err(no_instance(alloc, build.root_line, &build.root));
@@ -154,6 +155,7 @@ pub(crate) fn check_names(
         ∷ map (port_of instances.now) (map open_seen opens.now))) }
     ensures fault { IfErr result (λ fault. fault ≢ LinkFault.NoMemory
         → IsOpenTwice ((record { name = root.now; instance = root.now }) ∷ map (port_of instances.now) (map open_seen opens.now)) fault) }
+    ensures light { IfErr result IsOfLinks }
 {
     let ports = ports_of(alloc, instances, root, opens)?;
     match clash_of(alloc, &ports)? {
@@ -173,6 +175,7 @@ fn is_done(ty: &Ty) -> bool
 pub(crate) fn check_result(alloc: Global, root: &Name, outcome: &Ty) -> Result<(), LinkFault>
     ensures done { IfOk result (λ _. IsDone (type_of outcome.now)) }
     ensures fault { IfErr result (λ fault. fault ≢ LinkFault.NoMemory → (IsDone (type_of outcome.now) → ⊥) × (fault ≡ LinkFault.NotGround root.now)) }
+    ensures light { IfErr result IsOfLinks }
 {
     if is_done(outcome) {
         return Ok(());
@@ -200,6 +203,7 @@ pub(crate) fn check_imports(alloc: Global, opens: &[Open]) -> Result<(), LinkFau
     ensures ground { IfOk result (λ _. AreGround (length opens.now) (map open_seen opens.now)) }
     ensures fault { IfErr result (λ fault. fault ≢ LinkFault.NoMemory
         → (l : LeftImport) × IsFirstHigher (map open_seen opens.now) l × (fault ≡ LinkFault.NotGround l.import.name)) }
+    ensures light { IfErr result IsOfLinks }
 {
     match first_higher(opens) {
         Some(import) => {

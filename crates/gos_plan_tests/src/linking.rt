@@ -4,7 +4,7 @@ ghost use Rattle.std.specs.Prelude.{IfOk, IfSome};
 ghost use Rattle.gos_link.specs.Linked.{AllKeepLimits, plans_of};
 
 use gos_lex::Name;
-use gos_link::{LinkFault, link, read_build};
+use gos_link::{LinkFault, Links, judge_links, link, read_build};
 use gos_plan::{Plan, print_object, read_object};
 use gos_types::{Ty, print_ty};
 use std::alloc::{AllocError, Global};
@@ -312,6 +312,74 @@ fn tells_the_first_fault(rt: HostRuntime) -> Result<(), Fail> {
     for (lines, objects, wanted) in FAULTS.iter() {
         assert!(rt; is_linked(rt.alloc(), lines, objects, wanted)?);
     }
+    Ok(())
+}
+
+// An object without its parts and joints.
+fn bare(alloc: Global, object: &str) -> Result<String, AllocError> {
+    match object.split_once("parts ") {
+        Some((head, _)) => format!(in alloc; "{head}parts 0\njoints 0\nend\n"),
+        None => String::from_str(alloc, object),
+    }
+}
+
+// The plans of objects without their parts and joints, if they are some.
+fn bare_plans(alloc: Global, objects: &[&str]) -> Result<Option<Vec<Plan>>, AllocError>
+    ensures { IfOk result (λ found. IfSome found (λ plans. AllKeepLimits (plans_of plans.items))) }
+{
+    let mut plans = Vec::new(alloc);
+    for object in objects {
+        let text = bare(alloc, object)?;
+        match read_object(alloc, text.as_bytes()) {
+            Ok(plan) => plans.push(plan)?,
+            Err(_) => return Ok(None),
+        }
+    }
+    Ok(Some(plans))
+}
+
+// The root of a build and how many services it has.
+fn links_text(alloc: Global, links: &Links) -> Result<String, AllocError> {
+    let root = links.root();
+    let services = links.services().len();
+    format!(in alloc; "root {root} services {services}")
+}
+
+// What a build of these lines is told before its weight, over objects without parts and joints.
+fn judged(alloc: Global, lines: &str, objects: &[&str]) -> Result<String, AllocError> {
+    let build_text = format!(in alloc; "gosbuild 1\n{lines}{TAIL}")?;
+    let Ok(build) = read_build(alloc, build_text.as_bytes(), b"b.txt") else {
+        return String::from_str(alloc, "no build");
+    };
+    let Some(plans) = bare_plans(alloc, objects)? else {
+        return String::from_str(alloc, "no object");
+    };
+    if plans.len() != build.instances.len() {
+        return String::from_str(alloc, "other objects");
+    }
+    match judge_links(alloc, &build, &plans) {
+        Ok(links) => links_text(alloc, &links),
+        Err(fault) => line_of(alloc, &fault),
+    }
+}
+
+// Whether a build is told this before its weight.
+fn is_judged(
+    alloc: Global,
+    lines: &str,
+    objects: &[&str],
+    wanted: &str,
+) -> Result<bool, AllocError> {
+    Ok(judged(alloc, lines, objects)?.as_str() == wanted)
+}
+
+#[test]
+fn objects_without_parts_say_enough_before_the_weight(rt: HostRuntime) -> Result<(), Fail> {
+    for (lines, objects, wanted) in FAULTS[..16].iter() {
+        assert!(rt; is_judged(rt.alloc(), lines, objects, wanted)?);
+    }
+    let (lines, objects, _) = FAULTS[16];
+    assert!(rt; is_judged(rt.alloc(), lines, objects, "root 0 services 4")?);
     Ok(())
 }
 

@@ -7,7 +7,7 @@ use Rattle.gos_outside.specs.Files.{Files}
 use Rattle.gos_link.specs.BuildFile.{IsBuildFile}
 use Rattle.gos_link.specs.declared.build.Build as builds
 use Rattle.gos_command.specs.declared.report.Report.{Report}
-use Rattle.gos_tool.specs.Calls.{read_source, compile_calls, sim_calls, link_calls, build_calls, rewrite_calls, write_calls}
+use Rattle.gos_tool.specs.Calls.{read_source, compile_calls, sim_calls, link_calls, build_calls, write_calls}
 use Rattle.gos_tool.specs.Agreement.{AgreeOn, AgreeOnBuild, WriteTheSame, WriteOneBuild}
 use Rattle.gos_tool.specs.demo.DemoFiles.{IsLevelCount, build_file, demo_files}
 use Rattle.gos_tool.specs.demo.Demo.{names_of}
@@ -25,16 +25,15 @@ IsDecided (Demo levels) = IsLevelCount levels
 IsDecided (Tidy net out) = ⊥
 IsDecided (Gates net out) = ⊥
 
--- both stores hold the same bytes in each file that the command reads; `demo` reads what it wrote itself
+-- Both stores hold the same bytes in each file that the command reads. `demo` reads what it wrote itself; of `tidy` and `gates` nothing
+-- is said here.
 abbrev pub AgreeFor : Command → Files → Files → Type 0
 AgreeFor (Check source) files others = AgreeOn (read_source source ∷ []) files others
 AgreeFor (Compile source object) files others = AgreeOn (compile_calls source object) files others
 AgreeFor (Link own) files others = AgreeOnBuild own link_calls files others
 AgreeFor (Sim net pulses trace) files others = AgreeOn (sim_calls net pulses trace) files others
 AgreeFor (Build own) files others = AgreeOnBuild own build_calls files others
-AgreeFor (Demo levels) files others = Unit {0}
-AgreeFor (Tidy net out) files others = AgreeOn (rewrite_calls net out) files others
-AgreeFor (Gates net out) files others = AgreeOn (rewrite_calls net out) files others
+AgreeFor command files others = Unit {0}
 
 -- what two runs of it write is the same; `demo` writes its own files, and then those of the build that its build file says
 abbrev pub WritesTheSame : Command → (files others : Files) (new other : Option Files) → Type 0
@@ -46,8 +45,7 @@ WritesTheSame (Build own) files others new other = WriteOneBuild own build_calls
 WritesTheSame (Demo levels) files others new other =
     (b : builds.Build) × IsBuildFile (build_file levels).text (build_file levels).name b
     × WriteTheSame (write_calls (names_of (demo_files levels)) ++ build_calls b) (Some files) (Some others) new other
-WritesTheSame (Tidy net out) files others new other = WriteTheSame (rewrite_calls net out) (Some files) (Some others) new other
-WritesTheSame (Gates net out) files others new other = WriteTheSame (rewrite_calls net out) (Some files) (Some others) new other
+WritesTheSame command files others new other = Unit {0}
 
 -- where such a command is done twice with the same files, it writes the same texts into the same files, and tells the same
 abbrev pub CommandMakesOne : Type 0

@@ -27,6 +27,19 @@ const RUN: &[u8] = b"cycles 2000\nnext 0 main.run\n";
 
 const BUILD: [&str; 2] = ["build", "b.txt"];
 
+/// The files of the build `TWO`: those that it reads, and then those that it writes.
+const FILES: [&[u8]; 9] = [
+    b"b.txt",
+    b"main.gos",
+    b"k.gos",
+    b"in.pls",
+    b"main.obj",
+    b"k.obj",
+    b"out.net",
+    b"out.v",
+    b"out.trc",
+];
+
 // Runs `build b.txt` for a build of one instance.
 fn built_alone<'a>(alloc: Global, source: &'a [u8], pulses: &'a [u8]) -> Result<Left, AllocError> {
     let files: [(&[u8], &[u8]); 3] = [(b"b.txt", ONE), (b"main.gos", source), (b"in.pls", pulses)];
@@ -48,6 +61,25 @@ fn built_of_two(
         (b"in.pls", pulses),
     ];
     ran(alloc, &BUILD, &files)
+}
+
+// Runs it again over the files that it left.
+fn built_again(alloc: Global, left: &Left) -> Result<Left, AllocError> {
+    let mut files = Vec::new(alloc);
+    for name in FILES.iter() {
+        if let Some(bytes) = left.file(name) {
+            files.push((*name, bytes))?;
+        }
+    }
+    ran(alloc, &BUILD, files.as_slice())
+}
+
+// Whether there is a file of this name, and both hold the same.
+fn is_same(name: &[u8], one: &Left, other: &Left) -> bool {
+    match one.file(name) {
+        Some(bytes) => other.holds(name, bytes),
+        None => false,
+    }
 }
 
 // Whether a build ended well, printed this line, and has a trace of these pulses.
@@ -137,6 +169,19 @@ fn instances_are_compiled_and_linked(rt: HostRuntime) -> Result<(), Fail> {
     let two = built_of_two(rt.alloc(), TWO, main, b"export skip : com", RUN)?;
     assert!(rt; two.ended(0, b"ok weight 11 cycles 2000 pulses 2 unused 0\n"));
     assert!(rt; two.holds(b"k.obj", SKIP_OBJECT));
+    Ok(())
+}
+
+#[test]
+fn second_build_in_one_folder_writes_the_same(rt: HostRuntime) -> Result<(), Fail> {
+    let main = b"import e : com export e : com";
+    let first = built_of_two(rt.alloc(), TWO, main, b"export skip : com", RUN)?;
+    let second = built_again(rt.alloc(), &first)?;
+    assert!(rt; first.has_code(0));
+    assert!(rt; second.ended(0, b"ok weight 11 cycles 2000 pulses 2 unused 0\n"));
+    for name in FILES.iter() {
+        assert!(rt; is_same(name, &first, &second));
+    }
     Ok(())
 }
 

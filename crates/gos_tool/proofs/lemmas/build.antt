@@ -8,4 +8,5 @@ pub mod HeadlineLemmas
 pub mod PulseLemmas
 pub mod CompleteLemmas
 pub mod RepeatedLemmas
+pub mod CallLemmas
 pub mod BuildLemmas

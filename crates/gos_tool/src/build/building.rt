@@ -1,30 +1,21 @@
 // The command `build BUILD`: the files are read and judged in their order, and objects, netlist, Verilog text and trace are
 // written.
 
-ghost use Rattle.std.specs.Prelude.{◌≡◌, ◌≤◌, ◌∷◌, [], length, IfOk, IfErr, IfSome, IsErrOf};
+ghost use Rattle.std.specs.Prelude.{◌∷◌, [], IfOk, IfErr, IfSome, IsErrOf};
 ghost use Rattle.gos_outside.specs.FileName.{IsFileName};
-ghost use Rattle.gos_outside.specs.OtherFiles.{OthersSame};
 ghost use Rattle.gos_outside.specs.Faults.{CountsFaults};
-ghost use Rattle.gos_outside.specs.Calls.{AreMade};
-ghost use Rattle.gos_link.specs.Linked.{IsLinkable};
 ghost use Rattle.gos_command.specs.Ends.{IfStopped, IsTold, ending};
 ghost use Rattle.gos_tool.specs.Causes.{OfSource, OfBuild, OfPulses, StopsFor, TellsBoth};
-ghost use Rattle.gos_tool.specs.Calls.{plans_calls, build_calls, GoesByBuild};
-ghost use Rattle.gos_tool.specs.build.Built.{IsPlansBuilt, IsBuilt, RejectsPlans, RejectsInstances, RejectsBuild};
-ghost use Rattle.gos_tool.specs.build.Built.{IsPlansBuildCall, IsInstancesCall, IsBuildCall, written_by, KeepsUnnamed};
-ghost use Rattle.gos_tool.specs.build.Built.{IsPlansBuildCutShort, IsInstancesCutShort, IsBuildCutShort};
-ghost use Rattle.gos_tool.specs.build.inner.Compiling.{AreApart, AreFit};
-ghost use Rattle.gos_tool.specs.build.inner.Instances.{AreInstancesBuilt};
+ghost use Rattle.gos_tool.specs.Calls.{build_calls, GoesByBuild};
+ghost use Rattle.gos_tool.specs.build.Built.{IsBuilt, RejectsBuild, IsBuildCall, IsBuildCutShort, KeepsUnnamed};
 
 use crate::build::compiling::compile_all;
 use crate::build::laws::paced_modules;
 use crate::circuits::{build_in, link_plans};
 use crate::simulate::simulate;
 use gos_command::{Report, Stop};
-use gos_link::Build;
 use gos_linked::laws::fits::slim_plans_fit;
 use gos_outside::Store;
-use gos_plan::Plan;
 use std::alloc::Global;
 
 /// Builds what the build file `own` says: compiles the source of each instance and writes its object, links the plans, writes
@@ -52,65 +43,10 @@ pub fn build<S: Store>(alloc: Global, own: &[u8], store: &mut S) -> Result<Repor
     ensures others { KeepsUnnamed own.now (S.contents store.old) (S.contents store.new) }
 {
     paced_modules();
-    let build = build_in(alloc, own, store)?;
-    build_instances(alloc, own, &build, store)
-}
-
-// Compiles the sources of the instances and writes their objects, and builds the circuit of their plans.
-fn build_instances<S: Store>(
-    alloc: Global,
-    own: &[u8],
-    build: &Build,
-    store: &mut S,
-) -> Result<Report, Stop>
-    requires own { IsFileName own.now }
-    requires apart { AreApart build.now.instances.items }
-    requires few_instances { length build.now.instances.items ≤ 65536 }
-    requires few_binds { length build.now.binds.items ≤ 65536 }
-    ensures done { IfOk result (λ report. IfSome (S.contents store.old) (λ files.
-        AreInstancesBuilt files (S.contents store.new) build.now report)) }
-    ensures rejected { IfErr result (λ stop. IfStopped stop (λ fault line.
-        IfSome (S.contents store.old) (λ files. RejectsInstances files (S.contents store.new) own.now build.now fault line))) }
-    ensures told { IfErr result (λ stop. IfStopped stop IsTold) }
-    ensures tells { IfOk result TellsBoth }
-    ensures kind { IfErr result (StopsFor (OfSource ∷ OfBuild ∷ OfPulses ∷ [])) }
-    ensures calls { AreMade (ending result) (build_calls build.now) (S.calls store.old) (S.calls store.new) }
-    ensures counts { CountsFaults (IsErrOf result Stop.StoreFailed) (S.faults store.old) (S.faults store.new) }
-    ensures failed_call { IsErrOf result Stop.StoreFailed → IfSome (S.contents store.old) (λ files.
-        IsInstancesCall files (S.contents store.new) build.now (S.last_fault store.new)) }
-    ensures memory_files { IsErrOf result Stop.NoMemory → IfSome (S.contents store.old) (λ files.
-        IsInstancesCutShort files (S.contents store.new) build.now) }
-    ensures others { OthersSame (written_by build.now) (S.contents store.old) (S.contents store.new) }
-{
-    let plans = compile_all(alloc, build.instances.as_slice(), store)?;
-    build_plans(alloc, own, build, plans.as_slice(), store)
-}
-
-// Links the plans of the instances, writes the circuit of the whole, and then the trace of this very circuit.
-fn build_plans<S: Store>(
-    alloc: Global,
-    own: &[u8],
-    build: &Build,
-    plans: &[Plan],
-    store: &mut S,
-) -> Result<Report, Stop>
-    requires own { IsFileName own.now }
-    requires plans { IsLinkable build.now plans.now }
-    requires fit { AreFit plans.now }
-    ensures done { IfOk result (IsPlansBuilt (S.contents store.old) (S.contents store.new) build.now plans.now) }
-    ensures rejected { IfErr result (λ stop. IfStopped stop (RejectsPlans (S.contents store.old) (S.contents store.new) own.now build.now plans.now)) }
-    ensures told { IfErr result (λ stop. IfStopped stop IsTold) }
-    ensures tells { IfOk result TellsBoth }
-    ensures kind { IfErr result (StopsFor (OfBuild ∷ OfPulses ∷ [])) }
-    ensures calls { AreMade (ending result) (plans_calls build.now) (S.calls store.old) (S.calls store.new) }
-    ensures counts { CountsFaults (IsErrOf result Stop.StoreFailed) (S.faults store.old) (S.faults store.new) }
-    ensures failed_call { IsErrOf result Stop.StoreFailed →
-        IsPlansBuildCall (S.contents store.old) (S.contents store.new) build.now plans.now (S.last_fault store.new) }
-    ensures memory_files { IsErrOf result Stop.NoMemory → IsPlansBuildCutShort (S.contents store.old) (S.contents store.new) build.now plans.now }
-    ensures others { OthersSame (build.now.net ∷ build.now.verilog ∷ build.now.trace ∷ []) (S.contents store.old) (S.contents store.new) }
-{
     slim_plans_fit();
-    let linked = link_plans(alloc, own, build, plans, store)?;
+    let build = build_in(alloc, own, store)?;
+    let plans = compile_all(alloc, build.instances.as_slice(), store)?;
+    let linked = link_plans(alloc, own, &build, plans.as_slice(), store)?;
     let counts = simulate(
         alloc,
         linked.net,

@@ -1,23 +1,18 @@
 // The command `link BUILD`: the build file and the objects are read, and the circuit of the whole is written.
 
-ghost use Rattle.std.specs.Prelude.{◌≡◌, ◌≤◌, ◌∷◌, [], length, IfOk, IfErr, IfSome, IsErrOf};
+ghost use Rattle.std.specs.Prelude.{◌≡◌, ◌∷◌, [], IfOk, IfErr, IfSome, IsErrOf};
 ghost use Rattle.gos_outside.specs.FileName.{IsFileName};
-ghost use Rattle.gos_outside.specs.OtherFiles.{OthersSame};
 ghost use Rattle.gos_outside.specs.Faults.{CountsFaults};
-ghost use Rattle.gos_outside.specs.Calls.{AreMade};
 ghost use Rattle.gos_command.specs.Ends.{IfStopped, IsTold, ending};
 ghost use Rattle.gos_tool.specs.Causes.{OfObject, OfBuild, OfSize, StopsFor, TellsWeight};
 ghost use Rattle.gos_tool.specs.Calls.{link_calls, GoesByBuild};
-ghost use Rattle.gos_tool.specs.circuits.Linked.{IsLinkDone, RejectsWhole, RejectsLink};
-ghost use Rattle.gos_tool.specs.circuits.Linked.{IsWholeCall, IsLinkCall, IsWholeCutShort, IsLinkCutShort, KeepsUnnamed};
-ghost use Rattle.gos_tool.specs.circuits.inner.Wholes.{IsWholeDone};
+ghost use Rattle.gos_tool.specs.circuits.Linked.{IsLinkDone, RejectsLink, IsLinkCall, IsLinkCutShort, KeepsUnnamed};
 
 use crate::circuits::build_file::build_in;
 use crate::circuits::laws::paced_circuits;
 use crate::circuits::objects::plans_in;
 use crate::circuits::plans::link_plans;
 use gos_command::{Report, Stop};
-use gos_link::Build;
 use gos_outside::Store;
 use std::alloc::Global;
 
@@ -44,36 +39,9 @@ pub fn link_build<S: Store>(alloc: Global, own: &[u8], store: &mut S) -> Result<
     ensures memory_files { IsErrOf result Stop.NoMemory → IsLinkCutShort (S.contents store.old) (S.contents store.new) own.now }
     ensures others { KeepsUnnamed own.now (S.contents store.old) (S.contents store.new) }
 {
-    let build = build_in(alloc, own, store)?;
-    link_objects(alloc, own, &build, store)
-}
-
-// Reads the object files, links their plans, and writes the circuit of the whole.
-fn link_objects<S: Store>(
-    alloc: Global,
-    own: &[u8],
-    build: &Build,
-    store: &mut S,
-) -> Result<Report, Stop>
-    requires own { IsFileName own.now }
-    requires few_instances { length build.now.instances.items ≤ 65536 }
-    requires few_binds { length build.now.binds.items ≤ 65536 }
-    ensures done { IfOk result (IsWholeDone (S.contents store.old) (S.contents store.new) build.now) }
-    ensures rejected { IfErr result (λ stop. IfStopped stop (λ fault line.
-        IfSome (S.contents store.old) (λ files. RejectsWhole files own.now build.now fault line))) }
-    ensures told { IfErr result (λ stop. IfStopped stop IsTold) }
-    ensures rejected_files { IfErr result (λ stop. IfStopped stop (λ fault line. S.contents store.new ≡ S.contents store.old)) }
-    ensures tells { IfOk result TellsWeight }
-    ensures kind { IfErr result (StopsFor (OfObject ∷ OfBuild ∷ OfSize ∷ [])) }
-    ensures calls { AreMade (ending result) (link_calls build.now) (S.calls store.old) (S.calls store.new) }
-    ensures counts { CountsFaults (IsErrOf result Stop.StoreFailed) (S.faults store.old) (S.faults store.new) }
-    ensures failed_call { IsErrOf result Stop.StoreFailed →
-        IsWholeCall (S.contents store.old) (S.contents store.new) build.now (S.last_fault store.new) }
-    ensures memory_files { IsErrOf result Stop.NoMemory → IsWholeCutShort (S.contents store.old) (S.contents store.new) build.now }
-    ensures others { OthersSame (build.now.net ∷ build.now.verilog ∷ []) (S.contents store.old) (S.contents store.new) }
-{
     paced_circuits();
+    let build = build_in(alloc, own, store)?;
     let plans = plans_in(alloc, build.instances.as_slice(), store)?;
-    let linked = link_plans(alloc, own, build, plans.as_slice(), store)?;
+    let linked = link_plans(alloc, own, &build, plans.as_slice(), store)?;
     Ok(Report::Weight(linked.weight))
 }

@@ -1,4 +1,4 @@
-use Rattle.gos_compile.proofs.SmallPlanLemmas.{skip_is_planned, same_is_planned, both_is_planned, turned_is_not_planned}
+use Rattle.gos_compile.proofs.SmallPlanLemmas.{skip_is_planned, same_is_planned, both_is_planned, turned_is_not_planned, shell_is_not_planned}
 use Rattle.gos_compile.proofs.laws.small_plans.Goals as goal
 
 pub returns-clause-skip : goal.returns-clause-skip
@@ -12,3 +12,6 @@ returns-clause-both c = both_is_planned
 
 pub returns-clause-turned : goal.returns-clause-turned
 returns-clause-turned c = turned_is_not_planned
+
+pub returns-clause-shell : goal.returns-clause-shell
+returns-clause-shell c = shell_is_not_planned

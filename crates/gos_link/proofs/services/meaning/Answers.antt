@@ -24,7 +24,7 @@ returns-in_default-import_named-clause-fault c =
     record { finds_user = finds_user; finds_giver = finds_giver; of_user = of_user; of_giver = of_giver } in
     let lacks : import_named c.index-plans-user.result.imports c.args.bind.now.import ≡ None =
     (λ t. import_named (sym c.imports-imports.ensures t) (sym c.bytes.ensures.value t)) ∙ (sym c.import_named.ensures ∙ c.in_default-import_named.is) in
-    λ real before. subst (λ (f : LinkFault). IsWrongBind c.args.instances.now c.args.plans.now before c.args.bind.now f) (sym (c.no_import.ensures real))
+    λ real before. subst (λ (f : LinkFault). IsWrongBind c.args.instances.now c.args.plans.now before c.args.bind.now f) (sym (c.no_import.ensures.names real))
     (refl, refl, (c.in-Some.user, c.in-Some-number.giver, c.index-plans-user.result, q, both, lacks))
 
 pub returns-then-not-same-clause-fault : goal.returns-then-not-same-clause-fault
@@ -52,7 +52,7 @@ returns-then-not-same-clause-fault c =
     let differ : type_of x.ty ≢ type_of q.outcome =
     (λ e. let t : c.same.result ≡ true = c.same.ensures.1 (sym there ∙ (e ∙ ap (λ (ty : Ty). type_of ty) (sym c.result-got.ensures))) in
     let wrong : true ≡ _ = sym t ∙ c.if-not-same.true in absurd (cc wrong)) in
-    let (w, g, is, want, got) = c.in_ok-type_differs.ensures in
+    let (w, g, is, want, got) = c.in_ok-type_differs.ensures.types in
     λ real before. subst (λ (f : LinkFault). IsWrongBind c.args.instances.now c.args.plans.now before c.args.bind.now f) (sym is)
     (s, p, q, x, refl, all, want ∙ sym there, got ∙ ap (λ (ty : Ty). type_of ty) c.result-got.ensures, differ)
 

@@ -57,9 +57,6 @@ returns-clause-right c =
     let ends : drop c.loop-bind.bind-index c.args.binds.now ≡ [] = drop_all c.loop-bind.bind-index c.args.binds.now (omega arith) in
     all_meant c.args.instances.now c.args.plans.now c.args.binds.now c.loop-bind.services (drop c.loop-bind.bind-index c.args.binds.now) c.loop-bind.invariant.0 ends
 
-pub returns-clause-tops : goal.returns-clause-tops
-returns-clause-tops c = (c.loop-bind.invariant.1, c.loop-bind.invariant.2)
-
 pub loop-bind-init : goal.loop-bind-init
 loop-bind-init c =
     let n : ℕ = length c.args.instances.now in

@@ -1,103 +1,121 @@
--- From the objects and the circuit of the plans to what `build` leaves.
-use Rattle.std.proofs.Common.{◌≡◌, inl, inr, ℕ, List, [], ◌∷◌, Option, Some, None, subst}
+-- From the calls of `build` to what it leaves, at each of its ends: once the build file is read, once the sources are compiled, and
+-- once the plans are linked.
+use Rattle.std.proofs.Common.{◌≡◌, inl, inr, ℕ, List, [], ◌∷◌, Option, subst, sym}
 use Rattle.std.specs.Prelude.{IfSome}
-use Rattle.gos_outside.specs.Files.{Files, bytes_at}
+use Rattle.gos_outside.specs.Files.{Files}
 use Rattle.gos_outside.specs.OtherFiles.{OthersSame}
 use Rattle.gos_outside.specs.Faults.{LastFault}
 use Rattle.gos_outside.proofs.OtherFilesLemmas.{then_later, more_names, apart_front, apart_back}
 use Rattle.gos_lex.specs.Lines.{Word}
 use Rattle.gos_plan.specs.Seen.{SeenPlan}
 use Rattle.gos_link.specs.declared.build.Build.{Build}
+use Rattle.gos_link.specs.declared.build.Instance.{Instance}
 use Rattle.gos_command.specs.declared.report.Report.{Report}
 use Rattle.gos_command.specs.declared.status.Fault.{Fault}
-use Rattle.gos_command.proofs.EndLemmas.{of_some, of_some_both}
-use Rattle.gos_tool.specs.circuits.Plans.{IsBuildFault}
-use Rattle.gos_tool.specs.circuits.Linked.{SaysBuild, IsFormCause}
-use Rattle.gos_tool.specs.build.Objects.{objects_of, AllWritten}
-use Rattle.gos_tool.specs.build.Built.{IsPlansBuilt, IsBuilt, RejectsPlans, RejectsInstances, RejectsBuild, IsPlansBuildCall, IsInstancesCall, IsBuildCall, IsPlansBuildCutShort, IsInstancesCutShort, IsBuildCutShort, written_by}
+use Rattle.gos_command.proofs.EndLemmas.{of_some_both}
+use Rattle.gos_tool.specs.circuits.Linked.{SaysBuild}
+use Rattle.gos_tool.specs.build.Objects.{objects_of, AllWritten, SomeWritten, RejectsModule, IsModuleCall}
+use Rattle.gos_tool.specs.build.Built.{IsPlansBuilt, IsBuilt, RejectsPlans, RejectsBuild, IsPlansBuildCall, IsBuildCall, IsPlansBuildCutShort, IsBuildCutShort, KeepsUnnamed, written_by}
+use Rattle.gos_tool.proofs.lemmas.circuits.LinkLemmas.{HasRead}
 use Rattle.gos_tool.specs.build.Paced.{BuildRealises, BuildKeepsPace, BuildHasImports, BuildIsTyped, BuildHasWeight, BuildIsSmall}
-use Rattle.gos_tool.specs.build.inner.Instances.{AreInstancesBuilt}
 
--- once the plans of all instances are there
-pub instances_built : (old mid new : Option Files) (b : Build) (plans : List SeenPlan) (report : Report)
-    → IfSome old (λ files. AllWritten files mid b.instances.items plans) → IsPlansBuilt mid new b plans report → IfSome old (λ files. AreInstancesBuilt files new b report)
-instances_built old mid new b plans report written built =
-    of_some (λ files. AllWritten files mid b.instances.items plans) (λ files. AreInstancesBuilt files new b report) old
-    (λ files h. record { plans = plans; objects = mid; compiled = h; built = built }) written
+module _ {old told : Option Files} {own : Word} {b : Build} (has : HasRead old told own b) (new : Option Files) where
+  -- what the compiling of the sources leaves, of instances that are those of the build
+  after_reading : (P Q : Files → Type 0) → IfSome told P → ((files : Files) → SaysBuild files own b → P files → Q files) → IfSome old Q
+  after_reading P Q h f =
+      of_some_both (λ files. SaysBuild files own b) P Q old f has.says (subst (λ (o : Option Files). IfSome o P) has.kept h)
 
-pub plans_rejected : (old mid new : Option Files) (own : Word) (b : Build) (plans : List SeenPlan) (fault : Fault) (line : List ℕ)
-    → IfSome old (λ files. AllWritten files mid b.instances.items plans) → RejectsPlans mid new own b plans fault line
-    → IfSome old (λ files. RejectsInstances files new own b fault line)
-plans_rejected old mid new own b plans fault line written wrong =
-    of_some (λ files. AllWritten files mid b.instances.items plans) (λ files. RejectsInstances files new own b fault line) old
-    (λ files h. inr (plans, mid, h, wrong)) written
+  pub source_rejected : (is : List Instance) (fault : Fault) (line : List ℕ) → is ≡ b.instances.items
+      → IfSome told (λ files. RejectsModule files new is fault line) → IfSome old (λ files. RejectsBuild files new own fault line)
+  source_rejected is fault line same wrong =
+      after_reading (λ files. RejectsModule files new is fault line) (λ files. RejectsBuild files new own fault line) wrong
+      (λ files says h. inr (b, says, inl (subst (λ (js : List Instance). RejectsModule files new js fault line) same h)))
 
-pub plans_call : (old mid new : Option Files) (b : Build) (plans : List SeenPlan) (fault : LastFault)
-    → IfSome old (λ files. AllWritten files mid b.instances.items plans) → IsPlansBuildCall mid new b plans fault → IfSome old (λ files. IsInstancesCall files new b fault)
-plans_call old mid new b plans fault written call =
-    of_some (λ files. AllWritten files mid b.instances.items plans) (λ files. IsInstancesCall files new b fault) old (λ files h. inr (plans, mid, h, call)) written
+  pub source_call : (is : List Instance) (fault : LastFault) → is ≡ b.instances.items
+      → IfSome told (λ files. IsModuleCall files new is fault) → IfSome old (λ files. IsBuildCall files new own fault)
+  source_call is fault same call =
+      after_reading (λ files. IsModuleCall files new is fault) (λ files. IsBuildCall files new own fault) call
+      (λ files says h. inr (b, says, inl (subst (λ (js : List Instance). IsModuleCall files new js fault) same h)))
 
-pub plans_cut_short : (old mid new : Option Files) (b : Build) (plans : List SeenPlan)
-    → IfSome old (λ files. AllWritten files mid b.instances.items plans) → IsPlansBuildCutShort mid new b plans → IfSome old (λ files. IsInstancesCutShort files new b)
-plans_cut_short old mid new b plans written short =
-    of_some (λ files. AllWritten files mid b.instances.items plans) (λ files. IsInstancesCutShort files new b) old (λ files h. inr (plans, mid, h, short)) written
+  pub source_cut_short : (is : List Instance) → is ≡ b.instances.items
+      → IfSome told (λ files. SomeWritten files new is) → IfSome old (λ files. IsBuildCutShort files new own)
+  source_cut_short is same short =
+      after_reading (λ files. SomeWritten files new is) (λ files. IsBuildCutShort files new own) short
+      (λ files says h. inr (b, says, inl (subst (λ (js : List Instance). SomeWritten files new js) same h)))
 
--- all files but those that the build writes are as they were
-pub objects_alone : (b : Build) (old mid : Option Files) → OthersSame (objects_of b.instances.items) old mid → OthersSame (written_by b) old mid
-objects_alone b old mid same =
-    more_names (objects_of b.instances.items) (written_by b) old mid
-    (λ other apart. apart_front other (objects_of b.instances.items) (b.net ∷ b.verilog ∷ b.trace ∷ []) apart) same
+  -- all files but the objects are as they were
+  objects_alone : (is : List Instance) → is ≡ b.instances.items → OthersSame (objects_of is) told new → OthersSame (written_by b) old new
+  objects_alone is same others =
+      subst (λ (o : Option Files). OthersSame (written_by b) o new) has.kept
+      (more_names (objects_of b.instances.items) (written_by b) told new
+      (λ other apart. apart_front other (objects_of b.instances.items) (b.net ∷ b.verilog ∷ b.trace ∷ []) apart)
+      (subst (λ (js : List Instance). OthersSame (objects_of js) told new) same others))
 
-pub then_the_rest : (b : Build) (old mid new : Option Files) → OthersSame (objects_of b.instances.items) old mid → OthersSame (b.net ∷ b.verilog ∷ b.trace ∷ []) mid new
-    → OthersSame (written_by b) old new
-then_the_rest b old mid new first second =
-    then_later (written_by b) old mid new (objects_alone b old mid first)
-    (more_names (b.net ∷ b.verilog ∷ b.trace ∷ []) (written_by b) mid new
-    (λ other apart. apart_back other (objects_of b.instances.items) (b.net ∷ b.verilog ∷ b.trace ∷ []) apart) second)
+  pub source_others : (is : List Instance) → is ≡ b.instances.items → OthersSame (objects_of is) told new → KeepsUnnamed own old new
+  source_others is same others = inr (b, has.says, objects_alone is same others)
 
--- once the build file is read
-pub built : BuildRealises → BuildKeepsPace → BuildHasImports → BuildIsTyped → BuildHasWeight → BuildIsSmall → (old mid new : Option Files) (own : Word) (b : Build) (report : Report) → mid ≡ old
-    → IfSome old (λ files. SaysBuild files own b)
-    → IfSome mid (λ files. AreInstancesBuilt files new b report) → IfSome old (λ files. IsBuilt files new own report)
-built realises has_pace has_imports is_typed has_weight small old mid new own b report same says done =
-    of_some_both (λ files. SaysBuild files own b) (λ files. AreInstancesBuilt files new b report) (λ files. IsBuilt files new own report) old
-    (λ files said h. record {
-      build = b;
-      plans = h.plans;
-      objects = h.objects;
-      says = said;
-      compiled = h.compiled;
-      built = h.built;
-      realises = realises files h.objects h.objects h.built.between b h.plans h.built.weight h.built.net h.compiled h.built.written;
-      pace = has_pace files h.objects h.objects h.built.between b h.plans h.built.weight h.built.net h.compiled h.built.written;
-      imports = has_imports files h.objects h.objects h.built.between b h.plans h.built.weight h.built.net h.compiled h.built.written;
-      typed = is_typed files h.objects h.objects h.built.between b h.plans h.built.weight h.built.net h.compiled h.built.written;
-      weighs = has_weight files h.objects h.objects h.built.between b h.plans h.built.weight h.built.net h.compiled h.built.written;
-      few = small files h.objects h.objects h.built.between b h.plans h.built.weight h.built.net h.compiled h.built.written;
-    })
-    says
-    (subst (λ (told : Option Files). IfSome told (λ files. AreInstancesBuilt files new b report)) same done)
+-- the sources were compiled to these plans, and their objects written
+pub record HasCompiled (old told : Option Files) (own : Word) (b : Build) (plans : List SeenPlan) : Type 0 where
+  pub says : IfSome old (λ files. SaysBuild files own b)
+  pub written : IfSome old (λ files. AllWritten files told b.instances.items plans)
+  pub others : OthersSame (written_by b) old told
 
-pub instances_rejected : (old mid new : Option Files) (own : Word) (b : Build) (fault : Fault) (line : List ℕ) → mid ≡ old
-    → IfSome old (λ files. SaysBuild files own b) → IfSome mid (λ files. RejectsInstances files new own b fault line) → IfSome old (λ files. RejectsBuild files new own fault line)
-instances_rejected old mid new own b fault line same says wrong =
-    of_some_both (λ files. SaysBuild files own b) (λ files. RejectsInstances files new own b fault line) (λ files. RejectsBuild files new own fault line) old
-    (λ files said h. inr (b, said, h)) says (subst (λ (told : Option Files). IfSome told (λ files. RejectsInstances files new own b fault line)) same wrong)
+pub compiled : {old between : Option Files} {own : Word} {b : Build} → HasRead old between own b → (told : Option Files) (is : List Instance) (made plans : List SeenPlan)
+    → is ≡ b.instances.items → plans ≡ made → IfSome between (λ files. AllWritten files told is made) → OthersSame (objects_of is) between told
+    → HasCompiled old told own b plans
+compiled {old} {between} {own} {b} has told is made plans same linked written others =
+    record {
+      says = has.says;
+      written =
+          after_reading has told (λ files. AllWritten files told is made) (λ files. AllWritten files told b.instances.items plans) written
+          (λ files says h. subst (λ (ps : List SeenPlan). AllWritten files told b.instances.items ps) (sym linked)
+          (subst (λ (js : List Instance). AllWritten files told js made) same h));
+      others = objects_alone has told is same others;
+    }
 
-pub instances_call : (old mid new : Option Files) (own : Word) (b : Build) (fault : LastFault) → mid ≡ old
-    → IfSome old (λ files. SaysBuild files own b) → IfSome mid (λ files. IsInstancesCall files new b fault) → IfSome old (λ files. IsBuildCall files new own fault)
-instances_call old mid new own b fault same says call =
-    of_some_both (λ files. SaysBuild files own b) (λ files. IsInstancesCall files new b fault) (λ files. IsBuildCall files new own fault) old
-    (λ files said h. inr (b, said, h)) says (subst (λ (told : Option Files). IfSome told (λ files. IsInstancesCall files new b fault)) same call)
+module _ {old told : Option Files} {own : Word} {b : Build} {plans : List SeenPlan} (has : HasCompiled old told own b plans) (new : Option Files) where
+  after_compiling : (Q : Files → Type 0) → ((files : Files) → SaysBuild files own b → AllWritten files told b.instances.items plans → Q files) → IfSome old Q
+  after_compiling Q f =
+      of_some_both (λ files. SaysBuild files own b) (λ files. AllWritten files told b.instances.items plans) Q old f has.says has.written
 
-pub instances_cut_short : (old mid new : Option Files) (own : Word) (b : Build) → mid ≡ old
-    → IfSome old (λ files. SaysBuild files own b) → IfSome mid (λ files. IsInstancesCutShort files new b) → IfSome old (λ files. IsBuildCutShort files new own)
-instances_cut_short old mid new own b same says short =
-    of_some_both (λ files. SaysBuild files own b) (λ files. IsInstancesCutShort files new b) (λ files. IsBuildCutShort files new own) old
-    (λ files said h. inr (b, said, h)) says (subst (λ (told : Option Files). IfSome told (λ files. IsInstancesCutShort files new b)) same short)
+  pub plans_rejected : (fault : Fault) (line : List ℕ) → RejectsPlans told new own b plans fault line → IfSome old (λ files. RejectsBuild files new own fault line)
+  plans_rejected fault line wrong =
+      after_compiling (λ files. RejectsBuild files new own fault line) (λ files says written. inr (b, says, inr (plans, told, written, wrong)))
 
--- before that: the build file is rejected for its form
-pub form_rejected : (old new : Option Files) (own : Word) (fault : Fault) (line : List ℕ) → new ≡ old
-    → IfSome old (λ files. IsBuildFault own (IsFormCause (bytes_at files own) own) fault line) → IfSome old (λ files. RejectsBuild files new own fault line)
-form_rejected None new own fault line kept wrong = tt
-form_rejected (Some files) new own fault line kept wrong = inl (wrong, kept)
+  pub plans_call : (fault : LastFault) → IsPlansBuildCall told new b plans fault → IfSome old (λ files. IsBuildCall files new own fault)
+  plans_call fault call =
+      after_compiling (λ files. IsBuildCall files new own fault) (λ files says written. inr (b, says, inr (plans, told, written, call)))
+
+  pub plans_cut_short : IsPlansBuildCutShort told new b plans → IfSome old (λ files. IsBuildCutShort files new own)
+  plans_cut_short short =
+      after_compiling (λ files. IsBuildCutShort files new own) (λ files says written. inr (b, says, inr (plans, told, written, short)))
+
+  pub plans_others : OthersSame (b.net ∷ b.verilog ∷ b.trace ∷ []) told new → KeepsUnnamed own old new
+  plans_others others =
+      inr (
+        b,
+        has.says,
+        then_later (written_by b) old told new has.others
+            (more_names (b.net ∷ b.verilog ∷ b.trace ∷ []) (written_by b) told new
+            (λ other apart. apart_back other (objects_of b.instances.items) (b.net ∷ b.verilog ∷ b.trace ∷ []) apart) others),
+      )
+
+  -- all was done
+  pub built : BuildRealises → BuildKeepsPace → BuildHasImports → BuildIsTyped → BuildHasWeight → BuildIsSmall → (report : Report)
+      → IsPlansBuilt told new b plans report → IfSome old (λ files. IsBuilt files new own report)
+  built realises has_pace has_imports is_typed has_weight small report h =
+      after_compiling (λ files. IsBuilt files new own report)
+      (λ files said written. record {
+        build = b;
+        plans = plans;
+        objects = told;
+        says = said;
+        compiled = written;
+        built = h;
+        realises = realises files told told h.between b plans h.weight h.net written h.written;
+        pace = has_pace files told told h.between b plans h.weight h.net written h.written;
+        imports = has_imports files told told h.between b plans h.weight h.net written h.written;
+        typed = is_typed files told told h.between b plans h.weight h.net written h.written;
+        weighs = has_weight files told told h.between b plans h.weight h.net written h.written;
+        few = small files told told h.between b plans h.weight h.net written h.written;
+      })

@@ -16,16 +16,14 @@ use Rattle.gos_link.specs.declared.build.Build.{Build}
 use Rattle.gos_link.specs.declared.build.Instance.{Instance}
 use Rattle.gos_verilog.specs.VerilogText.{IsVerilogOf}
 use Rattle.gos_command.specs.Files.{IsReadWhole}
-use Rattle.gos_command.specs.declared.report.Report.{Report}
 use Rattle.gos_command.specs.declared.report.Report.TheVariants as reports
 use Rattle.gos_command.specs.declared.status.Fault.{Fault}
 use Rattle.gos_command.proofs.EndLemmas.{of_some, of_some_both}
 use Rattle.gos_tool.specs.circuits.Circuit.{IsCircuitOf}
 use Rattle.gos_tool.specs.circuits.Paced.{LinkedCircuitsKeepPace}
-use Rattle.gos_tool.specs.circuits.Objects.{HoldPlans}
+use Rattle.gos_tool.specs.circuits.Objects.{HoldPlans, RejectsObject, IsObjectCall}
 use Rattle.gos_tool.specs.circuits.Plans.{with_net, IsWritten, IsPlansDone, IsPlansCause, IsBuildFault, IsWriteCall, IsPlansCall, IsWriteCutShort, IsPlansCutShort}
-use Rattle.gos_tool.specs.circuits.Linked.{SaysBuild, IsLinkDone, RejectsWhole, RejectsLink, IsWholeCall, IsWholeCutShort}
-use Rattle.gos_tool.specs.circuits.inner.Wholes.{IsWholeDone}
+use Rattle.gos_tool.specs.circuits.Linked.{SaysBuild, IsLinkDone, RejectsLink, IsLinkCall, IsLinkCutShort, KeepsUnnamed}
 
 -- the build file says what was read
 pub says_build : (told : Option Files) (own : Word) (read : List ℕ) (b : Build) → IfSome told (λ files. IsReadWhole 65536 read (bytes_at files own))
@@ -34,27 +32,49 @@ says_build told own read b whole is =
     of_some (λ files. IsReadWhole 65536 read (bytes_at files own)) (λ files. SaysBuild files own b) told
     (λ files h. subst (λ (text : List ℕ). IsBuildFile text own b) (h.whole is.short) is) whole
 
--- a rejection once the build file is read
-pub rejected_later : (old mid : Option Files) (own : Word) (b : Build) (fault : Fault) (line : List ℕ) → mid ≡ old → IfSome old (λ files. SaysBuild files own b)
-    → IfSome mid (λ files. RejectsWhole files own b fault line) → IfSome old (λ files. RejectsLink files own fault line)
-rejected_later old mid own b fault line same says wrong =
-    of_some_both (λ files. SaysBuild files own b) (λ files. RejectsWhole files own b fault line) (λ files. RejectsLink files own fault line) old
-    (λ files said h. inr (b, said, h)) says (subst (λ (told : Option Files). IfSome told (λ files. RejectsWhole files own b fault line)) same wrong)
+-- the build file was read, and says b; no file was written yet
+pub record HasRead (old told : Option Files) (own : Word) (b : Build) : Type 0 where
+  pub kept : told ≡ old
+  pub says : IfSome old (λ files. SaysBuild files own b)
 
--- plans that the object files hold can't be linked
-pub rejected_plans : (old : Option Files) (own : Word) (b : Build) (plans : List SeenPlan) (fault : Fault) (line : List ℕ)
-    → IfSome old (λ files. HoldPlans files b.instances.items plans) → IsBuildFault own (IsPlansCause b plans) fault line
-    → IfSome old (λ files. RejectsWhole files own b fault line)
-rejected_plans old own b plans fault line held wrong =
-    of_some (λ files. HoldPlans files b.instances.items plans) (λ files. RejectsWhole files own b fault line) old
-    (λ files h. inr (record { file = wrong.file; cause = (plans, h, wrong.cause); says = wrong.says })) held
+-- the objects of its instances were read too, and hold these plans
+pub record HasPlans (old told : Option Files) (own : Word) (b : Build) (plans : List SeenPlan) : Type 0 where
+  pub kept : told ≡ old
+  pub says : IfSome old (λ files. SaysBuild files own b)
+  pub held : IfSome old (λ files. HoldPlans files b.instances.items plans)
 
--- the plans that were read are those that are linked
-pub held_as : (old : Option Files) (is js : List Instance) (ps plans : List SeenPlan) → is ≡ js → plans ≡ ps
-    → IfSome old (λ files. HoldPlans files is ps) → IfSome old (λ files. HoldPlans files js plans)
-held_as old is js ps plans same linked held =
-    subst (λ (qs : List SeenPlan). IfSome old (λ files. HoldPlans files js qs)) (sym linked)
-    (subst (λ (ks : List Instance). IfSome old (λ files. HoldPlans files ks ps)) same held)
+module _ {old told : Option Files} {own : Word} {b : Build} (has : HasRead old told own b) (is : List Instance) (same : is ≡ b.instances.items) where
+  -- an object is rejected, or can't be read
+  pub object_rejected : (fault : Fault) (line : List ℕ) → IfSome told (λ files. RejectsObject files is fault line)
+      → IfSome old (λ files. RejectsLink files own fault line)
+  object_rejected fault line wrong =
+      of_some_both (λ files. SaysBuild files own b) (λ files. RejectsObject files is fault line) (λ files. RejectsLink files own fault line) old
+      (λ files says h. inr (b, says, inl (subst (λ (js : List Instance). RejectsObject files js fault line) same h))) has.says
+      (subst (λ (o : Option Files). IfSome o (λ files. RejectsObject files is fault line)) has.kept wrong)
+
+  pub object_call : (new : Option Files) (fault : LastFault) → new ≡ told → IsObjectCall told is fault → IsLinkCall old new own fault
+  object_call new fault kept call =
+      inr (
+        b,
+        has.says,
+        inl (
+          subst (λ (o : Option Files). IsObjectCall o b.instances.items fault) has.kept (subst (λ (js : List Instance). IsObjectCall told js fault) same call),
+          kept ∙ has.kept,
+        ),
+      )
+
+  -- the plans that were read are those that are linked
+  pub has_plans : (new : Option Files) (read plans : List SeenPlan) → plans ≡ read → new ≡ told → IfSome told (λ files. HoldPlans files is read)
+      → HasPlans old new own b plans
+  has_plans new read plans linked kept held =
+      record {
+        kept = kept ∙ has.kept;
+        says = has.says;
+        held =
+            subst (λ (ps : List SeenPlan). IfSome old (λ files. HoldPlans files b.instances.items ps)) (sym linked)
+            (subst (λ (js : List Instance). IfSome old (λ files. HoldPlans files js read)) same
+            (subst (λ (o : Option Files). IfSome o (λ files. HoldPlans files is read)) has.kept held));
+      }
 
 -- plans that were made one for each instance can be linked
 pub linkable : (b : Build) (is : List Instance) (ps plans : List SeenPlan) → is ≡ b.instances.items → plans ≡ ps → length ps ≡ length is
@@ -67,47 +87,56 @@ linkable b is ps plans same linked each limits few_instances few_binds =
       few_binds = few_binds;
     }
 
--- the whole was written
-pub whole_done : LinkedCircuitsKeepPace → (old mid new : Option Files) (b : Build) (plans : List SeenPlan) (weight : ℕ) (net : Netlist) (report : Report)
-    → mid ≡ old → length plans ≡ length b.instances.items
-    → IfSome old (λ files. HoldPlans files b.instances.items plans) → IsPlansDone mid new b plans weight net
-    → report ≡ reports.Weight weight → IsWholeDone old new b report
-whole_done law old mid new b plans weight net report same each held done tells =
-    record {
-      whole = done.whole;
-      net = net;
-      linked = record { plans = plans; held = held; linked = done.linked };
-      written = subst (λ (told : Option Files). IsWritten told new b done.whole net) same done.written;
-      pace = λ programs all. law b plans done.whole programs b.root net done.linked each all done.written.circuit;
-      tells = tells ∙ ap (λ (n : ℕ). reports.Weight n) done.weighs;
-    }
+module _ {old told : Option Files} {own : Word} {b : Build} {plans : List SeenPlan} (has : HasPlans old told own b plans) (new : Option Files) where
+  -- they can't be linked
+  pub plans_rejected : (fault : Fault) (line : List ℕ) → IsBuildFault own (IsPlansCause b plans) fault line → IfSome old (λ files. RejectsLink files own fault line)
+  plans_rejected fault line wrong =
+      of_some_both (λ files. SaysBuild files own b) (λ files. HoldPlans files b.instances.items plans) (λ files. RejectsLink files own fault line) old
+      (λ files says h. inr (b, says, inr (record { file = wrong.file; cause = (plans, h, wrong.cause); says = wrong.says }))) has.says has.held
 
--- a call that linking makes, and what it leaves where memory runs out, where the plans are those that the object files hold
-pub plans_call : (old mid new : Option Files) (b : Build) (plans : List SeenPlan) (fault : LastFault) → mid ≡ old
-    → IfSome old (λ files. HoldPlans files b.instances.items plans) → IsPlansCall mid new b plans fault → IsWholeCall old new b fault
-plans_call old mid new b plans fault same held (whole, linked, call) =
-    inr (whole, record { plans = plans; held = held; linked = linked }, subst (λ (told : Option Files). IsWriteCall told new b whole fault) same call)
+  -- a call that linking makes, and what it leaves where memory runs out
+  pub plans_call : (fault : LastFault) → IsPlansCall told new b plans fault → IsLinkCall old new own fault
+  plans_call fault (whole, linked, call) =
+      inr (
+        b,
+        has.says,
+        inr (
+          whole,
+          record { plans = plans; held = has.held; linked = linked },
+          subst (λ (o : Option Files). IsWriteCall o new b whole fault) has.kept call,
+        ),
+      )
 
-pub plans_cut_short : (old mid new : Option Files) (b : Build) (plans : List SeenPlan) → mid ≡ old
-    → IfSome old (λ files. HoldPlans files b.instances.items plans) → IsPlansCutShort mid new b plans → IsWholeCutShort old new b
-plans_cut_short old mid new b plans same held (inl kept) = inl (kept ∙ same)
-plans_cut_short old mid new b plans same held (inr (whole, linked, short)) =
-    inr (whole, record { plans = plans; held = held; linked = linked }, subst (λ (told : Option Files). IsWriteCutShort told new b whole) same short)
+  pub plans_cut_short : IsPlansCutShort told new b plans → IsLinkCutShort old new own
+  plans_cut_short (inl kept) = inl (kept ∙ has.kept)
+  plans_cut_short (inr (whole, linked, short)) =
+      inr (
+        b,
+        has.says,
+        inr (
+          whole,
+          record { plans = plans; held = has.held; linked = linked },
+          subst (λ (o : Option Files). IsWriteCutShort o new b whole) has.kept short,
+        ),
+      )
 
-pub link_done : (old mid new : Option Files) (own : Word) (b : Build) (report : Report) → mid ≡ old → IfSome old (λ files. SaysBuild files own b)
-    → IsWholeDone mid new b report → IsLinkDone old new own report
-link_done old mid new own b report same says done =
-    let here = subst (λ (told : Option Files). IsWholeDone told new b report) same done in
-    record {
-      build = b;
-      whole = here.whole;
-      net = here.net;
-      says = says;
-      linked = here.linked;
-      written = here.written;
-      pace = here.pace;
-      tells = here.tells;
-    }
+  pub plans_others : OthersSame (b.net ∷ b.verilog ∷ []) told new → KeepsUnnamed own old new
+  plans_others others = inr (b, has.says, subst (λ (o : Option Files). OthersSame (b.net ∷ b.verilog ∷ []) o new) has.kept others)
+
+  -- the whole was written
+  pub link_done : LinkedCircuitsKeepPace → length plans ≡ length b.instances.items → (weight : ℕ) (net : Netlist) → IsPlansDone told new b plans weight net
+      → IsLinkDone old new own (reports.Weight weight)
+  link_done law each weight net done =
+      record {
+        build = b;
+        whole = done.whole;
+        net = net;
+        says = has.says;
+        linked = record { plans = plans; held = has.held; linked = done.linked };
+        written = subst (λ (o : Option Files). IsWritten o new b done.whole net) has.kept done.written;
+        pace = λ programs all. law b plans done.whole programs b.root net done.linked each all done.written.circuit;
+        tells = ap (λ (n : ℕ). reports.Weight n) done.weighs;
+      }
 
 -- the netlist of a circuit was written, in these words
 pub net_written : (old mid : Option Files) (b : Build) (net given : Netlist) (name : Word) (text printed : List ℕ)

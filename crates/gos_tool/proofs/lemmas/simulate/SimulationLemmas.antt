@@ -1,7 +1,7 @@
 -- From what the parts of a simulation give to what the whole gives.
-use Rattle.std.proofs.Common.{◌≡◌, inr, ◌∙◌, ℕ, List, length, Option, Some, None, ap, sym, subst}
+use Rattle.std.proofs.Common.{◌≡◌, inr, ◌∙◌, ℕ, List, length, Option, Some, None, ap, sym, subst, refl}
 use Rattle.std.specs.Prelude.{IfSome}
-use Rattle.gos_outside.specs.Files.{Files, bytes_at, with_file}
+use Rattle.gos_outside.specs.Files.{Files, bytes_at, with_file, SameBut}
 use Rattle.gos_lex.specs.Lines.{Word}
 use Rattle.gos_netlist.specs.Nets.{Netlist}
 use Rattle.gos_pulse.specs.PulseFile.{IsPulseFile}
@@ -18,7 +18,7 @@ use Rattle.gos_command.specs.declared.status.Cause.{Cause}
 use Rattle.gos_command.specs.declared.status.Cause.TheVariants.{Pulse}
 use Rattle.gos_command.specs.declared.status.Fault.{Fault}
 use Rattle.gos_command.proofs.EndLemmas.{of_some}
-use Rattle.gos_tool.specs.simulate.Simulation.{LeavesTrace, IsPulseCause, IsPulseFault}
+use Rattle.gos_tool.specs.simulate.Simulation.{LeavesTrace, RunsUnder, IsPulseCause, IsPulseFault}
 
 -- the trace of a run is written
 pub leaves_trace : (old new : Option Files) (net : Netlist) (pulses trace : Word) (entries : List Entry) (run : Trace) (cycles : ℕ) (counts : Counts)
@@ -61,3 +61,15 @@ broken told net pulses cycles entries why fault line breaks real is says =
     always : (told : Option Files) → IfSome told (λ files. Unit {0})
     always None = tt
     always (Some files) = tt
+
+-- where the files are as they were, all but one are
+pub unwritten : (name : Word) (told : Option Files) → SameBut name told told
+unwritten name None = tt
+unwritten name (Some files) = λ other _. refl
+
+-- a run that came to its end is one under its pulse file
+pub ran : (told : Option Files) (net : Netlist) (pulses : Word) (cycles : ℕ) (entries : List Entry) (run : Trace)
+    → IsTraced net cycles entries run
+    → IfSome told (λ files. IsPulseFile net (bytes_at files pulses) cycles entries → RunsUnder net (bytes_at files pulses))
+ran None net pulses cycles entries run traced = tt
+ran (Some files) net pulses cycles entries run traced = λ read. (cycles, entries, traced.run, run.unused, read, traced.driven)

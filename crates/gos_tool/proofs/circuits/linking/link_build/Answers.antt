@@ -1,77 +1,89 @@
-use Rattle.std.proofs.Common.{◌∷◌, [], Option, inl, inr, subst}
+use Rattle.std.proofs.Common.{◌∙◌, List, ap, length}
 use Rattle.std.specs.Prelude.{IfSome}
-use Rattle.gos_outside.specs.Files.{Files, bytes_at}
-use Rattle.gos_outside.specs.OtherFiles.{OthersSame}
-use Rattle.gos_command.specs.declared.report.Report.{Report}
-use Rattle.gos_command.proofs.EndLemmas.{of_some, of_result, of_stop, of_stopped}
-use Rattle.gos_tool.specs.circuits.Plans.{IsBuildFault}
-use Rattle.gos_tool.specs.circuits.Linked.{IsFormCause, IsLinkDone, RejectsWhole, RejectsLink, IsWholeCall, IsWholeCutShort}
-use Rattle.gos_tool.specs.circuits.inner.Wholes.{IsWholeDone}
-use Rattle.gos_tool.proofs.lemmas.circuits.ExitLemmas.{err_is}
-use Rattle.gos_tool.proofs.lemmas.circuits.LinkLemmas.{rejected_later, link_done}
-use Rattle.gos_tool.proofs.lemmas.circuits.CallLemmas.{at_build_file, by_build_file}
-use Rattle.gos_tool.specs.Calls.{link_calls}
-use Rattle.gos_tool.specs.Causes.{OfObject, OfBuild, OfSize}
-use Rattle.gos_tool.proofs.lemmas.StopLemmas.{stops_before, stops_behind}
+use Rattle.gos_outside.specs.Calls.{Whole}
+use Rattle.gos_outside.proofs.CallsLemmas.{goes_on}
+use Rattle.gos_plan.specs.Seen.{SeenPlan}
+use Rattle.gos_link.specs.declared.build.Instance.{Instance}
+use Rattle.gos_command.proofs.EndLemmas.{early, late, made_of}
+use Rattle.gos_tool.specs.Calls.{object_calls, circuit_calls, link_calls}
+use Rattle.gos_tool.specs.circuits.Linked.{RejectsLink}
+use Rattle.gos_tool.proofs.lemmas.circuits.ExitLemmas.{failed_as, stopped_as}
+use Rattle.gos_tool.proofs.lemmas.circuits.CallLemmas.{by_build_file}
+use Rattle.gos_tool.proofs.lemmas.circuits.LinkLemmas.{HasRead, HasPlans, object_rejected, object_call, has_plans, plans_rejected, plans_call, plans_cut_short, plans_others, link_done}
+use Rattle.gos_tool.proofs.circuits.linking.link_build.Given.{Over}
 use Rattle.gos_tool.proofs.circuits.linking.link_build.Goals as goal
 
-pub returns-in_err-build-clause-rejected : goal.returns-in_err-build-clause-rejected
-returns-in_err-build-clause-rejected g c =
-    let old = g.S.Store.contents c.args.store.now in
-    let own = c.args.own.now in
-    rw (err_is _ c.from_residual.ensures.1)
-    (of_stopped _ (λ fault line. IfSome old (λ files. RejectsLink files own fault line)) c.in_err-build.field-0.0
-    (λ fault line h. of_some (λ files. IsBuildFault own (IsFormCause (bytes_at files own) own) fault line) (λ files. RejectsLink files own fault line) old
-    (λ files wrong. inl wrong) h) c.in_err-build.ensures.rejected)
+-- what the calls before left, at each end: the build file was read; and then the objects
+has_read : (g : Over) (c : goal.After-drop-build-in_err-plans-6 g) → HasRead (g.S.Store.contents c.args.store.now) (g.S.Store.contents c.build_in.new.store) c.args.own.now c.in_ok-build.build
+has_read g c = record { kept = c.in_ok-build.ensures.same_files; says = c.in_ok-build.ensures.says }
 
+has_objects : (g : Over) (c : goal.After-drop-build-in_err-linked-7 g) → HasPlans (g.S.Store.contents c.args.store.now) (g.S.Store.contents c.plans_in.new.store) c.args.own.now c.in_ok-build.build c.as_slice-2.result.now
+has_objects g c =
+    has_plans (record { kept = c.in_ok-build.ensures.same_files; says = c.in_ok-build.ensures.says }) c.as_slice.result.now c.as_slice.ensures.value
+    (g.S.Store.contents c.plans_in.new.store) c.in_ok-plans.plans.items c.as_slice-2.result.now c.as_slice-2.ensures.value c.in_ok-plans.ensures.same_files c.in_ok-plans.ensures.held
+
+has_all : (g : Over) (c : goal.After-drop-build-8 g) → HasPlans (g.S.Store.contents c.args.store.now) (g.S.Store.contents c.plans_in.new.store) c.args.own.now c.in_ok-build.build c.as_slice-2.result.now
+has_all g c =
+    has_plans (record { kept = c.in_ok-build.ensures.same_files; says = c.in_ok-build.ensures.says }) c.as_slice.result.now c.as_slice.ensures.value
+    (g.S.Store.contents c.plans_in.new.store) c.in_ok-plans.plans.items c.as_slice-2.result.now c.as_slice-2.ensures.value c.in_ok-plans.ensures.same_files c.in_ok-plans.ensures.held
+
+-- an object is rejected, or can't be read
+pub returns-in_err-plans-clause-rejected : goal.returns-in_err-plans-clause-rejected
+returns-in_err-plans-clause-rejected g c =
+    stopped_as _ (λ fault line. IfSome (g.S.Store.contents c.args.store.now) (λ files. RejectsLink files c.args.own.now fault line)) _ c.in_err-plans.field-0.0 c.from_residual-in_err-plans.ensures.1
+    (λ fault line h. object_rejected (has_read g c) c.as_slice.result.now c.as_slice.ensures.value fault line h) c.in_err-plans.ensures.rejected
+
+pub returns-in_err-plans-clause-failed_call : goal.returns-in_err-plans-clause-failed_call
+returns-in_err-plans-clause-failed_call g c failed =
+    object_call (has_read g c) c.as_slice.result.now c.as_slice.ensures.value (g.S.Store.contents c.plans_in.new.store) (g.S.Store.last_fault c.plans_in.new.store) c.in_err-plans.ensures.same_files
+    (c.in_err-plans.ensures.failed_call (failed_as _ c.from_residual-in_err-plans.ensures.1 failed))
+
+pub returns-in_err-plans-clause-calls : goal.returns-in_err-plans-clause-calls
+returns-in_err-plans-clause-calls g c =
+    by_build_file _ (g.S.Store.contents c.args.store.now) c.args.own.now link_calls c.in_ok-build.build (g.S.Store.calls c.args.store.now) (g.S.Store.calls c.build_in.new.store) (g.S.Store.calls c.plans_in.new.store)
+    c.in_ok-build.ensures.read c.in_ok-build.ensures.says c.in_ok-build.ensures.calls
+    (early _ _ (object_calls c.in_ok-build.build.instances.items) (circuit_calls c.in_ok-build.build) (g.S.Store.calls c.build_in.new.store) (g.S.Store.calls c.plans_in.new.store) c.from_residual-in_err-plans.ensures.1
+    (made_of object_calls _ (g.S.Store.calls c.build_in.new.store) (g.S.Store.calls c.plans_in.new.store) _ _ c.as_slice.ensures.value c.in_err-plans.ensures.calls))
+
+-- the plans are not linked
+pub returns-in_err-linked-clause-rejected : goal.returns-in_err-linked-clause-rejected
+returns-in_err-linked-clause-rejected g c =
+    stopped_as _ (λ fault line. IfSome (g.S.Store.contents c.args.store.now) (λ files. RejectsLink files c.args.own.now fault line)) _ c.in_err-linked.field-0.0 c.from_residual-in_err-linked.ensures.1
+    (λ fault line h. plans_rejected (has_objects g c) (g.S.Store.contents c.link_plans.new.store) fault line h) c.in_err-linked.ensures.rejected
+
+pub returns-in_err-linked-clause-calls : goal.returns-in_err-linked-clause-calls
+returns-in_err-linked-clause-calls g c =
+    by_build_file _ (g.S.Store.contents c.args.store.now) c.args.own.now link_calls c.in_ok-build.build (g.S.Store.calls c.args.store.now) (g.S.Store.calls c.build_in.new.store) (g.S.Store.calls c.link_plans.new.store)
+    c.in_ok-build.ensures.read c.in_ok-build.ensures.says c.in_ok-build.ensures.calls
+    (late _ _ (object_calls c.in_ok-build.build.instances.items) (circuit_calls c.in_ok-build.build) (g.S.Store.calls c.build_in.new.store) (g.S.Store.calls c.plans_in.new.store) (g.S.Store.calls c.link_plans.new.store) c.from_residual-in_err-linked.ensures.1
+    (made_of object_calls Whole (g.S.Store.calls c.build_in.new.store) (g.S.Store.calls c.plans_in.new.store) _ _ c.as_slice.ensures.value c.in_ok-plans.ensures.calls) c.in_err-linked.ensures.calls)
+
+pub returns-in_err-linked-clause-failed_call : goal.returns-in_err-linked-clause-failed_call
+returns-in_err-linked-clause-failed_call g c failed =
+    plans_call (has_objects g c) (g.S.Store.contents c.link_plans.new.store) (g.S.Store.last_fault c.link_plans.new.store) (c.in_err-linked.ensures.failed_call (failed_as _ c.from_residual-in_err-linked.ensures.1 failed))
+
+pub returns-in_err-linked-clause-memory_files : goal.returns-in_err-linked-clause-memory_files
+returns-in_err-linked-clause-memory_files g c failed =
+    plans_cut_short (has_objects g c) (g.S.Store.contents c.link_plans.new.store) (c.in_err-linked.ensures.memory_files (failed_as _ c.from_residual-in_err-linked.ensures.1 failed))
+
+pub returns-in_err-linked-clause-others : goal.returns-in_err-linked-clause-others
+returns-in_err-linked-clause-others g c =
+    plans_others (has_objects g c) (g.S.Store.contents c.link_plans.new.store) c.in_err-linked.ensures.others
+
+-- all was done
 pub returns-clause-done : goal.returns-clause-done
 returns-clause-done g c =
-    let old = g.S.Store.contents c.args.store.now in
-    let mid = g.S.Store.contents c.build_in.new.store in
-    let new = g.S.Store.contents c.link_objects.new.store in
-    let own = c.args.own.now in
-    let b = c.in_ok-build.build in
-    of_result (λ (report : Report). IsWholeDone mid new b report) (λ (report : Report). IsLinkDone old new own report) c.link_objects.result
-    (λ report h. link_done old mid new own b report c.in_ok-build.ensures.same_files c.in_ok-build.ensures.says h) c.link_objects.ensures.done
-
-pub returns-clause-rejected : goal.returns-clause-rejected
-returns-clause-rejected g c =
-    let old = g.S.Store.contents c.args.store.now in
-    let mid = g.S.Store.contents c.build_in.new.store in
-    let own = c.args.own.now in
-    let b = c.in_ok-build.build in
-    of_stop (λ fault line. IfSome mid (λ files. RejectsWhole files own b fault line)) (λ fault line. IfSome old (λ files. RejectsLink files own fault line)) c.link_objects.result
-    (λ fault line h. rejected_later old mid own b fault line c.in_ok-build.ensures.same_files c.in_ok-build.ensures.says h) c.link_objects.ensures.rejected
-
-pub returns-clause-failed_call : goal.returns-clause-failed_call
-returns-clause-failed_call g c = λ failed.
-    let new = g.S.Store.contents c.link_objects.new.store in
-    let fault = g.S.Store.last_fault c.link_objects.new.store in
-    let b = c.in_ok-build.build in
-    inr (b, c.in_ok-build.ensures.says, subst (λ (told : Option Files). IsWholeCall told new b fault) c.in_ok-build.ensures.same_files (c.link_objects.ensures.failed_call failed))
-
-pub returns-clause-memory_files : goal.returns-clause-memory_files
-returns-clause-memory_files g c = λ failed.
-    let new = g.S.Store.contents c.link_objects.new.store in
-    let b = c.in_ok-build.build in
-    inr (b, c.in_ok-build.ensures.says, subst (λ (told : Option Files). IsWholeCutShort told new b) c.in_ok-build.ensures.same_files (c.link_objects.ensures.memory_files failed))
-
-pub returns-clause-others : goal.returns-clause-others
-returns-clause-others g c =
-    let new = g.S.Store.contents c.link_objects.new.store in
-    let b = c.in_ok-build.build in
-    inr (b, c.in_ok-build.ensures.says, subst (λ (told : Option Files). OthersSame (b.net ∷ b.verilog ∷ []) told new) c.in_ok-build.ensures.same_files c.link_objects.ensures.others)
-
-pub returns-in_err-build-clause-calls : goal.returns-in_err-build-clause-calls
-returns-in_err-build-clause-calls g c =
-    at_build_file _ _ (g.S.Store.contents c.args.store.now) c.args.own.now link_calls (g.S.Store.calls c.args.store.now) (g.S.Store.calls c.build_in.new.store) c.from_residual.ensures.1 c.in_err-build.ensures.calls
+    let each = ap (λ (ps : List SeenPlan). length ps) c.as_slice-2.ensures.value
+    ∙ (c.in_ok-plans.ensures.each ∙ ap (λ (is : List Instance). length is) c.as_slice.ensures.value) in
+    link_done (has_all g c) (g.S.Store.contents c.link_plans.new.store) c.paced_circuits.ensures.linked each c.in_ok-linked.linked.weight c.in_ok-linked.linked.net c.in_ok-linked.ensures.done
 
 pub returns-clause-calls : goal.returns-clause-calls
 returns-clause-calls g c =
-    by_build_file _ (g.S.Store.contents c.args.store.now) c.args.own.now link_calls c.in_ok-build.build (g.S.Store.calls c.args.store.now) (g.S.Store.calls c.build_in.new.store) (g.S.Store.calls c.link_objects.new.store) c.in_ok-build.ensures.read c.in_ok-build.ensures.says
-    c.in_ok-build.ensures.calls c.link_objects.ensures.calls
+    by_build_file _ (g.S.Store.contents c.args.store.now) c.args.own.now link_calls c.in_ok-build.build (g.S.Store.calls c.args.store.now) (g.S.Store.calls c.build_in.new.store) (g.S.Store.calls c.link_plans.new.store)
+    c.in_ok-build.ensures.read c.in_ok-build.ensures.says c.in_ok-build.ensures.calls
+    (goes_on Whole (object_calls c.in_ok-build.build.instances.items) (circuit_calls c.in_ok-build.build) (g.S.Store.calls c.build_in.new.store) (g.S.Store.calls c.plans_in.new.store) (g.S.Store.calls c.link_plans.new.store)
+    (made_of object_calls Whole (g.S.Store.calls c.build_in.new.store) (g.S.Store.calls c.plans_in.new.store) _ _ c.as_slice.ensures.value c.in_ok-plans.ensures.calls) c.in_ok-linked.ensures.calls)
 
-pub returns-in_err-build-clause-kind : goal.returns-in_err-build-clause-kind
-returns-in_err-build-clause-kind g c =
-    rw (err_is _ c.from_residual.ensures.1) (stops_behind (OfObject ∷ []) (OfBuild ∷ OfSize ∷ []) c.in_err-build.field-0.0
-    (stops_before (OfBuild ∷ []) (OfSize ∷ []) c.in_err-build.field-0.0 c.in_err-build.ensures.kind))
+pub returns-clause-others : goal.returns-clause-others
+returns-clause-others g c =
+    plans_others (has_all g c) (g.S.Store.contents c.link_plans.new.store) c.in_ok-linked.ensures.others

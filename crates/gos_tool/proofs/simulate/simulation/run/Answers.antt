@@ -11,7 +11,7 @@ use Rattle.gos_command.proofs.EndLemmas.{of_result_both, of_stopped, stops_after
 use Rattle.gos_command.specs.declared.report.Counts.{Counts}
 use Rattle.gos_command.specs.Lines.{fault_line}
 use Rattle.gos_tool.specs.simulate.Simulation.{LeavesTrace, IsPulseFault}
-use Rattle.gos_tool.proofs.lemmas.simulate.SimulationLemmas.{leaves_trace, broken}
+use Rattle.gos_tool.proofs.lemmas.simulate.SimulationLemmas.{leaves_trace, broken, ran, unwritten}
 use Rattle.gos_outside.specs.Calls.{Write}
 use Rattle.gos_tool.proofs.simulate.simulation.run.Goals as goal
 
@@ -33,6 +33,14 @@ returns-in-Ok-drive-clause-done g c =
     (λ counts w are says. leaves_trace old new net c.args.pulses.now c.args.trace.now c.args.read.now.1 run c.args.read.now.0 counts says traced (wrote w) are)
     c.write_trace.ensures.wrote c.write_trace.ensures.numbers
 
+pub returns-in-Ok-drive-clause-failed_after : goal.returns-in-Ok-drive-clause-failed_after
+returns-in-Ok-drive-clause-failed_after g c =
+    let read = c.args.read.now in
+    let run = c.in-Ok-drive.traced in
+    let net_is : c.in-Ok.sim.net ≡ c.args.net = ap (λ (s : Simulator). s.net) c.in-Ok.ensures.made in
+    λ _. ran (g.S.Store.contents c.args.store.now) c.args.net c.args.pulses.now read.0 read.1 run
+    (subst (λ (n : Netlist). IsTraced n read.0 read.1 run) net_is c.in-Ok-drive.ensures.traced)
+
 pub returns-clause-rejected : goal.returns-clause-rejected
 returns-clause-rejected g c =
     let old = g.S.Store.contents c.args.store.now in
@@ -48,3 +56,6 @@ returns-clause-rejected g c =
 pub returns-clause-calls : goal.returns-clause-calls
 returns-clause-calls g c =
     stops_after _ [] (Write c.args.trace.now ∷ []) (g.S.Store.calls c.args.store.now) (g.S.Store.calls c.args.store.now) c.reject.ensures.no_store refl
+
+pub returns-clause-others : goal.returns-clause-others
+returns-clause-others g c = unwritten c.args.trace.now (g.S.Store.contents c.args.store.now)

@@ -10,7 +10,7 @@ use Rattle.gos_link.specs.declared.opens.Open.{Open}
 use Rattle.gos_link.specs.Linked.{outcome_of, plans_of, port_of}
 use Rattle.gos_link.specs.inner.Opens.{open_seen}
 use Rattle.gos_link.proofs.JudgeLemmas.{plan_low, lefts, ports, root_at, wrong_names, named, wrong_result, done, wrong_import, all_ground}
-use Rattle.gos_link.proofs.linking.check_ports.Goals as goal
+use Rattle.gos_link.proofs.judging.check_ports.Goals as goal
 
 pub check_names-requires : goal.check_names-requires
 check_names-requires c = λ k l at.
