@@ -1,0 +1,11 @@
+use Rattle.std.proofs.Common.{◌≡◌, ◌++◌, take, drop}
+use Rattle.gos_model.specs.Stores.{store_put}
+use Rattle.gos_witness.specs.inner.Rows.{entries_of}
+use Rattle.gos_witness.proofs.store.put.Given as goal
+
+-- nothing is written yet, and none of the entries so far has the location
+abbrev pub invariant-loop-index : goal.invariant-loop-index
+invariant-loop-index l =
+    (l.store ≡ l.fn.store)
+    × (store_put (entries_of l.fn.store) l.place 0 l.number
+    ≡ entries_of (take l.index l.fn.store) ++ store_put (entries_of (drop l.index l.fn.store)) l.place 0 l.number)

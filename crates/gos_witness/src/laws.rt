@@ -1,0 +1,32 @@
+// Laws of the definitions. Each is the contract of a function that does nothing.
+ghost use Rattle.gos_witness.specs.SmallLines.{OneIsLeft, SharedCountsTwice, SharedIsSeen, SkipIsExplained, SkipMakesNoStep};
+ghost use Rattle.gos_witness.specs.SmallSteps.{FirstIsRead, FirstIsWritten, LeastIsTaken};
+ghost use Rattle.gos_witness.specs.Verify.{AlwaysOneAnswer, ExplainedIsTrace};
+
+/// Where lines explain labels, the labels are a trace of the program, whoever wrote the lines.
+pub fn explained_is_trace()
+    ensures { ExplainedIsTrace }
+{}
+
+/// Of any lines and labels one answer of `verify` is right at most: they explain the labels, or there is one fault.
+pub fn one_answer_of_lines()
+    ensures { AlwaysOneAnswer }
+{}
+
+/// Small lists of lines: two lines explain what `export skip : com` shows, one leaves a label, and `skip` makes no step. And a
+/// term of two nodes of which one stands in it twice has three.
+pub fn small_lines()
+    ensures skip { SkipIsExplained }
+    ensures left { OneIsLeft }
+    ensures no_step { SkipMakesNoStep }
+    ensures seen { SharedIsSeen }
+    ensures counts { SharedCountsTwice }
+{}
+
+/// Small computation steps: of a location the number at index 0 is read and written, and no other. A location that the store lacks,
+/// or that has no number, is neither read nor written. A new variable takes the least location that is new.
+pub fn small_steps()
+    ensures read { FirstIsRead }
+    ensures written { FirstIsWritten }
+    ensures least { LeastIsTaken }
+{}
