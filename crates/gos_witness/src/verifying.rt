@@ -36,7 +36,7 @@ struct Stage {
 }
 
 /// Whether the lines explain the labels: they can all be made, the last is no unfolding, they have just these labels, and no term on
-/// the way has more than 1,000,000 nodes.
+/// the way has more than 1,000,000 nodes. The labels are of the program's ports.
 ///
 /// `Err` has the first line that can't be made, or the first term that is too large, or how many labels the lines have where some are
 /// left; or it is want of memory.
