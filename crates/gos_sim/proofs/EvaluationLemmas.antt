@@ -3,7 +3,7 @@ use Rattle.std.specs.Prelude.{◌≡◌, ◌≢◌, ℕ, zero, suc, ◌+◌, ◌
 use Rattle.std.specs.List.{flat_map}
 use Rattle.std.proofs.Common.{arith, refl, sym, ap, subst, ◌∙◌, get_or-set_other}
 use Rattle.std.proofs.Math.ListN.{drop_of_length-le}
-use Rattle.std.proofs.Math.Seq.{take-add}
+use Rattle.std.proofs.Math.Seq.{drop-append_seam, take-add}
 use Rattle.std.proofs.lemmas.List.{append-nil, append_assoc, drop-append-le, drop-drop, flat_map_more, length-append, length-drop, length-set, length-take-le, take-append-le}
 use Rattle.std.proofs.lemmas.List.Elements.{All-cons, All-head, All-nil, All-push, All-tail, All-weaker}
 use Rattle.std.proofs.lemmas.List.Concat.{flat_map-cons}
@@ -21,7 +21,7 @@ use Rattle.gos_sim.specs.declared.program.Step.{Step}
 use Rattle.gos_sim.specs.inner.Program.{HaveOneCell, IsStepWithin, SparesEarlier}
 use Rattle.gos_sim.specs.inner.Places.{AreStepsMoved, IsStepMoved, moved}
 use Rattle.gos_sim.specs.inner.Drafts.{AddsSteps, IsDraft}
-use Rattle.gos_sim.specs.inner.Evaluation.{AreFitting, AreLonger, AreRunsMore, Fits, GoesOn, IsAdded, IsLonger, after, bits_of, all_steps, part, room_of, steps_from, steps_of, steps_of_kind, value_of}
+use Rattle.gos_sim.specs.inner.Evaluation.{AreFitting, AreLonger, AreRunsMore, Fits, GoesOn, HasOperand, IsAdded, IsLonger, after, bits_of, all_steps, part, room_of, run_of, steps_from, steps_of, steps_of_kind, value_of}
 use Rattle.gos_sim.specs.inner.Running.{AreShown, KeepsOtherSteps}
 use Rattle.gos_sim.proofs.MoveLemmas.{steps_pushed}
 use Rattle.gos_sim.proofs.StepLemmas.{AreShownBefore, shown_more}
@@ -278,6 +278,27 @@ bits_moved p (Eq a b) w = refl
 bits_moved p (Less a b) w = refl
 bits_moved p (Gate s a) w = refl
 bits_moved p (Reg a) w = refl
+
+-- a step whose operand is added
+pub step_added : {A : Type 0} (k : Kind) (w : ℕ) (gate : A → declared.Gate) (x : A) (xs ys : List A) (old new : Operands) (s : Step) (r : Run)
+    → AreLonger old new × HasOperand k s.net w x xs ys r
+    → steps_of_kind k new (run_of k s.net w (length xs)) ≡ steps_from w gate s.net (take 1 (drop (length xs) ys)) → room_of k new ≡ length ys
+    → s.gate ≡ gate x → w ≡ bits_of (function_of (gate x)) s.width → IsAdded old new s r
+step_added k w gate x xs ys old new s r (longer, has) own room is bits =
+    subst (IsAdded old new s) (sym has.run)
+    (record {
+      longer = longer;
+      one = refl;
+      fits = omega (arith, room, long);
+      steps = own ∙ (ap (λ (zs : List _). steps_from w gate s.net (take 1 zs)) (ap (drop (length xs)) has.added ∙ drop-append_seam xs (x ∷ []))
+          ∙ (λ i. record { net = s.net; width = wide i; gate = sym is i } ∷ []));
+    })
+  where
+    long : length ys ≡ length xs + 1
+    long = ap length has.added ∙ length-append xs (x ∷ [])
+
+    wide : w ≡ bits_of (function_of s.gate) s.width
+    wide = bits ∙ ap (λ (g : declared.Gate). bits_of (function_of g) s.width) (sym is)
 
 -- no steps
 pub draft_none : (places : Numbers) (d : Draft) → d.last.count ≡ 0 → d.runs.items ≡ [] → d.last.first ≡ 0 → IsDraft places [] d

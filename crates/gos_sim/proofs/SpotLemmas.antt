@@ -1,8 +1,8 @@
 -- Single steps among runs: where they are found.
-use Rattle.std.specs.Prelude.{◌≡◌, ℕ, zero, suc, ◌+◌, ◌-◌, ◌<◌, ◌≤◌, List, [], ◌∷◌, ◌++◌, All, Some, drop, length, set, slice_get, take}
+use Rattle.std.specs.Prelude.{◌≡◌, ℕ, zero, suc, ◌+◌, ◌-◌, ◌<◌, ◌≤◌, List, [], ◌∷◌, ◌++◌, All, Some, drop, length, map, set, slice_get, take}
 use Rattle.std.specs.List.{flat_map}
 use Rattle.std.proofs.Common.{arith, refl, sym, ap, subst, ◌∙◌, get_or-set_same, get_or-set_other}
-use Rattle.std.proofs.lemmas.List.{drop-drop, length-append, length-drop, length-take-le, set-get_or}
+use Rattle.std.proofs.lemmas.List.{drop-drop, length-append, length-drop, length-map, length-take-le, set-get_or}
 use Rattle.std.proofs.lemmas.List.Elements.{All-cons, All-head, All-nil, All-tail}
 use Rattle.std.proofs.lemmas.List.Concat.{flat_map-cons}
 use Rattle.gos_netlist.specs.declared.nets.Gate as declared
@@ -269,11 +269,12 @@ one_within o all k one old is within =
     values : (new : Numbers) → new ≡ after (steps_of o one) old → new ≡ set old s.net x
     values new gives = gives ∙ ap (λ (ss : List Step). after ss old) is.own
 
-pub known_alone : (o : Operands) (runs : List Run) (k : ℕ) (one : Run) (old : Numbers) → All (Fits o) runs → IsAlone runs k one
-    → k < length (flat_map (steps_of o) runs) → All (IsStepWithin (length old)) (flat_map (steps_of o) runs)
-    → IsOneWithin o (flat_map (steps_of o) runs) k one old
-known_alone o runs k one old fit alone low within =
-    one_within o (flat_map (steps_of o) runs) k one old (one_alone o (flat_map (steps_of o) runs) k one low (alone o fit).2) within
+pub known_alone : {A : Type 0} (number : A → ℕ) (o : Operands) (runs : List Run) (k : ℕ) (one : Run) (words : List A) → All (Fits o) runs
+    → IsAlone runs k one → k < length (flat_map (steps_of o) runs) → All (IsStepWithin (length words)) (flat_map (steps_of o) runs)
+    → IsOneWithin o (flat_map (steps_of o) runs) k one (map number words)
+known_alone number o runs k one words fit alone low within =
+    one_within o (flat_map (steps_of o) runs) k one (map number words) (one_alone o (flat_map (steps_of o) runs) k one low (alone o fit).2)
+    (subst (λ (n : ℕ). All (IsStepWithin n) (flat_map (steps_of o) runs)) (sym (length-map words number)) within)
 
 -- what holds of all steps holds of a step alone
 pub alone_steps : (P : Step → Type 0) (o : Operands) (runs : List Run) (k : ℕ) (one : Run) → All (Fits o) runs → IsAlone runs k one

@@ -35,7 +35,6 @@ const LEAST: usize = 8;
 const LONGEST: u32 = 64;
 
 /// What has changed, and what has to be evaluated for it.
-#[derive(Drop)]
 pub struct Active {
     /// What changed values bring with them.
     pub wake: Wake,
@@ -47,6 +46,19 @@ pub struct Active {
     pub wait: u32,
     /// How many they are after the next time that these were too many.
     pub pause: u32,
+}
+
+// By hand, so that it is one call for whoever lets it go, and not one for each list that it has.
+impl Drop for Active {
+    fn drop(self) {
+        let Active {
+            wake: _,
+            changed: _,
+            settled: _,
+            wait: _,
+            pause: _,
+        } = self;
+    }
 }
 
 // Evaluates a step, into the values.

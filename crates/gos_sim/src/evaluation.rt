@@ -9,7 +9,7 @@ ghost use Rattle.gos_sim.specs.inner.Drafts.{AddsSteps, AreCounted, AreUpTo, IsD
 ghost use Rattle.gos_sim.specs.inner.Places.{AreStepsMoved, none};
 ghost use Rattle.gos_sim.specs.inner.Running.{AreShown, KeepsOtherSteps};
 ghost use Rattle.gos_sim.specs.inner.Spots.{HasGate, IsEvaluated, IsGate, IsNumbered, IsSpot, Tells};
-ghost use Rattle.gos_sim.specs.inner.Evaluation.{AreRunsMore, Fits, GoesOn, IsAdded, after, part, steps_from, steps_of};
+ghost use Rattle.gos_sim.specs.inner.Evaluation.{AreLonger, AreRunsMore, Fits, GoesOn, HasOperand, IsAdded, after, part, run_of, steps_from, steps_of};
 
 use crate::operations::{
     Add, And, Constant, Equal, Less, Mux, Not, Operation, Or, Pair, Pass, Sub, Triple, Xor,
@@ -107,7 +107,7 @@ impl Program {
         ensures others { KeepsOtherSteps self.now values.old values.new }
         ensures long { length values.new ≡ length values.old }
     {
-        evaluate_runs(&self.runs, &self.operands, values);
+        evaluate_words(&self.runs, &self.operands, values);
     }
 
     // How many steps there are.
@@ -134,7 +134,13 @@ impl Program {
         ensures told { Tells result values.old values.new }
         ensures long { length values.new ≡ length values.old }
     {
-        evaluate_alone(&self.runs, &self.spots, &self.operands, step, values)
+        evaluate_alone(
+            &self.runs,
+            &self.spots,
+            &self.operands,
+            step,
+            &mut values.items,
+        )
     }
 }
 
@@ -186,7 +192,7 @@ fn evaluate_alone<W: Word>(
     spots: &[Spot],
     operands: &Operands,
     step: usize,
-    values: &mut Words<W>,
+    values: &mut [W],
 ) -> Option<u32>
     requires fit { All (Fits operands.now) runs.now }
     requires spots { All (IsSpot runs.now) spots.now }
@@ -194,41 +200,50 @@ fn evaluate_alone<W: Word>(
     requires steps { All (IsStepWithin (length values.old)) (flat_map (steps_of operands.now) runs.now) }
     requires sized { HaveBits W.bits (flat_map (steps_of operands.now) runs.now) }
     requires step { step < length (flat_map (steps_of operands.now) runs.now) }
-    ensures evaluated { IsEvaluated (flat_map (steps_of operands.now) runs.now) step values.old values.new }
-    ensures told { Tells result values.old values.new }
-    ensures long { length values.new ≡ length values.old }
+    ensures evaluated { IsEvaluated (flat_map (steps_of operands.now) runs.now) step (map W.number values.old) (map W.number values.new) }
+    ensures told { Tells result (map W.number values.old) (map W.number values.new) }
 {
     let one = alone(runs, spots, step);
     let net = one.net as usize;
-    let before = values.get(net);
+    let before = values[net];
     evaluate_run(&one, operands, values);
-    if values.get(net).is(before) {
+    if values[net].is(before) {
         None
     } else {
         Some(one.net)
     }
 }
 
-// Evaluates the steps of runs.
-fn evaluate_runs<W: Word>(runs: &[Run], operands: &Operands, values: &mut Words<W>)
+// Evaluates the steps of runs, with the values in words.
+fn evaluate_words<W: Word>(runs: &[Run], operands: &Operands, values: &mut Words<W>)
     requires fit { All (Fits operands.now) runs.now }
     requires steps { All (IsStepWithin (length values.old)) (flat_map (steps_of operands.now) runs.now) }
     requires sized { HaveBits W.bits (flat_map (steps_of operands.now) runs.now) }
     ensures values { values.new ≡ after (flat_map (steps_of operands.now) runs.now) values.old }
     ensures long { length values.new ≡ length values.old }
 {
+    evaluate_runs(runs, operands, &mut values.items);
+}
+
+// Evaluates the steps of runs.
+fn evaluate_runs<W: Word>(runs: &[Run], operands: &Operands, values: &mut [W])
+    requires fit { All (Fits operands.now) runs.now }
+    requires steps { All (IsStepWithin (length values.old)) (flat_map (steps_of operands.now) runs.now) }
+    requires sized { HaveBits W.bits (flat_map (steps_of operands.now) runs.now) }
+    ensures { map W.number values.new ≡ after (flat_map (steps_of operands.now) runs.now) (map W.number values.old) }
+{
     for run in runs {
         evaluate_run(run, operands, values);
     }
 }
 
-// Evaluates the steps of a run.
-fn evaluate_run<W: Word>(run: &Run, operands: &Operands, values: &mut Words<W>)
+// Evaluates the steps of a run. Most runs are short, and a call for each would take a fifth of the time.
+#[inline(always)]
+fn evaluate_run<W: Word>(run: &Run, operands: &Operands, values: &mut [W])
     requires fits { Fits operands.now run.now }
     requires steps { All (IsStepWithin (length values.old)) (steps_of operands.now run.now) }
     requires sized { HaveBits W.bits (steps_of operands.now run.now) }
-    ensures values { values.new ≡ after (steps_of operands.now run.now) values.old }
-    ensures long { length values.new ≡ length values.old }
+    ensures { map W.number values.new ≡ after (steps_of operands.now run.now) (map W.number values.old) }
 {
     let net = run.net;
     let width = run.width;
@@ -262,20 +277,16 @@ fn evaluate_part<O: Operation, W: Word>(
     operation: &O,
     net: u32,
     operands: &[O::Operand],
-    values: &mut Words<W>,
+    values: &mut [W],
 )
     requires steps { All (IsStepWithin (length values.old)) (steps_from (O.width operation.now) (O.gate operation.now) net operands.now) }
     requires sized { HaveBits W.bits (steps_from (O.width operation.now) (O.gate operation.now) net operands.now) }
-    ensures values { values.new ≡ after (steps_from (O.width operation.now) (O.gate operation.now) net operands.now) values.old }
-    ensures long { length values.new ≡ length values.old }
+    ensures { map W.number values.new ≡ after (steps_from (O.width operation.now) (O.gate operation.now) net operands.now) (map W.number values.old) }
 {
-    let many = values.len();
     let mut place = net as usize;
     for operand in operands {
         let value = operation.value(operand, values);
-        // So the next place is a number too.
-        prove!(place < many);
-        values.set(place, value);
+        values[place] = value;
         place += 1;
     }
 }
@@ -422,27 +433,69 @@ impl Operands {
         ensures { IfOk result (IsAdded self.old self.new step) }
     {
         let (net, width) = (step.net, step.width);
-        let (kind, width, first) = match step.gate {
+        match step.gate {
             Gate::Input | Gate::Reg(_) => unreachable!(),
-            Gate::Const(k) => (Kind::Const, 0, added(&mut self.constants, k)?),
-            Gate::Not(a) => (Kind::Not, width, added(&mut self.pins, a)?),
-            Gate::And(a, b) => (Kind::And, 0, added(&mut self.pairs, Pair { a, b })?),
-            Gate::Or(a, b) => (Kind::Or, 0, added(&mut self.pairs, Pair { a, b })?),
-            Gate::Xor(a, b) => (Kind::Xor, 0, added(&mut self.pairs, Pair { a, b })?),
-            Gate::Mux(s, a, b) => (Kind::Mux, 0, added(&mut self.triples, Triple { s, a, b })?),
-            Gate::Add(a, b) => (Kind::Add, width, added(&mut self.pairs, Pair { a, b })?),
-            Gate::Sub(a, b) => (Kind::Sub, width, added(&mut self.pairs, Pair { a, b })?),
-            Gate::Eq(a, b) => (Kind::Eq, 0, added(&mut self.pairs, Pair { a, b })?),
-            Gate::Less(a, b) => (Kind::Less, 0, added(&mut self.pairs, Pair { a, b })?),
-            Gate::Gate(a, b) => (Kind::Gate, 0, added(&mut self.pairs, Pair { a, b })?),
-        };
-        Ok(Run {
-            kind,
-            width,
-            net,
-            first,
-            count: 1,
-        })
+            Gate::Const(k) => self.add_constant(net, k),
+            Gate::Not(a) => self.add_pin(net, width, a),
+            Gate::And(a, b) => self.add_pair(Kind::And, net, 0, Pair { a, b }),
+            Gate::Or(a, b) => self.add_pair(Kind::Or, net, 0, Pair { a, b }),
+            Gate::Xor(a, b) => self.add_pair(Kind::Xor, net, 0, Pair { a, b }),
+            Gate::Mux(s, a, b) => self.add_triple(net, Triple { s, a, b }),
+            Gate::Add(a, b) => self.add_pair(Kind::Add, net, width, Pair { a, b }),
+            Gate::Sub(a, b) => self.add_pair(Kind::Sub, net, width, Pair { a, b }),
+            Gate::Eq(a, b) => self.add_pair(Kind::Eq, net, 0, Pair { a, b }),
+            Gate::Less(a, b) => self.add_pair(Kind::Less, net, 0, Pair { a, b }),
+            Gate::Gate(a, b) => self.add_pair(Kind::Gate, net, 0, Pair { a, b }),
+        }
+    }
+
+    // Adds a constant.
+    fn add_constant(&mut self, net: u32, constant: u64) -> Result<Run, NoMemory>
+        requires room { AreUpTo 4294967294 self.old }
+        ensures { IfOk result (λ r. AreLonger self.old self.new × HasOperand Kind.Const net 0 constant self.old.constants.items self.new.constants.items r) }
+    {
+        let first = added(&mut self.constants, constant)?;
+        Ok(run_of(Kind::Const, net, 0, first))
+    }
+
+    // Adds the pin of a step that has one.
+    fn add_pin(&mut self, net: u32, width: u32, pin: NetId) -> Result<Run, NoMemory>
+        requires room { AreUpTo 4294967294 self.old }
+        ensures { IfOk result (λ r. AreLonger self.old self.new × HasOperand Kind.Not net width pin self.old.pins.items self.new.pins.items r) }
+    {
+        let first = added(&mut self.pins, pin)?;
+        Ok(run_of(Kind::Not, net, width, first))
+    }
+
+    // Adds the pins of a step of some kind that has two.
+    fn add_pair(&mut self, kind: Kind, net: u32, width: u32, pair: Pair) -> Result<Run, NoMemory>
+        requires room { AreUpTo 4294967294 self.old }
+        ensures { IfOk result (λ r. AreLonger self.old self.new × HasOperand kind net width pair self.old.pairs.items self.new.pairs.items r) }
+    {
+        let first = added(&mut self.pairs, pair)?;
+        Ok(run_of(kind, net, width, first))
+    }
+
+    // Adds the pins of a step that has three.
+    fn add_triple(&mut self, net: u32, triple: Triple) -> Result<Run, NoMemory>
+        requires room { AreUpTo 4294967294 self.old }
+        ensures { IfOk result (λ r. AreLonger self.old self.new × HasOperand Kind.Mux net 0 triple self.old.triples.items self.new.triples.items r) }
+    {
+        let first = added(&mut self.triples, triple)?;
+        Ok(run_of(Kind::Mux, net, 0, first))
+    }
+}
+
+// The run of one step.
+fn run_of(kind: Kind, net: u32, width: u32, first: u32) -> Run
+    ensures { result ≡ run_of kind net width first }
+{
+    Run {
+        kind,
+        width,
+        net,
+        first,
+        count: 1,
     }
 }
 

@@ -22,17 +22,24 @@ pub struct EventNets {
 }
 
 // The events of a netlist that come in, or those that go out.
-#[tactic(auto, using(std::proofs::lemmas::List::Elements::filter_more))]
 pub fn events_of(alloc: Global, net: &Netlist, input: bool) -> Result<Vec<EventNets>, NoMemory>
     requires { All (λ p. net_count p.ty ≤ length p.nets) net.now.ports }
     ensures { IfOk result (λ events. events.items ≡ filter (table.comes_in input) (table.all_events net.now)) }
 {
     let all = all_events(alloc, &net.ports)?;
-    let mut events = Vec::new(alloc);
-    for event in &all {
-        add_chosen(&mut events, *event, input)?;
+    chosen(alloc, &all, input)
+}
+
+// Those of events that come in, or those that go out.
+#[tactic(auto, using(std::proofs::lemmas::List::Elements::filter_more))]
+fn chosen(alloc: Global, events: &[EventNets], input: bool) -> Result<Vec<EventNets>, NoMemory>
+    ensures { IfOk result (λ chosen. chosen.items ≡ filter (table.comes_in input) events.now) }
+{
+    let mut chosen = Vec::new(alloc);
+    for event in events {
+        add_chosen(&mut chosen, *event, input)?;
     }
-    Ok(events)
+    Ok(chosen)
 }
 
 // Adds an event where it is one of those that are asked for.
@@ -69,20 +76,36 @@ fn add_events(
 {
     match ground {
         Ground::Com => {
-            events.push(request(side, net_at(nets, 0), None))?;
-            events.push(answer(side, net_at(nets, 1), None))?;
+            let asked = request(side, net_at(nets, 0), None);
+            add_two(events, asked, answer(side, net_at(nets, 1), None))
         }
         Ground::Exp(_) => {
-            events.push(request(side, net_at(nets, 0), None))?;
-            events.push(answer(side, net_at(nets, 1), Some(net_at(nets, 2))))?;
+            let asked = request(side, net_at(nets, 0), None);
+            add_two(
+                events,
+                asked,
+                answer(side, net_at(nets, 1), Some(net_at(nets, 2))),
+            )
         }
         Ground::Var(_) => {
-            events.push(request(side, net_at(nets, 0), None))?;
-            events.push(answer(side, net_at(nets, 1), Some(net_at(nets, 2))))?;
-            events.push(request(side, net_at(nets, 3), Some(net_at(nets, 4))))?;
-            events.push(answer(side, net_at(nets, 5), None))?;
+            let asked = request(side, net_at(nets, 0), None);
+            add_two(
+                events,
+                asked,
+                answer(side, net_at(nets, 1), Some(net_at(nets, 2))),
+            )?;
+            let asked = request(side, net_at(nets, 3), Some(net_at(nets, 4)));
+            add_two(events, asked, answer(side, net_at(nets, 5), None))
         }
     }
+}
+
+// Adds two events.
+fn add_two(events: &mut Vec<EventNets>, first: EventNets, second: EventNets) -> Result<(), NoMemory>
+    ensures { OnOk result (events.new.items ≡ events.old.items ++ first ∷ second ∷ []) }
+{
+    events.push(first)?;
+    events.push(second)?;
     Ok(())
 }
 

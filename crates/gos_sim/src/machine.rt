@@ -1,11 +1,15 @@
 // A netlist as it runs: its events, its steps and its latches.
-ghost use Rattle.std.specs.Prelude.{◌≡◌, ◌+◌, ◌<◌, ◌≤◌, ◌^◌, All, IfOk, IsTrue, length, map};
+ghost use Rattle.std.specs.Prelude.{◌≡◌, ◌+◌, ◌<◌, ◌≤◌, ◌^◌, All, IfOk, IsTrue, filter, length, map};
+ghost use Rattle.gos_netlist.specs.Events.{net_count};
 ghost use Rattle.gos_netlist.specs.Seen.{number_of};
+ghost use Rattle.gos_netlist.specs.Settling.{at};
 ghost use Rattle.gos_sim.specs.Cycle.{GivesAll};
-ghost use Rattle.gos_sim.specs.inner.Machine.{IsMachine, IsRunnable, IsStill, RunsThrough, Settles, SettlesAtReset, plan_of};
+ghost use Rattle.gos_sim.specs.EventNets.{OnNets, all_events, comes_in};
+ghost use Rattle.gos_sim.specs.inner.Machine.{IsMachine, IsMachineAt, IsRunnable, IsStill, RunsThrough, Settles, SettlesAtReset, plan_of};
 ghost use Rattle.gos_netcheck.specs.Schedule.{IsSchedule};
 ghost use Rattle.gos_netcheck.specs.Levels.{AreLevels};
-ghost use Rattle.gos_sim.specs.inner.Program.{HaveBits};
+ghost use Rattle.gos_sim.specs.inner.Places.{event_moved};
+ghost use Rattle.gos_sim.specs.inner.Program.{HaveBits, IsLatchWithin};
 ghost use Rattle.gos_sim.specs.inner.Ready.{IsReady};
 
 use crate::chains::Chains;
@@ -24,7 +28,6 @@ use gos_types::NoMemory;
 use std::alloc::Global;
 
 /// What runs in each cycle, in flat lists. All but `levels` and `places` speaks of places, and not of nets.
-#[derive(Drop)]
 pub struct Machine {
     /// The input events, in order.
     pub inputs: Vec<EventNets>,
@@ -42,6 +45,21 @@ pub struct Machine {
     pub count: usize,
 }
 
+// By hand, so that it is one call for whoever lets a machine go, and not one for each list that it has.
+impl Drop for Machine {
+    fn drop(self) {
+        let Machine {
+            inputs: _,
+            outputs: _,
+            program: _,
+            latches: _,
+            levels: _,
+            places: _,
+            count: _,
+        } = self;
+    }
+}
+
 // The machine of a netlist, from an order in which its cells can be evaluated and from their levels.
 pub fn machine_of(
     alloc: Global,
@@ -57,20 +75,53 @@ pub fn machine_of(
     ensures machine { IfOk result (IsMachine net.now) }
     ensures few { IfOk result (λ machine. length machine.program + length machine.latches.items < 2 ^ 32) }
 {
-    let inputs = events_of(alloc, net, true)?;
-    let outputs = events_of(alloc, net, false)?;
     let sorted = by_keys(alloc, &net.cells, order)?;
     let latches = latches(alloc, &net.cells, &sorted)?;
-    let Places { of, count } = numbered(alloc, net.cells.len(), &latches, &sorted)?;
+    let places = numbered(alloc, net.cells.len(), &latches, &sorted)?;
+    let program = steps_moved(alloc, &net.cells, &sorted, &places.of)?;
+    machine_at(alloc, net, levels, &latches, places, program)
+}
+
+// The machine of a netlist, from its levels, its latches, the places of its nets and its steps there.
+fn machine_at(
+    alloc: Global,
+    net: &Netlist,
+    levels: &[u32],
+    latches: &[Latch],
+    places: Places,
+    program: Program,
+) -> Result<Machine, NoMemory>
+    requires ready { IsReady net.now }
+    requires each { length places.of.items ≡ length net.now.cells }
+    requires latches { All (IsLatchWithin (length net.now.cells)) latches.now }
+    requires few { length levels.now < 2 ^ 32 }
+    ensures { IfOk result (IsMachineAt net.now levels.now latches.now places program) }
+{
+    let Places { of, count } = places;
     Ok(Machine {
-        inputs: events_moved(alloc, &inputs, &of)?,
-        outputs: events_moved(alloc, &outputs, &of)?,
-        program: steps_moved(alloc, &net.cells, &sorted, &of)?,
-        latches: latches_moved(alloc, &latches, &of)?,
+        inputs: events_at(alloc, net, true, &of)?,
+        outputs: events_at(alloc, net, false, &of)?,
+        program,
+        latches: latches_moved(alloc, latches, &of)?,
         levels: chained_levels(alloc, levels)?,
         places: of,
         count: count as usize,
     })
+}
+
+// The events of a netlist that come in, or those that go out, at the places of their nets.
+fn events_at(
+    alloc: Global,
+    net: &Netlist,
+    input: bool,
+    places: &[u32],
+) -> Result<Vec<EventNets>, NoMemory>
+    requires ports { All (λ p. net_count p.ty ≤ length p.nets) net.now.ports }
+    requires nets { All (OnNets (λ a. a < length places.now)) (filter (comes_in input) (all_events net.now)) }
+    ensures { IfOk result (λ there. there.items ≡ map (event_moved (at places.now)) (filter (comes_in input) (all_events net.now))) }
+{
+    let events = events_of(alloc, net, input)?;
+    events_moved(alloc, &events, places)
 }
 
 impl Machine {

@@ -1,5 +1,5 @@
 // What steps do: an operation for each kind of gate, which gives the value of a step from those of the nets that it reads.
-ghost use Rattle.std.specs.Prelude.{◌≡◌, ℕ, ◌<◌, length, nat_eq, if◌then◌else◌};
+ghost use Rattle.std.specs.Prelude.{◌≡◌, ℕ, ◌<◌, length, map, nat_eq, if◌then◌else◌};
 ghost use Rattle.gos_netlist.specs.declared.nets.Gate as declared;
 ghost use Rattle.gos_netlist.specs.declared.nets.Gate.TheVariants as gates;
 ghost use Rattle.gos_netlist.specs.Seen.{function_of};
@@ -8,7 +8,6 @@ ghost use Rattle.gos_sim.specs.inner.Program.{HasBits};
 ghost use Rattle.gos_sim.specs.inner.Ready.{IsCellWithin};
 
 use crate::word::Word;
-use crate::words::Words;
 use gos_netlist::{Gate, NetId};
 
 /// The nets that a step of two pins reads.
@@ -41,10 +40,10 @@ pub trait Operation {
     ghost gate: { Self → Self.Operand → declared.Gate };
 
     /// What a step shows, from the values of the nets.
-    fn value<W: Word>(&self, operand: &Self::Operand, values: &Words<W>) -> W
+    fn value<W: Word>(&self, operand: &Self::Operand, values: &[W]) -> W
         requires within { IsCellWithin (length values.now) (record { width = width self.now; gate = function_of (gate self.now operand.now) }) }
         requires sized { HasBits W.bits (record { width = width self.now; gate = function_of (gate self.now operand.now) }) }
-        ensures { W.number result ≡ shown (width self.now) (function_of (gate self.now operand.now)) 0 0 (at values.now) };
+        ensures { W.number result ≡ shown (width self.now) (function_of (gate self.now operand.now)) 0 0 (at (map W.number values.now)) };
 
     /// What the step is.
     fn gate_of(&self, operand: &Self::Operand) -> Gate
@@ -103,7 +102,7 @@ impl Operation for Constant {
 
     ghost gate = { λ _ k. gates.Const k };
 
-    fn value<W: Word>(&self, constant: &u64, _values: &Words<W>) -> W {
+    fn value<W: Word>(&self, constant: &u64, _values: &[W]) -> W {
         W::of(*constant)
     }
 
@@ -119,7 +118,7 @@ impl Operation for Not {
 
     ghost gate = { λ _ a. gates.Not a };
 
-    fn value<W: Word>(&self, pin: &NetId, values: &Words<W>) -> W {
+    fn value<W: Word>(&self, pin: &NetId, values: &[W]) -> W {
         value_at(values, *pin).turned(self.width)
     }
 
@@ -135,7 +134,7 @@ impl Operation for And {
 
     ghost gate = { λ _ p. gates.And p.a p.b };
 
-    fn value<W: Word>(&self, pair: &Pair, values: &Words<W>) -> W {
+    fn value<W: Word>(&self, pair: &Pair, values: &[W]) -> W {
         value_at(values, pair.a).and(value_at(values, pair.b))
     }
 
@@ -151,7 +150,7 @@ impl Operation for Or {
 
     ghost gate = { λ _ p. gates.Or p.a p.b };
 
-    fn value<W: Word>(&self, pair: &Pair, values: &Words<W>) -> W {
+    fn value<W: Word>(&self, pair: &Pair, values: &[W]) -> W {
         value_at(values, pair.a).or(value_at(values, pair.b))
     }
 
@@ -167,7 +166,7 @@ impl Operation for Xor {
 
     ghost gate = { λ _ p. gates.Xor p.a p.b };
 
-    fn value<W: Word>(&self, pair: &Pair, values: &Words<W>) -> W {
+    fn value<W: Word>(&self, pair: &Pair, values: &[W]) -> W {
         value_at(values, pair.a).xor(value_at(values, pair.b))
     }
 
@@ -183,7 +182,7 @@ impl Operation for Mux {
 
     ghost gate = { λ _ t. gates.Mux t.s t.a t.b };
 
-    fn value<W: Word>(&self, triple: &Triple, values: &Words<W>) -> W {
+    fn value<W: Word>(&self, triple: &Triple, values: &[W]) -> W {
         let (a, b) = (value_at(values, triple.a), value_at(values, triple.b));
         chosen(value_at(values, triple.s), a, b)
     }
@@ -200,7 +199,7 @@ impl Operation for Add {
 
     ghost gate = { λ _ p. gates.Add p.a p.b };
 
-    fn value<W: Word>(&self, pair: &Pair, values: &Words<W>) -> W {
+    fn value<W: Word>(&self, pair: &Pair, values: &[W]) -> W {
         value_at(values, pair.a).sum(self.width, value_at(values, pair.b))
     }
 
@@ -216,7 +215,7 @@ impl Operation for Sub {
 
     ghost gate = { λ _ p. gates.Sub p.a p.b };
 
-    fn value<W: Word>(&self, pair: &Pair, values: &Words<W>) -> W {
+    fn value<W: Word>(&self, pair: &Pair, values: &[W]) -> W {
         value_at(values, pair.a).difference(self.width, value_at(values, pair.b))
     }
 
@@ -232,7 +231,7 @@ impl Operation for Equal {
 
     ghost gate = { λ _ p. gates.Eq p.a p.b };
 
-    fn value<W: Word>(&self, pair: &Pair, values: &Words<W>) -> W {
+    fn value<W: Word>(&self, pair: &Pair, values: &[W]) -> W {
         W::of_bit(value_at(values, pair.a).is(value_at(values, pair.b)))
     }
 
@@ -248,7 +247,7 @@ impl Operation for Less {
 
     ghost gate = { λ _ p. gates.Less p.a p.b };
 
-    fn value<W: Word>(&self, pair: &Pair, values: &Words<W>) -> W {
+    fn value<W: Word>(&self, pair: &Pair, values: &[W]) -> W {
         W::of_bit(value_at(values, pair.a).is_below(value_at(values, pair.b)))
     }
 
@@ -264,7 +263,7 @@ impl Operation for Pass {
 
     ghost gate = { λ _ p. gates.Gate p.a p.b };
 
-    fn value<W: Word>(&self, pair: &Pair, values: &Words<W>) -> W {
+    fn value<W: Word>(&self, pair: &Pair, values: &[W]) -> W {
         chosen(
             value_at(values, pair.a),
             value_at(values, pair.b),
@@ -278,11 +277,11 @@ impl Operation for Pass {
 }
 
 // The value of a net.
-fn value_at<W: Word>(values: &Words<W>, net: NetId) -> W
+fn value_at<W: Word>(values: &[W], net: NetId) -> W
     requires { net.0 < length values.now }
-    ensures { W.number result ≡ at values.now net.0 }
+    ensures { W.number result ≡ at (map W.number values.now) net.0 }
 {
-    values.get(net.0 as usize)
+    values[net.0 as usize]
 }
 
 // The first value where the selector is 1, else the second.

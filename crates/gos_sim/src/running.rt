@@ -77,9 +77,19 @@ pub fn load<W: Word>(latches: &[Latch], registers: &Words<W>, values: &mut Words
     ensures others { KeepsOthers latches.now values.old values.new }
     ensures long { length values.new ≡ length values.old }
 {
+    load_each(latches, &registers.items, &mut values.items);
+}
+
+// Gives each of these nets what its register holds.
+fn load_each<W: Word>(latches: &[Latch], registers: &[W], values: &mut [W])
+    requires registers { All (IsLatchWithin (length registers.now)) latches.now }
+    requires nets { All (IsLatchWithin (length values.old)) latches.now }
+    ensures loaded { AreLoaded latches.now (map W.number registers.now) (map W.number values.new) }
+    ensures others { KeepsOthers latches.now (map W.number values.old) (map W.number values.new) }
+{
     for latch in latches {
         let net = latch.net as usize;
-        values.set(net, registers.get(net));
+        values[net] = registers[net];
     }
 }
 
@@ -117,6 +127,18 @@ pub fn latch<W: Word>(latches: &[Latch], values: &Words<W>, registers: &mut Word
     ensures same { IsTrue result → registers.new ≡ registers.old }
     ensures held { length registers.new ≡ length registers.old }
 {
+    latch_each(latches, &values.items, &mut registers.items)
+}
+
+// Takes the value of each of these pins over. Answers whether all registers had these values before.
+fn latch_each<W: Word>(latches: &[Latch], values: &[W], registers: &mut [W]) -> bool
+    requires pins { All (IsLatchWithin (length values.now)) latches.now }
+    requires nets { All (IsLatchWithin (length registers.old)) latches.now }
+    requires one { HaveOnePin latches.now }
+    ensures taken { AreTaken latches.now (map W.number values.now) (map W.number registers.new) }
+    ensures others { KeepsOthers latches.now (map W.number registers.old) (map W.number registers.new) }
+    ensures same { IsTrue result → map W.number registers.new ≡ map W.number registers.old }
+{
     let mut same = true;
     for latch in latches {
         let kept = take_over(latch, values, registers);
@@ -126,16 +148,15 @@ pub fn latch<W: Word>(latches: &[Latch], values: &Words<W>, registers: &mut Word
 }
 
 // Takes the value of a register's pin over. Answers whether it had that value before.
-fn take_over<W: Word>(latch: &Latch, values: &Words<W>, registers: &mut Words<W>) -> bool
+fn take_over<W: Word>(latch: &Latch, values: &[W], registers: &mut [W]) -> bool
     requires pin { latch.now.pin < length values.now }
     requires net { latch.now.net < length registers.old }
-    ensures taken { registers.new ≡ set registers.old latch.now.net (at values.now latch.now.pin) }
-    ensures same { IsTrue result → registers.new ≡ registers.old }
-    ensures held { length registers.new ≡ length registers.old }
+    ensures taken { map W.number registers.new ≡ set (map W.number registers.old) latch.now.net (at (map W.number values.now) latch.now.pin) }
+    ensures same { IsTrue result → map W.number registers.new ≡ map W.number registers.old }
 {
     let net = latch.net as usize;
-    let value = values.get(latch.pin as usize);
-    let same = registers.get(net).is(value);
-    registers.set(net, value);
+    let value = values[latch.pin as usize];
+    let same = registers[net].is(value);
+    registers[net] = value;
     same
 }

@@ -115,8 +115,8 @@ impl Sim {
         }
     }
 
-    /// Runs a cycle with these inputs and writes its outputs, both in event order. Where an event has no number, the
-    /// value that comes with its pulse is not read.
+    /// Runs a cycle with these inputs and writes its outputs, both in event order. Each value that comes with a pulse has at most 32
+    /// bits, or as many as some net has; where the event has no number, it is not read.
     pub fn cycle(&mut self, inputs: &[Pulse], outputs: &mut [Pulse])
         requires inputs { length inputs.now ≡ length (input_events self.old.net) }
         requires outputs { length outputs.old ≡ length (output_events self.old.net) }

@@ -23,7 +23,6 @@ use std::alloc::Global;
 use std::marker::Model;
 
 /// A netlist that runs, in words of one size. Clauses see it as the netlist, what its registers hold, and its last two settlings.
-#[derive(Drop)]
 pub struct WordSim<W: Word> {
     net: Checked,
     machine: Machine,
@@ -33,6 +32,22 @@ pub struct WordSim<W: Word> {
     before: Words<W>,
     still: bool,
     past: Past,
+}
+
+// By hand, so that it is one call for whoever lets a simulator go, and not one for each list that it has.
+impl<W: Word> Drop for WordSim<W> {
+    fn drop(self) {
+        let WordSim {
+            net: _,
+            machine: _,
+            active: _,
+            registers: _,
+            values: _,
+            before: _,
+            still: _,
+            past: _,
+        } = self;
+    }
 }
 
 impl<W: Word> Model for WordSim<W> {
@@ -103,8 +118,8 @@ impl<W: Word> WordSim<W> {
         show(&self.machine.outputs, &self.registers, outputs);
     }
 
-    /// Runs a cycle with these inputs and writes its outputs, both in event order. Where an event has no number, the
-    /// value that comes with its pulse is not read.
+    /// Runs a cycle with these inputs and writes its outputs, both in event order. Each value that comes with a pulse has at most 32
+    /// bits, or as many as some net has; where the event has no number, it is not read.
     pub fn cycle(&mut self, inputs: &[Pulse], outputs: &mut [Pulse])
         requires inputs { length inputs.now ≡ length (input_events self.old.net) }
         requires outputs { length outputs.old ≡ length (output_events self.old.net) }

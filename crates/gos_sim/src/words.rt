@@ -10,7 +10,8 @@ use std::marker::Model;
 /// Numbers in words. Clauses see them as the numbers.
 #[derive(Drop)]
 pub struct Words<W: Word> {
-    items: Vec<W>,
+    /// The words. A loop over many of them takes them as a slice: where they lie is then looked up once, and not for each of them.
+    pub items: Vec<W>,
 }
 
 impl<W: Word> Model for Words<W> {

@@ -103,6 +103,15 @@ pub record AreLonger (old new : Operands) : Type 0 where
   pub pairs : IsLonger old.pairs.items new.pairs.items
   pub triples : IsLonger old.triples.items new.triples.items
 
+-- the run of one step
+abbrev pub run_of : Kind → ℕ → ℕ → ℕ → Run
+run_of kind net width first = record { kind = kind; width = width; net = net; first = first; count = 1 }
+
+-- an operand is added behind others, and the run is the one step that has it
+pub record HasOperand {A : Type 0} (kind : Kind) (net width : ℕ) (operand : A) (old new : List A) (r : Run) : Type 0 where
+  pub run : r ≡ run_of kind net width (length old)
+  pub added : new ≡ old ++ operand ∷ []
+
 -- the operand of a step is added, and the run is that step alone
 pub record IsAdded (old new : Operands) (s : Step) (r : Run) : Type 0 where
   pub longer : AreLonger old new

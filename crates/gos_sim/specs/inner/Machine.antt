@@ -11,6 +11,7 @@ use Rattle.gos_sim.specs.declared.active.Active.{Active}
 use Rattle.gos_sim.specs.declared.machine.Machine.{Machine}
 use Rattle.gos_sim.specs.declared.program.Step.{Step}
 use Rattle.gos_sim.specs.declared.past.Past.{Past}
+use Rattle.gos_sim.specs.declared.places.Places.{Places}
 use Rattle.gos_sim.specs.declared.program.Latch.{Latch}
 use Rattle.gos_sim.specs.declared.pulse.Pulse.{Pulse}
 use Rattle.gos_sim.specs.EventNets.{Names, OnNets, input_events, output_events}
@@ -61,6 +62,16 @@ pub record IsMachine (net : Netlist) (m : Machine) : Type 0 where
   pub levels : Numbers
   pub leveled : AreLevels net.cells levels
   pub chained : ChainLevels m.levels levels
+
+-- the machine of these levels and registers of a netlist, by these places of its nets, with a program that is there already
+pub record IsMachineAt (net : Netlist) (levels : Numbers) (registers : List Latch) (numbering : Places) (program : List Step) (m : Machine) : Type 0 where
+  pub inputs : m.inputs.items ≡ map (event_moved (at m.places.items)) (input_events net)
+  pub outputs : m.outputs.items ≡ map (event_moved (at m.places.items)) (output_events net)
+  pub steps : m.program ≡ program
+  pub latches : m.latches.items ≡ map (latch_moved (at m.places.items)) registers
+  pub chained : ChainLevels m.levels levels
+  pub places : m.places.items ≡ numbering.of.items
+  pub count : m.count ≡ numbering.count
 
 -- a plan can run over so many nets
 pub record IsRunnable (count : ℕ) (m : Plan) : Type 0 where

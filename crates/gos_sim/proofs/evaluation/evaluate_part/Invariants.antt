@@ -1,4 +1,4 @@
-use Rattle.std.proofs.Common.{◌≡◌, All, drop, length}
+use Rattle.std.proofs.Common.{◌≡◌, All, drop, length, map}
 use Rattle.gos_sim.specs.inner.Program.{HaveBits, IsStepWithin}
 use Rattle.gos_sim.specs.inner.Evaluation.{after, steps_from}
 use Rattle.gos_sim.proofs.evaluation.evaluate_part.Given as goal
@@ -10,6 +10,6 @@ invariant-loop-operand g l =
       each : length l.values ≡ length l.initial.values;
       within : All (IsStepWithin (length l.values)) (steps_from (g.O.Operation.width l.operation) (g.O.Operation.gate l.operation) l.place (drop l.operand-index l.operands));
       sized : HaveBits g.W.Word.bits (steps_from (g.O.Operation.width l.operation) (g.O.Operation.gate l.operation) l.place (drop l.operand-index l.operands));
-      rest : after (steps_from (g.O.Operation.width l.operation) (g.O.Operation.gate l.operation) l.place (drop l.operand-index l.operands)) l.values
-          ≡ after (steps_from (g.O.Operation.width l.operation) (g.O.Operation.gate l.operation) l.net l.operands) l.initial.values;
+      rest : after (steps_from (g.O.Operation.width l.operation) (g.O.Operation.gate l.operation) l.place (drop l.operand-index l.operands)) (map g.W.Word.number l.values)
+          ≡ after (steps_from (g.O.Operation.width l.operation) (g.O.Operation.gate l.operation) l.net l.operands) (map g.W.Word.number l.initial.values);
     }

@@ -11,11 +11,11 @@ use Rattle.gos_sim.proofs.evaluation.Program.evaluate.Goals as goal
 pub returns-clause-shown : goal.returns-clause-shown
 returns-clause-shown g c =
     let steps : flat_map (steps_of c.self.inside.operands) c.deref.result.now ≡ c.args.self.now = ap (λ (rs : List Run). flat_map (steps_of c.self.inside.operands) rs) c.deref.ensures.value ∙ c.self.view_is in
-    let all = c.evaluate_runs.ensures.values ∙ ap (λ (ss : List Step). after ss c.args.values.now) steps in
+    let all = c.evaluate_words.ensures.values ∙ ap (λ (ss : List Step). after ss c.args.values.now) steps in
     subst (λ (v : Numbers). AreShown c.args.self.now v) (sym all) (shown_after c.args.self.now c.args.values.now c.requires.order c.requires.one c.requires.steps)
 
 pub returns-clause-others : goal.returns-clause-others
 returns-clause-others g c =
     let steps : flat_map (steps_of c.self.inside.operands) c.deref.result.now ≡ c.args.self.now = ap (λ (rs : List Run). flat_map (steps_of c.self.inside.operands) rs) c.deref.ensures.value ∙ c.self.view_is in
-    let all = c.evaluate_runs.ensures.values ∙ ap (λ (ss : List Step). after ss c.args.values.now) steps in
+    let all = c.evaluate_words.ensures.values ∙ ap (λ (ss : List Step). after ss c.args.values.now) steps in
     subst (λ (v : Numbers). KeepsOtherSteps c.args.self.now c.args.values.now v) (sym all) (kept_after c.args.self.now c.args.values.now)
