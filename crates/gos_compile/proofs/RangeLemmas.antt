@@ -15,9 +15,10 @@ use Rattle.gos_types.specs.Handshakes.{handshakes_of}
 use Rattle.gos_syntax.specs.Modules.{SeenImport}
 use Rattle.gos_model.specs.Terms as terms
 use Rattle.gos_model.specs.Terms.{Name, Op, Term}
-use Rattle.gos_model.specs.Typing.{Imports, Typed, import_type}
+use Rattle.gos_model.specs.Typing.{Imports, Typed, import_type, IsLength, index_width, array_type}
 use Rattle.gos_model.specs.Laws.{NodeHasType}
 use Rattle.gos_model.specs.Sources as sources
+use Rattle.gos_model.proofs.ArrayLemmas.{length_is_power}
 use Rattle.gos_check.specs.declared.linear.Split.{Split}
 use Rattle.gos_check.specs.Accepted.{KeepsLimits, AreWritten}
 use Rattle.gos_check.specs.Checked.{SeenLinear, IsChecked}
@@ -50,6 +51,7 @@ HasRange (kinds.Not w) = IsWidth w
 HasRange (kinds.Assign w) = IsWidth w
 HasRange (kinds.Deref w) = IsWidth w
 HasRange (kinds.Local w v) = IsWidth w × (v ≤ GREATEST_WIDTH)
+HasRange (kinds.Array w n v) = IsWidth w × IsLength n × (v ≤ GREATEST_WIDTH)
 HasRange (kinds.Share t) = IsFine t
 
 -- each type of imports, and each of binders, has widths
@@ -83,6 +85,10 @@ result_wide terms.Xor w h = h
 result_wide terms.Eq w h = (omega arith, omega arith)
 result_wide terms.Less w h = (omega arith, omega arith)
 
+-- the index of an array has a width
+index_wide : (n : ℕ) → IsLength n → IsWidth (index_width n)
+index_wide n is = let (power, least, most) = length_is_power n is in (least, omega (arith, most))
+
 -- the type of a typed term has widths
 typed_wide : (i : Imports) (g : List Type') (m : Term) (t : Type') → ImportsFine i → AreWide g → KeepsLimits i g m → Typed i g m t → HasWidths t
 typed_wide i g terms.Skip t is gs k h = subst (λ (u : Type'). HasWidths u) (sym h) tt
@@ -104,6 +110,8 @@ typed_wide i g (terms.While m n) t is gs k h = subst (λ (u : Type'). HasWidths 
 typed_wide i g (terms.Assign m n) t is gs k h = subst (λ (u : Type'). HasWidths u) (sym h.1) tt
 typed_wide i g (terms.Deref m) t is gs (small, k) (w, e, h) = subst (λ (u : Type'). HasWidths u) (sym e) (typed_wide i g m (Var w) is gs k h)
 typed_wide i g (terms.New w m) t is gs (small, k) (d, width, h) = typed_wide i (Var w ∷ g) m t is (width, gs) k h
+typed_wide i g (terms.NewArray n w m) t is gs (arrays, small, k) (d, length, width, h) =
+    typed_wide i (array_type n w ∷ g) m t is ((index_wide n length, width), gs) k h
 typed_wide i g (terms.Not m) t is gs (small, k) (w, e, h) = subst (λ (u : Type'). HasWidths u) (sym e) (typed_wide i g m (Exp w) is gs k h)
 typed_wide i g (terms.Bin op m n) t is gs (small, k, l) (w, e, h, j) =
     subst (λ (u : Type'). HasWidths u) (sym e) (result_wide op w (typed_wide i g m (Exp w) is gs k h))
@@ -292,6 +300,7 @@ kind_range (declared_kinds.Not w) p h = h
 kind_range (declared_kinds.Assign w) p h = h
 kind_range (declared_kinds.Deref w) p h = h
 kind_range (declared_kinds.Local w v) p h = h
+kind_range (declared_kinds.Array w n v) p h = h
 kind_range (declared_kinds.Share t) p h = h
 
 kinds_range : (ks : List Kind) → list_all is_plain ks ≡ true → AllByRecursion HasRange (map part_of ks) → All IsInRange ks

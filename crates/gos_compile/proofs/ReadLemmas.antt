@@ -14,6 +14,7 @@ use Rattle.gos_check.specs.Checked.{SeenLinear, IsChecked, program_in}
 use Rattle.gos_check.specs.Linearity.{import_at}
 use Rattle.gos_check.specs.Nodes.{node_seen}
 use Rattle.gos_plan.specs.declared.plan.PlanImport.{PlanImport}
+use Rattle.gos_plan.specs.declared.format.Format.TheVariants.{Two}
 use Rattle.gos_plan.specs.Kinds as kinds
 use Rattle.gos_plan.specs.Kinds.{Part, Contact, contacts_of, part_contacts}
 use Rattle.gos_plan.specs.Plans.{End, PartEnd, ImportEnd, ResultEnd, Joint, Plan, contact_at, contacts_of_part, contacts_of_import, AreRight}
@@ -21,6 +22,7 @@ use Rattle.gos_types.specs.Widths.{IsWidth}
 use Rattle.gos_plan.specs.Seen.{import_of}
 use Rattle.gos_plan.specs.ObjectText.{text_of, IsWritablePart, IsWritableImport, IsWritableEnd, IsWritableJoint, IsWritable, IsSmallType, IsSmallPart, IsSmallPlan}
 use Rattle.gos_plan.specs.ObjectFaults.{IsRead}
+use Rattle.gos_plan.proofs.FormatLemmas.{widths_written}
 use Rattle.gos_realises.specs.realises.Regular.{count}
 use Rattle.gos_realises.specs.realises.Slim.{all_shakes, IsSlim}
 use Rattle.gos_compile.specs.Wiring.{type_of_node, all_parts, IsPlanOf}
@@ -36,7 +38,7 @@ few_bits : (v : ℕ) → (v ≡ 0) ⊎ IsWidth v → v ≤ GREATEST_WIDTH
 few_bits v (inl e) = omega (arith, e)
 few_bits v (inr h) = h.1
 
-part_writable : (k : Part) → HasRange k → IsWritablePart k × IsSmallPart k
+part_writable : (k : Part) → HasRange k → IsWritablePart Two k × IsSmallPart k
 part_writable kinds.Skip h = (tt, tt)
 part_writable (kinds.Lit w k) h = (h, tt)
 part_writable (kinds.Seq v) h = (few_bits v h, tt)
@@ -48,19 +50,20 @@ part_writable (kinds.Not w) h = (h, tt)
 part_writable (kinds.Assign w) h = (h, tt)
 part_writable (kinds.Deref w) h = (h, tt)
 part_writable (kinds.Local w v) h = (h, tt)
-part_writable (kinds.Share t) h = (h.0, h.1)
+part_writable (kinds.Array w n v) h = ((tt, h.0, h.1, h.2), tt)
+part_writable (kinds.Share t) h = (widths_written t h.0, h.1)
 
-parts_writable : (ks : List Part) → AllByRecursion HasRange ks → AllByRecursion IsWritablePart ks × AllByRecursion IsSmallPart ks
+parts_writable : (ks : List Part) → AllByRecursion HasRange ks → AllByRecursion (IsWritablePart Two) ks × AllByRecursion IsSmallPart ks
 parts_writable [] h = (tt, tt)
 parts_writable (k ∷ ks) (one, h) =
     let (writable, small) = part_writable k one in let (rest, others) = parts_writable ks h in ((writable, rest), (small, others))
 
 -- imports with names
 imports_writable : (is : List PlanImport) → HaveNames is → ImportsFine (map import_of is)
-    → AllByRecursion IsWritableImport (map import_of is) × AllByRecursion (λ i. IsSmallType i.ty) (map import_of is)
+    → AllByRecursion (IsWritableImport Two) (map import_of is) × AllByRecursion (λ i. IsSmallType i.ty) (map import_of is)
 imports_writable [] names fine = (tt, tt)
 imports_writable (i ∷ is) (name, names) ((wide, small), fine) =
-    let (rest, others) = imports_writable is names fine in (((name, wide), rest), (small, others))
+    let (rest, others) = imports_writable is names fine in (((name, widths_written (type_of i.ty) wide), rest), (small, others))
 
 -- ends that are there have small numbers
 part_end : (ks : List Part) (i h : ℕ) (c : Contact) → slice_get (contacts_of_part (slice_get ks i)) h ≡ Some c → (i < length ks) × (h < all_shakes ks)
@@ -95,6 +98,7 @@ pub reads_back : NodeHasType → (l : SeenLinear) → IsChecked l → (p : Plan)
     → HaveNames imports → length l.imports ≤ 64 → IsRead (text_of p) p
 reads_back law l c p imports plan slim seen names many = (
   record {
+    format = Two;
     short = text_length p slim writable small;
     is = refl;
     writable = writable;
@@ -138,15 +142,15 @@ reads_back law l c p imports plan slim seen names many = (
         let limit = c.light in
         omega (arith, ends, some, weigh, of_result, shakes, parts, imports, of_imports, limit)
 
-    writable : IsWritable p
+    writable : IsWritable Two p
     writable =
         record {
           weight = (let heavy = some_weight l c in let same = plan.weight in let limit = c.light in (omega (arith, heavy, same), omega (arith, same, limit)));
           imports = (
             omega (arith, few_there),
-            subst (λ (js : Imports). AllByRecursion IsWritableImport js) (sym seen) (imports_writable imports names fine).0,
+            subst (λ (js : Imports). AllByRecursion (IsWritableImport Two) js) (sym seen) (imports_writable imports names fine).0,
           );
-          outcome = result.0;
+          outcome = widths_written p.outcome result.0;
           parts = (let one = limits.0 in (omega (arith, one), (parts_writable p.parts ranges).0));
           joints = (let other = limits.1 in (omega (arith, other), joints_writable p few [] p.joints plan.right));
         }

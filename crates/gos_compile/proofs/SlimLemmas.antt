@@ -9,19 +9,23 @@ use Rattle.std.proofs.lemmas.List.Sums.{sum_by-cons}
 use Rattle.gos_types.specs.Types.{Type', type_of}
 use Rattle.gos_syntax.specs.Modules.{SeenImport}
 use Rattle.gos_model.specs.Typing.{Imported, Imports}
+use Rattle.gos_model.specs.Terms as terms
+use Rattle.gos_model.specs.Terms.{Term}
 use Rattle.gos_model.specs.Weight as weights
 use Rattle.gos_model.specs.Laws.{NodeHasType}
 use Rattle.gos_check.specs.Accepted.{AreWritten}
 use Rattle.gos_check.specs.Checked.{SeenLinear, IsChecked, program_in}
 use Rattle.gos_check.specs.Linearity.{import_at}
-use Rattle.gos_check.specs.Nodes.{Numbered, node_seen}
+use Rattle.gos_check.specs.declared.linear.Split.{Split}
+use Rattle.gos_check.specs.Nodes.{Numbered, Closed, Use, Under, One, Two, If, Binding, OfFun, OfNew, OneForm, OfFst, OfSnd, OfDeref, OfNot, TwoForm, OfApp, OfBoth, OfSeq, OfPar, OfWhile, OfAssign, OfBin, node_seen}
 use Rattle.gos_plan.specs.Kinds as kinds
 use Rattle.gos_plan.specs.Kinds.{Part, part_contacts, contacts_of, other_side}
 use Rattle.gos_plan.specs.Plans.{Plan}
+use Rattle.gos_plan.specs.Size.{numbers_of}
 use Rattle.gos_realises.specs.realises.Regular.{count}
 use Rattle.gos_realises.specs.realises.Slim.{all_shakes, IsSlim}
-use Rattle.gos_realises.proofs.realises.CountLemmas.{some_shake}
-use Rattle.gos_compile.specs.Wiring.{type_of_node, all_parts, IsPlanOf}
+use Rattle.gos_realises.proofs.realises.CountLemmas.{some_shake, numbers-append}
+use Rattle.gos_compile.specs.Wiring.{Types, type_of_node, answer_bits, shares, closed_part, binder_part, one_part, two_part, parts_of, all_types, all_parts, IsPlanOf}
 use Rattle.gos_compile.specs.inner.Loads.{HasFewShakes}
 use Rattle.gos_compile.proofs.BoundLemmas.{same_count}
 use Rattle.gos_compile.proofs.EndLemmas.{imports_shakes, few_joints}
@@ -56,10 +60,61 @@ part_shake (kinds.Not w) = omega arith
 part_shake (kinds.Assign w) = omega arith
 part_shake (kinds.Deref w) = omega arith
 part_shake (kinds.Local w v) = omega arith
+part_shake (kinds.Array w n v) = omega arith
 
 pub parts_shake : (ks : List Part) → length ks ≤ all_shakes ks
 parts_shake [] = omega arith
 parts_shake (k ∷ ks) = let one = part_shake k in let rest = parts_shake ks in omega (arith, one, rest)
+
+-- no form that the syntax has is an array
+one_more : (ks ls : List Part) → numbers_of ks ≡ 0 → numbers_of ls ≡ 0 → numbers_of (ks ++ ls) ≡ 0
+one_more ks ls none more = let both = numbers-append ks ls in omega (arith, both, none, more)
+
+no_shares : (ss : List Split) (types : Types) → numbers_of (shares ss types) ≡ 0
+no_shares [] types = refl
+no_shares (s ∷ ss) types = let rest = no_shares ss types in omega (arith, rest)
+
+no_closed : (c : Term) → numbers_of (closed_part c) ≡ 0
+no_closed (terms.Lit k w) = refl
+no_closed c = refl
+
+no_binder : (b : Binding) (t : Type') → numbers_of (binder_part b t) ≡ 0
+no_binder OfFun t = refl
+no_binder (OfNew w) t = refl
+
+no_one : (f : OneForm) (t : Type') → numbers_of (one_part f t) ≡ 0
+no_one OfFst t = refl
+no_one OfSnd t = refl
+no_one OfDeref t = refl
+no_one OfNot t = refl
+
+no_two : (f : TwoForm) (t u : Type') → numbers_of (two_part f t u) ≡ 0
+no_two OfApp t u = refl
+no_two OfBoth t u = refl
+no_two OfSeq t u = refl
+no_two OfPar t u = refl
+no_two OfWhile t u = refl
+no_two OfAssign t u = refl
+no_two (OfBin op) t u = refl
+
+no_numbers : (types : Types) (m : Numbered) → numbers_of (parts_of types m) ≡ 0
+no_numbers types (Closed t ss c) = one_more (shares ss types) (closed_part c) (no_shares ss types) (no_closed c)
+no_numbers types (Use t ss n) = no_shares ss types
+no_numbers types (Under t ss b n m) =
+    one_more (shares ss types) (binder_part b t ++ parts_of types m) (no_shares ss types)
+    (one_more (binder_part b t) (parts_of types m) (no_binder b t) (no_numbers types m))
+no_numbers types (One t ss f m) =
+    one_more (shares ss types) (one_part f t ++ parts_of types m) (no_shares ss types)
+    (one_more (one_part f t) (parts_of types m) (no_one f t) (no_numbers types m))
+no_numbers types (Two t ss f m n) =
+    one_more (shares ss types) (two_part f t (type_of_node n) ++ (parts_of types m ++ parts_of types n)) (no_shares ss types)
+    (one_more (two_part f t (type_of_node n)) (parts_of types m ++ parts_of types n) (no_two f t (type_of_node n))
+    (one_more (parts_of types m) (parts_of types n) (no_numbers types m) (no_numbers types n)))
+no_numbers types (If t ss m n p) =
+    let rest = one_more (parts_of types m) (parts_of types n ++ parts_of types p) (no_numbers types m)
+    (one_more (parts_of types n) (parts_of types p) (no_numbers types n) (no_numbers types p)) in
+    one_more (shares ss types) (kinds.If (answer_bits t) ∷ (parts_of types m ++ (parts_of types n ++ parts_of types p))) (no_shares ss types)
+    (omega (arith, rest))
 
 -- the plan of a checked module
 pub is_slim : NodeHasType → (l : SeenLinear) → IsChecked l → (p : Plan)
@@ -75,13 +130,14 @@ is_slim law l c p plan =
     in
     let shakes : all_shakes p.parts ≡ all_shakes (all_parts is m) = ap (λ (ks : List Part). all_shakes ks) plan.parts in
     let parts : length p.parts ≡ length (all_parts is m) = ap (λ (ks : List Part). length ks) plan.parts in
+    let numbers : numbers_of p.parts ≡ 0 = ap (λ (ks : List Part). numbers_of ks) plan.parts ∙ no_numbers (all_types is m) m in
     let imports : length p.imports ≡ length is = ap (λ (xs : Imports). length xs) plan.imports in
     let of_imports : imports_shakes p.imports ≡ imports_shakes is = ap (λ (xs : Imports). imports_shakes xs) plan.imports in
     let weight : p.weight ≡ l.weight = plan.weight in
     record {
-      joints = omega (arith, ends, weigh, joined, result, shakes, of_imports, weight);
-      ends = omega (arith, ends, shakes, parts, weight);
-      imports = omega (arith, ends, few, weigh, imports, weight);
+      joints = omega (arith, ends, weigh, joined, result, shakes, of_imports, numbers, weight);
+      ends = omega (arith, ends, shakes, parts, numbers, weight);
+      imports = omega (arith, ends, few, weigh, imports, numbers, weight);
     }
 
 -- few parts and joints

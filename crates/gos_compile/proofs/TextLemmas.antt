@@ -3,18 +3,19 @@
 use Rattle.std.specs.Prelude.{◌≡◌, ℕ, zero, suc, ◌+◌, ◌*◌, ◌^◌, ◌<◌, ◌≤◌, List, [], ◌∷◌, ◌++◌, length, codes}
 use Rattle.std.specs.Fmt.{decimal}
 use Rattle.std.specs.List.{AllByRecursion, flat_map}
-use Rattle.std.proofs.Common.{arith, length-append}
+use Rattle.std.proofs.Common.{inl, inr, arith, length-append}
 use Rattle.std.proofs.lemmas.Fmt.{length-decimal-le}
 use Rattle.std.proofs.Math.Pow.{pow_mono}
 use Rattle.gos_types.specs.declared.widths.TheConstants.{GREATEST_WIDTH}
 use Rattle.gos_types.specs.Types.{Type', Com, Exp, Var, Pair, Fun}
-use Rattle.gos_model.specs.Typing.{Imported}
+use Rattle.gos_model.specs.Typing.{Imported, IsLength}
 use Rattle.gos_plan.specs.Kinds as kinds
 use Rattle.gos_model.specs.Terms as terms
 use Rattle.gos_model.specs.Terms.{Op as Operation}
 use Rattle.gos_plan.specs.Kinds.{Part, part_contacts}
 use Rattle.gos_plan.specs.Plans.{End, PartEnd, ImportEnd, ResultEnd, Joint, Plan}
-use Rattle.gos_types.specs.Widths.{HasWidths}
+use Rattle.gos_plan.specs.declared.format.Format.TheVariants.{Two}
+use Rattle.gos_plan.specs.Formats.{HasWidthsIn, head_text}
 use Rattle.gos_plan.specs.ObjectText.{number_text, type_text, bits_text, body_text, word_text, word_of, operands_text, part_text, import_text, end_text, joint_text, section_text, imports_text, parts_text, joints_text, text_of, IsNumber, IsWritablePart, IsWritableImport, IsWritableEnd, IsWritableJoint, IsWritable, IsSmallType, IsSmallPlan}
 use Rattle.gos_realises.specs.realises.Regular.{count}
 use Rattle.gos_realises.specs.realises.Slim.{all_shakes, IsSlim}
@@ -34,7 +35,7 @@ bits_length : (e w : ℕ) → w ≤ GREATEST_WIDTH → length (number_text e w) 
 bits_length e w is = number_length e 2 w (omega arith) (omega (arith, is)) (omega (arith, is))
 
 -- types
-type_length : (e : ℕ) (t : Type') → HasWidths t → length (type_text e t) + 5 ≤ 12 * count t
+type_length : (e : ℕ) (t : Type') → HasWidthsIn Two t → length (type_text e t) + 5 ≤ 12 * count t
 type_length e Com is = omega arith
 type_length e (Exp w) is =
     let all = length-append (codes "exp ") (number_text e w) in let digits = bits_length e w is.1 in omega (arith, all, digits)
@@ -88,9 +89,16 @@ word_length (kinds.Not w) = omega arith
 word_length (kinds.Assign w) = omega arith
 word_length (kinds.Deref w) = omega arith
 word_length (kinds.Local w v) = omega arith
+word_length (kinds.Array w n v) = omega arith
 word_length (kinds.Share t) = omega arith
 
-operands_length : (k : Part) → IsWritablePart k → length (operands_text k) ≤ 14 + 4 * length (part_contacts k)
+length_few : (n : ℕ) → IsLength n → n ≤ 16
+length_few n (inl is) = omega (arith, is)
+length_few n (inr (inl is)) = omega (arith, is)
+length_few n (inr (inr (inl is))) = omega (arith, is)
+length_few n (inr (inr (inr is))) = omega (arith, is)
+
+operands_length : (k : Part) → IsWritablePart Two k → length (operands_text k) ≤ 14 + 4 * length (part_contacts k)
 operands_length kinds.Skip is = omega arith
 operands_length (kinds.Lit w k) is =
     let all = length-append (number_text 32 w) (number_text 10 k) in
@@ -112,16 +120,24 @@ operands_length (kinds.Local w v) is =
     let one = bits_length 32 w is.0.1 in
     let other = body_length v is.1 in
     omega (arith, all, one, other)
+operands_length (kinds.Array w n v) is =
+    let all = length-append (number_text 32 w) (number_text 32 n ++ body_text v) in
+    let more = length-append (number_text 32 n) (body_text v) in
+    let one = bits_length 32 w is.1.1 in
+    let few = length_few n is.2 in
+    let two = number_length 32 2 n (omega arith) (omega (arith, few)) (omega (arith, few)) in
+    let other = body_length v is.3 in
+    omega (arith, all, more, one, two, other)
 operands_length (kinds.Share t) is = let text = type_length 10 t is in let shakes = share_shakes t in omega (arith, text, shakes)
 
-part_length : (k : Part) → IsWritablePart k → length (part_text k) ≤ 21 + 4 * length (part_contacts k)
+part_length : (k : Part) → IsWritablePart Two k → length (part_text k) ≤ 21 + 4 * length (part_contacts k)
 part_length k is =
     let all = length-append (word_text (word_of k)) (operands_text k) in
     let word = word_length k in
     let operands = operands_length k is in
     omega (arith, all, word, operands)
 
-parts_length : (ks : List Part) → AllByRecursion IsWritablePart ks → length (flat_map part_text ks) ≤ 21 * length ks + 4 * all_shakes ks
+parts_length : (ks : List Part) → AllByRecursion (IsWritablePart Two) ks → length (flat_map part_text ks) ≤ 21 * length ks + 4 * all_shakes ks
 parts_length [] is = omega arith
 parts_length (k ∷ ks) is =
     let all = length-append (part_text k) (flat_map part_text ks) in
@@ -130,7 +146,7 @@ parts_length (k ∷ ks) is =
     omega (arith, all, one, rest)
 
 -- imports, where types are small
-import_length : (i : Imported) → IsWritableImport i → IsSmallType i.ty → length (import_text i) ≤ 1031
+import_length : (i : Imported) → IsWritableImport Two i → IsSmallType i.ty → length (import_text i) ≤ 1031
 import_length i is small =
     let all = length-append (codes "import ") ((i.name ++ 32 ∷ []) ++ type_text 10 i.ty) in
     let two = length-append (i.name ++ 32 ∷ []) (type_text 10 i.ty) in
@@ -140,7 +156,7 @@ import_length i is small =
     let same = same_count i.ty in
     omega (arith, all, two, name, short, type, same, small)
 
-imports_length : (is : List Imported) → AllByRecursion IsWritableImport is → AllByRecursion (λ i. IsSmallType i.ty) is
+imports_length : (is : List Imported) → AllByRecursion (IsWritableImport Two) is → AllByRecursion (λ i. IsSmallType i.ty) is
     → length (flat_map import_text is) ≤ 1031 * length is
 imports_length [] w s = omega arith
 imports_length (i ∷ is) w s =
@@ -196,7 +212,7 @@ sections_length p =
     let joints : List ℕ = joints_text p.joints in
     let last : List ℕ = codes "end\n" in
     let result_line : List ℕ = codes "result " ++ (result ++ (parts ++ (joints ++ last))) in
-    let first = length-append (codes "gosobj 1\nweight ") (weight ++ (imports ++ result_line)) in
+    let first = length-append (head_text Two) (weight ++ (imports ++ result_line)) in
     let second = length-append weight (imports ++ result_line) in
     let third = length-append imports result_line in
     let fourth = length-append (codes "result ") (result ++ (parts ++ (joints ++ last))) in
@@ -205,7 +221,7 @@ sections_length p =
     let seventh = length-append joints last in
     omega (arith, first, second, third, fourth, fifth, sixth, seventh)
 
-pub text_length : (p : Plan) → IsSlim p → IsWritable p → IsSmallPlan p → length (text_of p) ≤ 4194304
+pub text_length : (p : Plan) → IsSlim p → IsWritable Two p → IsSmallPlan p → length (text_of p) ≤ 4194304
 text_length p slim is small =
     let heavy = is.weight.1 in
     let all = sections_length p in

@@ -24,29 +24,29 @@ fn small_sources_have_these_plans(rt: HostRuntime) -> Result<(), Fail> {
     let rows: [(&[u8], &[u8]); 6] = [
         (
             b"export skip : com",
-            b"gosobj 1\nweight 5\nimports 0\nresult com\nparts 1\nskip\njoints 1\nr.0 p0.0\nend\n",
+            b"gosobj 2\nweight 5\nimports 0\nresult com\nparts 1\nskip\njoints 1\nr.0 p0.0\nend\n",
         ),
         (
             b"export skip ; skip : com",
-            b"gosobj 1\nweight 15\nimports 0\nresult com\nparts 3\nseq\nskip\nskip\njoints 3\nr.0 p0.2\np0.0 p1.0\np0.1 p2.0\nend\n",
+            b"gosobj 2\nweight 15\nimports 0\nresult com\nparts 3\nseq\nskip\nskip\njoints 3\nr.0 p0.2\np0.0 p1.0\np0.1 p2.0\nend\n",
         ),
         (
             b"export fun a : com . a : com -> com",
-            b"gosobj 1\nweight 11\nimports 0\nresult fun com com\nparts 0\njoints 1\nr.1 r.0\nend\n",
+            b"gosobj 2\nweight 11\nimports 0\nresult fun com com\nparts 0\njoints 1\nr.1 r.0\nend\n",
         ),
         (
             b"import c : com import d : com export c ; d : com",
-            b"gosobj 1\nweight 17\nimports 2\nimport c com\nimport d com\nresult com\nparts 1\nseq\njoints 3\nr.0 p0.2\np0.0 i0.0\np0.1 i1.0\nend\n",
+            b"gosobj 2\nweight 17\nimports 2\nimport c com\nimport d com\nresult com\nparts 1\nseq\njoints 3\nr.0 p0.2\np0.0 i0.0\np0.1 i1.0\nend\n",
         ),
         // A name that is used twice has a Share, whose callers are the two uses.
         (
             b"import c : com export c ; c : com",
-            b"gosobj 1\nweight 16\nimports 1\nimport c com\nresult com\nparts 2\nshare com\nseq\njoints 4\np0.0 i0.0\nr.0 p1.2\np1.0 p0.1\np1.1 p0.2\nend\n",
+            b"gosobj 2\nweight 16\nimports 1\nimport c com\nresult com\nparts 2\nshare com\nseq\njoints 4\np0.0 i0.0\nr.0 p1.2\np1.0 p0.1\np1.1 p0.2\nend\n",
         ),
         // The argument is run where the function's body asks for it.
         (
             b"export (fun x : com . x) skip : com",
-            b"gosobj 1\nweight 21\nimports 0\nresult com\nparts 1\nskip\njoints 1\nr.0 p0.0\nend\n",
+            b"gosobj 2\nweight 21\nimports 0\nresult com\nparts 1\nskip\njoints 1\nr.0 p0.0\nend\n",
         ),
     ];
     for (text, object) in rows.iter() {

@@ -29,10 +29,10 @@ accesses_run = (
           (0, (Deref (waiting 1 (Import b) (Import b))), refl, (inl (inr (a, refl, (1, 8, Import b, Import b, refl, refl, inl (refl, refl, refl)))), refl)),
           (
             Running (Deref (waiting 0 (Import b) (Wait b 1))) [],
-            (0, (Deref (waiting 0 (Import b) (Import b))), refl, (inr (waiting 0 (Import b) (Wait b 1), refl, ((a, refl), Wait b 1, refl, inl (inl (inr (1, refl, refl, refl))))), refl)),
+            (0, (Deref (waiting 0 (Import b) (Import b))), refl, (inr (waiting 0 (Import b) (Wait b 1), refl, inl ((a, refl), Wait b 1, refl, inl (inl (inr (1, refl, refl, refl))))), refl)),
             (
               Running (Deref (waiting 0 (Import b) (Lit 1 1))) [],
-              (0, (Deref (waiting 0 (Import b) (Wait b 1))), refl, (inr (waiting 0 (Import b) (Lit 1 1), refl, ((a, refl), Lit 1 1, refl, inl (inr (refl, refl, (omega arith, refl))))), refl)),
+              (0, (Deref (waiting 0 (Import b) (Wait b 1))), refl, (inr (waiting 0 (Import b) (Lit 1 1), refl, inl ((a, refl), Lit 1 1, refl, inl (inr (refl, refl, (omega arith, refl))))), refl)),
               (
                 Running (Deref (waiting 1 (Import b) (Lit 1 1))) [],
                 (0, (Deref (waiting 0 (Import b) (Lit 1 1))), refl, (inl (inl (inr (a, refl, (1, 8, Import b, refl, inr (Lit 1 1, refl, refl, refl, refl))))), refl)),
@@ -41,10 +41,10 @@ accesses_run = (
                   (0, (Deref (waiting 1 (Import b) (Lit 1 1))), refl, (inl (inr (a, refl, (1, 8, Import b, Lit 1 1, refl, refl, inl (refl, refl, refl)))), refl)),
                   (
                     Running (Deref (waiting 0 (Import b) (Wait b 1))) [],
-                    (0, (Deref (waiting 0 (Import b) (Import b))), refl, (inr (waiting 0 (Import b) (Wait b 1), refl, ((a, refl), Wait b 1, refl, inl (inl (inr (1, refl, refl, refl))))), refl)),
+                    (0, (Deref (waiting 0 (Import b) (Import b))), refl, (inr (waiting 0 (Import b) (Wait b 1), refl, inl ((a, refl), Wait b 1, refl, inl (inl (inr (1, refl, refl, refl))))), refl)),
                     (
                       Running (Deref (waiting 0 (Import b) (Lit 0 1))) [],
-                      (0, (Deref (waiting 0 (Import b) (Wait b 1))), refl, (inr (waiting 0 (Import b) (Lit 0 1), refl, ((a, refl), Lit 0 1, refl, inl (inr (refl, refl, (omega arith, refl))))), refl)),
+                      (0, (Deref (waiting 0 (Import b) (Wait b 1))), refl, (inr (waiting 0 (Import b) (Lit 0 1), refl, inl ((a, refl), Lit 0 1, refl, inl (inr (refl, refl, (omega arith, refl))))), refl)),
                       (
                         Running (Deref (waiting 1 (Import b) (Lit 0 1))) [],
                         (0, (Deref (waiting 0 (Import b) (Lit 0 1))), refl, (inl (inl (inr (a, refl, (1, 8, Import b, refl, inr (Lit 0 1, refl, refl, refl, refl))))), refl)),
@@ -123,7 +123,7 @@ index_waits = (
     λ o e out move. shows_none o e out (from move.0 move.1 (Showing o) e move.2 move.3),
   ),
   λ stalled. stalled.1 (taken b 0 0) (Running (Deref (waiting 0 (Import b) (Wait b 1))) []) refl
-      (0, Deref (waiting 0 (Import b) (Import b)), refl, (inr (waiting 0 (Import b) (Wait b 1), refl, ((a, refl), Wait b 1, refl, inl (inl (inr (1, refl, refl, refl))))), refl)),
+      (0, Deref (waiting 0 (Import b) (Import b)), refl, (inr (waiting 0 (Import b) (Wait b 1), refl, inl ((a, refl), Wait b 1, refl, inl (inl (inr (1, refl, refl, refl))))), refl)),
 )
   where
     from : (n : ℕ) (u : Term) (v : Act) (e : Config) → Unfoldings n asked u → ActsTo an_array v [] u e → ActsTo an_array v [] asked e

@@ -1,8 +1,8 @@
 -- What unfolds to a value is a head: it unfolds in one way, and does nothing else.
-use Rattle.std.specs.Prelude.{◌≡◌, ◌⊎◌}
+use Rattle.std.specs.Prelude.{◌≡◌, ◌⊎◌, ℕ}
 use Rattle.std.proofs.Common.{arith, sym, ap, subst, inl, inr, ◌∙◌}
 use Rattle.gos_types.specs.Types.{Type'}
-use Rattle.gos_model.specs.Terms.{Name, Term, Lam, App, Both, Fst, Snd, Wait}
+use Rattle.gos_model.specs.Terms.{Name, Term, Arr, Lam, App, Both, Fst, Snd, Wait}
 use Rattle.gos_model.specs.Stores.{Store}
 use Rattle.gos_model.specs.Typing.{Imports}
 use Rattle.gos_model.specs.Substitution.{instantiate}
@@ -55,9 +55,20 @@ not_in_wait m x t is h = none (subst (λ (y : Term). Lower y t) is h)
     none (inl g) = g
     none (inr g) = g
 
+-- nor in that of an array of the program's own
+not_in_arr : (m : Term) (l : ℕ) (t : Term) → m ≡ Arr l → Lower m t → ⊥
+not_in_arr m l t is h = none (subst (λ (y : Term). Lower y t) is h)
+  where
+    none : Lower (Arr l) t → ⊥
+    none (inl g) = g
+    none (inr g) = g
+
 pub lower_no_index : (R : Rel) (m t u : Term) → Lower m t → InIndex R m u → ⊥
-lower_no_index R (App h (Both k n)) t u (inl (a, b, em, et)) ((x, e), n', f, rest) = let bad : Lam a b ≡ Wait x 0 = sym em ∙ e in cc bad
-lower_no_index R (App h (Both k n)) t u (inr (m', f, lower)) ((x, e), n', g, rest) = not_in_wait h x m' e lower
+lower_no_index R (App h n) t u (inl (a, b, em, et)) (inr ((l, e), n', f, rest)) = let bad : Lam a b ≡ Arr l = sym em ∙ e in cc bad
+lower_no_index R (App h n) t u (inr (m', f, lower)) (inr ((l, e), n', g, rest)) = not_in_arr h l m' e lower
+lower_no_index R (App h (Both k n)) t u (inl (a, b, em, et)) (inl ((x, e), n', f, rest)) = let bad : Lam a b ≡ Wait x 0 = sym em ∙ e in cc bad
+lower_no_index R (App h (Both k n)) t u (inr (m', f, lower)) (inl ((x, e), n', g, rest)) = not_in_wait h x m' e lower
+lower_no_index R (App h n) t u lower (inl other) = absurd other
 lower_no_index R m t u lower h = absurd h
 
 -- a term that unfolds in one way, and does nothing else

@@ -11,3 +11,4 @@ pub mod MoveLemmas
 pub mod ArrayPortLemmas
 pub mod AccessMapLemmas
 mod AccessLemmas
+pub mod ArrayLemmas

@@ -34,8 +34,11 @@ mutual
   path_of R m t h = absurd h
 
   index_path : (R : Rel) (m t : Term) → InIndex R m t → (path : List ℕ) × IndexAt path R m t
-  index_path R (App g (Both k n)) t (head, n', e, inl h) = (1 ∷ 1 ∷ [], (head, n', e, h))
-  index_path R (App g (Both k n)) t (head, n', e, inr h) = let p = path_of R n n' h in (1 ∷ 1 ∷ p.0, (head, n', e, p.1))
+  index_path R (App g n) t (inr (place, n', e, inl h)) = (1 ∷ [], inr (place, n', e, h))
+  index_path R (App g n) t (inr (place, n', e, inr h)) = let p = path_of R n n' h in (1 ∷ p.0, inr (place, n', e, p.1))
+  index_path R (App g (Both k n)) t (inl (head, n', e, inl h)) = (1 ∷ 1 ∷ [], inl (head, n', e, h))
+  index_path R (App g (Both k n)) t (inl (head, n', e, inr h)) = let p = path_of R n n' h in (1 ∷ 1 ∷ p.0, inl (head, n', e, p.1))
+  index_path R (App g n) t (inl h) = absurd h
   index_path R m t h = absurd h
 
 reached_path : (R : Rel) (m t : Term) → Reached R m t → (path : List ℕ) × ReachedAt path R m t
@@ -60,7 +63,9 @@ mutual
   path_reached R (i ∷ path) m t h = absurd h
 
   path_in_index : (R : Rel) (path : List ℕ) (m t : Term) → IndexAt path R m t → InIndex R m t
-  path_in_index R (suc zero ∷ suc zero ∷ path) (App g (Both k n)) t (head, n', e, h) = (head, n', e, path_reached R path n n' h)
+  path_in_index R (suc zero ∷ path) (App g n) t (inr (place, n', e, h)) = inr (place, n', e, path_reached R path n n' h)
+  path_in_index R (suc zero ∷ suc zero ∷ path) (App g (Both k n)) t (inl (head, n', e, h)) = inl (head, n', e, path_reached R path n n' h)
+  path_in_index R (suc zero ∷ path) (App g n) t (inl h) = absurd h
   path_in_index R path m t h = absurd h
 
 same_places : (R : Rel) (m t : Term) → Reached R m t ↔ AtSomePath R m t

@@ -29,8 +29,11 @@ mutual
   below_map R S f m t h = absurd h
 
   in_index_map : (R S : Rel) → ((a b : Term) → R a b → S a b) → (m t : Term) → InIndex R m t → InIndex S m t
-  in_index_map R S f (App g (Both k n)) t (head, n', e, inl h) = (head, n', e, inl (f n n' h))
-  in_index_map R S f (App g (Both k n)) t (head, n', e, inr h) = (head, n', e, inr (below_map R S f n n' h))
+  in_index_map R S f (App g n) t (inr (place, n', e, inl h)) = inr (place, n', e, inl (f n n' h))
+  in_index_map R S f (App g n) t (inr (place, n', e, inr h)) = inr (place, n', e, inr (below_map R S f n n' h))
+  in_index_map R S f (App g (Both k n)) t (inl (head, n', e, inl h)) = inl (head, n', e, inl (f n n' h))
+  in_index_map R S f (App g (Both k n)) t (inl (head, n', e, inr h)) = inl (head, n', e, inr (below_map R S f n n' h))
+  in_index_map R S f (App g n) t (inl h) = absurd h
   in_index_map R S f m t h = absurd h
 
 pub reached_map : (R S : Rel) → ((a b : Term) → R a b → S a b) → (m t : Term) → Reached R m t → Reached S m t

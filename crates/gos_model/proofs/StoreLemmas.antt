@@ -1,10 +1,11 @@
 -- What a store has at a location, and what a write leaves there.
 use Rattle.std.specs.Prelude.{◌≡◌, ◌≢◌, ℕ, zero, suc, List, [], ◌∷◌, set, slice_get, Option, Some, None, nat_eq, if◌then◌else◌}
-use Rattle.std.proofs.Common.{arith, refl, sym, ap, subst, ◌∙◌}
+use Rattle.std.proofs.Common.{arith, refl, sym, ap, subst, inl, inr, ◌∙◌}
 use Rattle.std.proofs.lemmas.Bool.{eq-eqb, ne_eqb}
 use Rattle.std.proofs.lemmas.List.{length-set}
 use Rattle.std.proofs.lemmas.Option.{same_Some}
-use Rattle.gos_model.specs.Terms.{Lit, Loc}
+use Rattle.gos_model.specs.Terms.{Term, App, Lit, Loc, Arr}
+use Rattle.gos_model.specs.Steps.{Locates}
 use Rattle.gos_model.specs.Stores.{Entry, variable_at, Store, entry_at, number_in, number_at, store_put}
 use Rattle.gos_model.specs.SmallStores.{ReadsWhatIsWritten, OtherIndexStays, OutsideChangesNothing, OtherLocationStays, LengthsStay, ThreeNumbers, VariableHasOne, FirstCounts}
 use Rattle.gos_model.specs.Laws.{WritesStore, ReadsBehindWrite, AbsentIsNotWritten, AbsentIsNotRead}
@@ -110,42 +111,65 @@ pub first_counts : FirstCounts
 first_counts = (refl, refl, refl, refl, refl)
 
 -- a number that an entry of a store has is the store's
-number_of : (s : Store) (l j : ℕ) (e : Entry) → entry_at s l ≡ Some e → slice_get e.numbers 0 ≡ Some j → number_at s l 0 ≡ Some j
-number_of s l j e has is = ap (λ (o : Option Entry). number_in o 0) has ∙ is
+number_of : (s : Store) (l i j : ℕ) (e : Entry) → entry_at s l ≡ Some e → slice_get e.numbers i ≡ Some j → number_at s l i ≡ Some j
+number_of s l i j e has is = ap (λ (o : Option Entry). number_in o i) has ∙ is
 
--- the number at a location that was written
-written : (s s' : Store) (l k j : ℕ) → number_at s l 0 ≡ Some j → s' ≡ store_put s l 0 k → number_at s' l 0 ≡ Some k
-written s s' l k j old now = ap (λ u. number_at u l 0) now ∙ reads_what_is_written s l 0 k j old
+-- the number that was written at an index of a location
+written : (s s' : Store) (l i k j : ℕ) → number_at s l i ≡ Some j → s' ≡ store_put s l i k → number_at s' l i ≡ Some k
+written s s' l i k j old now = ap (λ u. number_at u l i) now ∙ reads_what_is_written s l i k j old
 
 pub writes_store : WritesStore
-writes_store s s' m t k (e, j, place, has, old, left, now) = (
+writes_store s s' m t k (e, i, j, place, has, old, left, now) = (
   e,
+  i,
+  place,
   has,
-  ap (λ u. entry_at u e.place) now ∙ (put_same s e.place 0 k ∙ ap (numbered 0 k) has),
-  written s s' e.place k j (number_of s e.place j e has old) now,
+  ap (λ u. entry_at u e.place) now ∙ (put_same s e.place i k ∙ ap (numbered i k) has),
+  written s s' e.place i k j (number_of s e.place i j e has old) now,
 )
 
-pub reads_behind_write : ReadsBehindWrite
-reads_behind_write s s' s'' l k t v (e, i, place, has, old, left, now) (d, j, there, here, is, to, same) =
-    let one : e.place ≡ d.place = one_place e.place d.place (sym place ∙ there) in
-    let first : number_at s' e.place 0 ≡ Some k = written s s' e.place k i (number_of s e.place i e has old) now in
-    let second : number_at s' d.place 0 ≡ Some j = number_of s' d.place j d here is in
-    let number : k ≡ j = same_Some k j (sym first ∙ (ap (λ (x : ℕ). number_at s' x 0) one ∙ second)) in
-    (d.width, to ∙ ap (λ (x : ℕ). Lit x d.width) (sym number))
+-- a term stands for one index of one location
+pub one_number : (m : Term) (l i d j : ℕ) → Locates m l i → Locates m d j → (l ≡ d) × (i ≡ j)
+one_number m l i d j (inl (e, z)) (inl (f, y)) = (places (sym e ∙ f), z ∙ sym y)
   where
-    one_place : (a b : ℕ) → Loc a ≡ Loc b → a ≡ b
-    one_place a b h = cc h
+    places : Loc l ≡ Loc d → l ≡ d
+    places h = cc h
+one_number m l i d j (inl (e, z)) (inr (w, f)) = absurd (apart (sym e ∙ f))
+  where
+    apart : Loc l ≡ App (Arr d) (Lit j w) → ⊥
+    apart h = cc h
+one_number m l i d j (inr (v, e)) (inl (f, y)) = absurd (apart (sym e ∙ f))
+  where
+    apart : App (Arr l) (Lit i v) ≡ Loc d → ⊥
+    apart h = cc h
+one_number m l i d j (inr (v, e)) (inr (w, f)) = (places (sym e ∙ f), indexes (sym e ∙ f))
+  where
+    places : App (Arr l) (Lit i v) ≡ App (Arr d) (Lit j w) → l ≡ d
+    places h = cc h
 
--- an entry at a location without a number has none
-no_number : (s : Store) (l j : ℕ) (e : Entry) → number_at s l 0 ≡ None → Loc l ≡ Loc e.place → entry_at s e.place ≡ Some e
-    → slice_get e.numbers 0 ≡ Some j → ⊥
-no_number s l j e none place has is =
-    let same : l ≡ e.place = cc place in
-    let bad : Some j ≡ None = sym (number_of s l j e (ap (entry_at s) same ∙ has) is) ∙ none in
+    indexes : App (Arr l) (Lit i v) ≡ App (Arr d) (Lit j w) → i ≡ j
+    indexes h = cc h
+
+pub reads_behind_write : ReadsBehindWrite
+reads_behind_write s s' s'' m t v k (e, i, n, place, has, old, left, now) (d, h, j, there, here, is, to, same) =
+    let (one, at) = one_number m e.place i d.place h place there in
+    let first : number_at s' e.place i ≡ Some k = written s s' e.place i k n (number_of s e.place i n e has old) now in
+    let second : number_at s' d.place h ≡ Some j = number_of s' d.place h j d here is in
+    let meet : number_at s' e.place i ≡ number_at s' d.place h = ap (λ (x : ℕ). number_at s' x i) one ∙ ap (number_at s' d.place) at in
+    let number : k ≡ j = same_Some k j (sym first ∙ (meet ∙ second)) in
+    (d.width, to ∙ ap (λ (x : ℕ). Lit x d.width) (sym number))
+
+-- what stands for a number that the store doesn't have has no entry with one
+no_number : (s : Store) (m : Term) (l i h j : ℕ) (e : Entry) → Locates m l i → number_at s l i ≡ None → Locates m e.place h
+    → entry_at s e.place ≡ Some e → slice_get e.numbers h ≡ Some j → ⊥
+no_number s m l i h j e stands none place has is =
+    let (one, at) = one_number m e.place h l i place stands in
+    let meet : number_at s e.place h ≡ number_at s l i = ap (λ (x : ℕ). number_at s x h) one ∙ ap (number_at s l) at in
+    let bad : Some j ≡ None = sym (number_of s e.place h j e has is) ∙ (meet ∙ none) in
     cc bad
 
 pub absent_is_not_written : AbsentIsNotWritten
-absent_is_not_written s s' l k t none (e, j, place, has, is, left, now) = no_number s l j e none place has is
+absent_is_not_written s s' m t l i k stands none (e, h, j, place, has, is, left, now) = no_number s m l i h j e stands none place has is
 
 pub absent_is_not_read : AbsentIsNotRead
-absent_is_not_read s s' l t none (e, j, place, has, is, left, now) = no_number s l j e none place has is
+absent_is_not_read s s' m t l i stands none (e, h, j, place, has, is, left, now) = no_number s m l i h j e stands none place has is

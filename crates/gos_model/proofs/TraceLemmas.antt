@@ -124,7 +124,7 @@ loop_runs = (
         (0, (Scope 0 loop), refl, inr ((choice test), refl, inl (refl, refl))),
         (
           Running (chosen (Bin Eq (Lit 0 1) (Lit 0 1))) first,
-          (0, (chosen test), refl, inr ((choice (Bin Eq (Lit 0 1) (Lit 0 1))), refl, inr ((Bin Eq (Lit 0 1) (Lit 0 1)), refl, inr ((Lit 0 1), refl, inl (variable_at 0 1 0, 0, refl, refl, refl, refl, refl))))),
+          (0, (chosen test), refl, inr ((choice (Bin Eq (Lit 0 1) (Lit 0 1))), refl, inr ((Bin Eq (Lit 0 1) (Lit 0 1)), refl, inr ((Lit 0 1), refl, inl (variable_at 0 1 0, 0, 0, inl (refl, refl), refl, refl, refl, refl))))),
           (
             Running (chosen (Held 0 Eq (Lit 0 1))) first,
             (0, (chosen (Bin Eq (Lit 0 1) (Lit 0 1))), refl, inr ((choice (Held 0 Eq (Lit 0 1))), refl, inr ((Held 0 Eq (Lit 0 1)), refl, inl (0, 1, refl, refl, refl)))),
@@ -139,7 +139,7 @@ loop_runs = (
                   (0, (Scope 0 body_then_loop), refl, inr ((then_loop (Seq (Put (Loc 0) 1) (Import c))), refl, inr ((Seq (Put (Loc 0) 1) (Import c)), refl, inr ((Put (Loc 0) 1), refl, inl (1, 1, refl, refl, refl))))),
                   (
                     Running (running (Seq Skip (Import c))) again,
-                    (0, (running (Seq (Put (Loc 0) 1) (Import c))), refl, inr ((then_loop (Seq Skip (Import c))), refl, inr ((Seq Skip (Import c)), refl, inr (Skip, refl, inl (variable_at 0 1 0, 0, refl, refl, refl, refl, refl))))),
+                    (0, (running (Seq (Put (Loc 0) 1) (Import c))), refl, inr ((then_loop (Seq Skip (Import c))), refl, inr ((Seq Skip (Import c)), refl, inr (Skip, refl, inl (variable_at 0 1 0, 0, 0, inl (refl, refl), refl, refl, refl, refl))))),
                     (
                       Running (running (Import c)) again,
                       (0, (running (Seq Skip (Import c))), refl, inr ((then_loop (Import c)), refl, inr ((Import c), refl, inl (refl, refl, refl)))),
@@ -157,7 +157,7 @@ loop_runs = (
                               (0, (Scope 0 loop), refl, inr ((choice test), refl, inl (refl, refl))),
                               (
                                 Running (chosen (Bin Eq (Lit 1 1) (Lit 0 1))) again,
-                                (0, (chosen test), refl, inr ((choice (Bin Eq (Lit 1 1) (Lit 0 1))), refl, inr ((Bin Eq (Lit 1 1) (Lit 0 1)), refl, inr ((Lit 1 1), refl, inl (variable_at 0 1 1, 1, refl, refl, refl, refl, refl))))),
+                                (0, (chosen test), refl, inr ((choice (Bin Eq (Lit 1 1) (Lit 0 1))), refl, inr ((Bin Eq (Lit 1 1) (Lit 0 1)), refl, inr ((Lit 1 1), refl, inl (variable_at 0 1 1, 0, 1, inl (refl, refl), refl, refl, refl, refl))))),
                                 (
                                   Running (chosen (Held 1 Eq (Lit 0 1))) again,
                                   (0, (chosen (Bin Eq (Lit 1 1) (Lit 0 1))), refl, inr ((choice (Held 1 Eq (Lit 0 1))), refl, inr ((Held 1 Eq (Lit 0 1)), refl, inl (1, 1, refl, refl, refl)))),

@@ -2,7 +2,8 @@
 use Rattle.std.specs.Prelude.{◌∷◌}
 use Rattle.std.proofs.Common.{sym, ap, ◌∙◌}
 use Rattle.gos_types.specs.Types.{Exp, Var, Pair, Fun}
-use Rattle.gos_model.specs.Terms.{Skip, Lit, Bound, Import, Lam, App, Both, Fst, Snd, Seq, Par, If, While, Assign, Deref, New, Not, Bin}
+use Rattle.gos_model.specs.Terms.{Skip, Lit, Bound, Import, Lam, App, Both, Fst, Snd, Seq, Par, If, While, Assign, Deref, New, NewArray, Not, Bin}
+use Rattle.gos_model.specs.Typing.{array_type}
 use Rattle.gos_model.specs.Weight.{node_type, or_com, after_fun, left_of, right_of, read_of, op_type}
 use Rattle.gos_model.specs.Laws.{NodeHasType, OneType}
 
@@ -23,6 +24,7 @@ node_has_type i g (While m n) t h = sym h.0
 node_has_type i g (Assign m n) t h = sym h.1
 node_has_type i g (Deref m) t (w, e, h) = ap read_of (node_has_type i g m (Var w) h) ∙ sym e
 node_has_type i g (New w m) t (d, k, h) = node_has_type i (Var w ∷ g) m t h
+node_has_type i g (NewArray n w m) t (d, l, k, h) = node_has_type i (array_type n w ∷ g) m t h
 node_has_type i g (Not m) t (w, e, h) = node_has_type i g m (Exp w) h ∙ sym e
 node_has_type i g (Bin op m n) t (w, e, h, k) = ap (λ x. op_type op x) (node_has_type i g m (Exp w) h) ∙ sym e
 node_has_type i g m t h = absurd h

@@ -3,13 +3,13 @@
 -- Read first: Weight, Paths, Moves.
 use Rattle.std.specs.Prelude.{◌≡◌, ◌↔◌, ◌⊎◌, ℕ, List, set, Some, None}
 use Rattle.gos_types.specs.Types.{Type'}
-use Rattle.gos_model.specs.Terms.{Term, Lit, Deref, Loc, Put}
+use Rattle.gos_model.specs.Terms.{Term, Lit, Deref, Put}
 use Rattle.gos_model.specs.Typing.{Imports, Typed}
 use Rattle.gos_model.specs.Weight.{node_type}
 use Rattle.gos_model.specs.Stores.{Entry, Store, entry_at, number_at}
 use Rattle.gos_model.specs.Reach.{Under, Aside, Rewrites, Unfolds}
 use Rattle.gos_model.specs.Paths.{AtSomePath}
-use Rattle.gos_model.specs.Steps.{Steps, Computes}
+use Rattle.gos_model.specs.Steps.{Locates, Steps, Computes}
 use Rattle.gos_model.specs.Labels.{Label, Emits, Takes}
 use Rattle.gos_model.specs.Moves.{Showing, Acts}
 
@@ -35,22 +35,23 @@ abbrev pub UnfoldingsHavePaths : Type 0
 UnfoldingsHavePaths =
     (m t : Term) → Unfolds m t ↔ AtSomePath (λ a b. (Rewrites a b ⊎ Under Rewrites a b) ⊎ Aside Rewrites a b) m t
 
--- after a write the location has its width, and at index 0 the number that was written
+-- after a write the location has its width, and at the index that was written the number
 abbrev pub WritesStore : Type 0
 WritesStore =
     (s s' : Store) (m t : Term) (k : ℕ) → Computes s s' (Put m k) t
-    → (e : Entry) × (entry_at s e.place ≡ Some e) × (entry_at s' e.place ≡ Some record e { numbers = set e.numbers 0 k })
-    × (number_at s' e.place 0 ≡ Some k)
+    → (e : Entry) × (i : ℕ) × Locates m e.place i × (entry_at s e.place ≡ Some e)
+    × (entry_at s' e.place ≡ Some record e { numbers = set e.numbers i k }) × (number_at s' e.place i ≡ Some k)
 
 -- and a read behind it gives that number
 abbrev pub ReadsBehindWrite : Type 0
 ReadsBehindWrite =
-    (s s' s'' : Store) (l k : ℕ) (t v : Term)
-    → Computes s s' (Put (Loc l) k) t → Computes s' s'' (Deref (Loc l)) v → (w : ℕ) × (v ≡ Lit k w)
+    (s s' s'' : Store) (m t v : Term) (k : ℕ) → Computes s s' (Put m k) t → Computes s' s'' (Deref m) v → (w : ℕ) × (v ≡ Lit k w)
 
--- a location that the store doesn't have is neither written nor read, nor is one without a number
+-- where the store has no number none is written or read: at a location that it doesn't have, and at an index outside an array
 abbrev pub AbsentIsNotWritten : Type 0
-AbsentIsNotWritten = (s s' : Store) (l k : ℕ) (t : Term) → number_at s l 0 ≡ None → Computes s s' (Put (Loc l) k) t → ⊥
+AbsentIsNotWritten =
+    (s s' : Store) (m t : Term) (l i k : ℕ) → Locates m l i → number_at s l i ≡ None → Computes s s' (Put m k) t → ⊥
 
 abbrev pub AbsentIsNotRead : Type 0
-AbsentIsNotRead = (s s' : Store) (l : ℕ) (t : Term) → number_at s l 0 ≡ None → Computes s s' (Deref (Loc l)) t → ⊥
+AbsentIsNotRead =
+    (s s' : Store) (m t : Term) (l i : ℕ) → Locates m l i → number_at s l i ≡ None → Computes s s' (Deref m) t → ⊥

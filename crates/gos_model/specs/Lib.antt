@@ -16,4 +16,5 @@ pub mod Protocol
 pub mod ArrayPorts
 pub mod SmallPrograms
 pub mod SmallModules
+pub mod SmallArrays
 pub mod Laws

@@ -4,7 +4,7 @@
 -- open imports stay as names, in the order of the instances.
 use Rattle.std.specs.Prelude.{ℕ, zero, suc, List, [], ◌∷◌, ◌++◌, length, sum_by, Option, Some, None, nat_eq, ◌&&◌, if◌then◌else◌}
 use Rattle.std.specs.Str.{bytes_eq}
-use Rattle.gos_model.specs.Terms.{Name, Term, Skip, Lit, Bound, Import, Lam, App, Both, Fst, Snd, Seq, Par, If, While, Assign, Deref, New, Not, Bin, Loc, Scope, Wait, Held, Put}
+use Rattle.gos_model.specs.Terms.{Name, Term, Skip, Lit, Bound, Import, Lam, App, Both, Fst, Snd, Seq, Par, If, While, Assign, Deref, New, NewArray, Not, Bin, Loc, Arr, Scope, Wait, Held, Put}
 use Rattle.gos_model.specs.Typing.{Imports, Imported}
 use Rattle.gos_model.specs.Weight.{weight}
 use Rattle.gos_model.specs.Moves.{Program}
@@ -32,9 +32,11 @@ supplied f (While m n) = While (supplied f m) (supplied f n)
 supplied f (Assign m n) = Assign (supplied f m) (supplied f n)
 supplied f (Deref m) = Deref (supplied f m)
 supplied f (New w m) = New w (supplied f m)
+supplied f (NewArray n w m) = NewArray n w (supplied f m)
 supplied f (Not m) = Not (supplied f m)
 supplied f (Bin op m n) = Bin op (supplied f m) (supplied f n)
 supplied f (Loc l) = Loc l
+supplied f (Arr l) = Arr l
 supplied f (Scope l m) = Scope l (supplied f m)
 supplied f (Wait x s) = Wait x s
 supplied f (Held k op n) = Held k op (supplied f n)

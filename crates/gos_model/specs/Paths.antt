@@ -2,9 +2,9 @@
 --
 -- Read first: Reach. What changes a reached place changes the place at a path, and the other way round. The laws
 -- StepsHavePaths, LabelsHavePaths and UnfoldingsHavePaths say so of all that is lifted to a reached place.
-use Rattle.std.specs.Prelude.{◌≡◌, ℕ, zero, suc, List, [], ◌∷◌}
+use Rattle.std.specs.Prelude.{◌≡◌, ◌⊎◌, ℕ, zero, suc, List, [], ◌∷◌}
 use Rattle.gos_model.specs.Terms.{Term, App, Both, Seq, Par, If, Assign, Deref, Not, Bin, Scope, Held, Put}
-use Rattle.gos_model.specs.Reach.{Rel, IsArrayHead}
+use Rattle.gos_model.specs.Reach.{Rel, IsArrayHead, IsArrayPlace}
 
 abbrev mutual
   -- R changes the reached place at this path, children counted from 0 as written
@@ -25,8 +25,14 @@ abbrev mutual
 
   -- the path begins at the access, and leads into its index
   pub IndexAt : List ℕ → Rel → Rel
-  IndexAt (suc zero ∷ suc zero ∷ path) R (App h (Both n m)) t = IsArrayHead h × (m' : Term) × (t ≡ App h (Both n m')) × ReachedAt path R m m'
+  IndexAt (suc zero ∷ path) R (App h n) t =
+      PortIndexAt path R h n t ⊎ (IsArrayPlace h × (n' : Term) × (t ≡ App h n') × ReachedAt path R n n')
   IndexAt path R m t = ⊥
+
+  -- the path begins at the argument of a port, whose function part is h
+  pub PortIndexAt : List ℕ → Rel → Term → Rel
+  PortIndexAt (suc zero ∷ path) R h (Both n m) t = IsArrayHead h × (m' : Term) × (t ≡ App h (Both n m')) × ReachedAt path R m m'
+  PortIndexAt path R h m t = ⊥
 
 -- R changes the reached place at some path
 abbrev pub AtSomePath : Rel → Rel

@@ -2,9 +2,9 @@
 --
 -- Read first: Substitution. A relation between terms is lifted to a place of the term: it changes that place, and
 -- all else stays. A computation step, an output, an input and an unfolding are each such a lifting.
-use Rattle.std.specs.Prelude.{◌≡◌, ◌⊎◌}
+use Rattle.std.specs.Prelude.{◌≡◌, ◌⊎◌, ℕ}
 use Rattle.gos_types.specs.Types.{Type'}
-use Rattle.gos_model.specs.Terms.{Name, Term, Lam, App, Both, Fst, Snd, Seq, Par, If, Assign, Deref, Not, Bin, Scope, Wait, Held, Put}
+use Rattle.gos_model.specs.Terms.{Name, Term, Arr, Lam, App, Both, Fst, Snd, Seq, Par, If, Assign, Deref, Not, Bin, Scope, Wait, Held, Put}
 use Rattle.gos_model.specs.Substitution.{instantiate}
 
 -- how a term may become another
@@ -15,6 +15,10 @@ Rel = Term → Term → Type 0
 -- part, and with ground imports no running term does. Its argument is a pair: the index as it was written, and as it is now.
 abbrev pub IsArrayHead : Term → Type 0
 IsArrayHead h = (x : Name) × (h ≡ Wait x 0)
+
+-- The function part of an access of an array of the program's own. Its argument is the index, and is reached.
+abbrev pub IsArrayPlace : Term → Type 0
+IsArrayPlace h = (l : ℕ) × (h ≡ Arr l)
 
 abbrev mutual
   -- R changes a reached place that is not the whole term
@@ -34,8 +38,13 @@ abbrev mutual
 
   -- R changes a place in the index of an access, as it is now
   pub InIndex : Rel → Rel
-  InIndex R (App h (Both n m)) t = IsArrayHead h × (m' : Term) × (t ≡ App h (Both n m')) × (R m m' ⊎ Below R m m')
+  InIndex R (App h n) t = InPortIndex R h n t ⊎ (IsArrayPlace h × (n' : Term) × (t ≡ App h n') × (R n n' ⊎ Below R n n'))
   InIndex R m t = ⊥
+
+  -- the same at a port: the function part is h, and its argument the pair
+  pub InPortIndex : Rel → Term → Rel
+  InPortIndex R h (Both n m) t = IsArrayHead h × (m' : Term) × (t ≡ App h (Both n m')) × (R m m' ⊎ Below R m m')
+  InPortIndex R h m t = ⊥
 
 -- R changes one reached place, and nothing else changes
 abbrev pub Reached : Rel → Rel

@@ -10,7 +10,7 @@ use Rattle.gos_syntax.specs.declared.terms.Op.TheVariants as ops
 use Rattle.gos_syntax.specs.Trees as trees
 use Rattle.gos_syntax.specs.Trees.{Tree, tree_of}
 use Rattle.gos_syntax.specs.Modules.{SeenImport, SeenModule}
-use Rattle.gos_model.specs.Terms.{Name, Op, Add, Sub, And, Or, Xor, Eq, Less, Term, Skip, Lit, Bound, Import, Lam, App, Both, Fst, Snd, Seq, Par, If, While, Assign, Deref, New, Not, Bin}
+use Rattle.gos_model.specs.Terms.{Name, Op, Add, Sub, And, Or, Xor, Eq, Less, Term, Skip, Lit, Bound, Import, Lam, App, Both, Fst, Snd, Seq, Par, If, While, Assign, Deref, New, NewArray, Not, Bin}
 use Rattle.gos_model.specs.Typing.{Imported}
 use Rattle.gos_model.specs.Moves.{Program}
 
@@ -50,6 +50,7 @@ term_of names (trees.Lit s value width) = Lit value width
 term_of names (trees.Use s x) = use_of names x
 term_of names (trees.Lam s x a t b) = Lam a (term_of (x ∷ names) b)
 term_of names (trees.New s x w t b) = New w (term_of (x ∷ names) b)
+term_of names (trees.Array s x n t w u b) = NewArray n w (term_of (x ∷ names) b)
 term_of names (trees.App s a b) = App (term_of names a) (term_of names b)
 term_of names (trees.Both s a b) = Both (term_of names a) (term_of names b)
 term_of names (trees.Fst s a) = Fst (term_of names a)

@@ -2,18 +2,23 @@
 --
 -- Read first: Stores, Reach. What the parts must be stands in equations, so that a row is used by projection.
 use Rattle.std.specs.Prelude.{◌≡◌, ℕ, ◌⊎◌, ◌∷◌, slice_get, Some, None}
-use Rattle.gos_model.specs.Terms.{Term, Skip, Lit, Seq, Par, If, While, Assign, Deref, New, Not, Bin, Loc, Scope, Held, Put, result_of, result_width, complement}
+use Rattle.gos_model.specs.Terms.{Term, Skip, Lit, App, Seq, Par, If, While, Assign, Deref, New, NewArray, Not, Bin, Loc, Arr, Scope, Held, Put, result_of, result_width, complement}
 use Rattle.gos_model.specs.Substitution.{instantiate}
-use Rattle.gos_model.specs.Stores.{Entry, variable_at, Store, entry_at, store_put, without}
+use Rattle.gos_model.specs.Stores.{Entry, variable_at, array_at, Store, entry_at, store_put, without}
 use Rattle.gos_model.specs.Reach.{Rel, Reached}
 
 -- the values: `skip` and literals
 abbrev pub IsValue : Term → Type 0
 IsValue m = (m ≡ Skip) ⊎ ((k : ℕ) × (w : ℕ) × (m ≡ Lit k w))
 
+-- m stands for index i of location l: a variable for its only number, and an array with the number of an index for the one there
+abbrev pub Locates : Term → ℕ → ℕ → Type 0
+Locates m l i = ((m ≡ Loc l) × (i ≡ 0)) ⊎ ((w : ℕ) × (m ≡ App (Arr l) (Lit i w)))
+
 -- One row for each form: a term with store s becomes t with store s', at the place itself. A loop becomes a choice,
--- an operator holds its left operand, and a new variable gets a location that the store doesn't have, with number 0. Only
--- a number that the store has is read or written, and a variable's is the one at index 0.
+-- an operator holds its left operand, and a new variable gets a location that the store doesn't have, with number 0. So does a
+-- new array, with as many numbers as it is long. Only a number that the store has is read or written, so an index outside an
+-- array has no step.
 abbrev pub Computes : Store → Store → Rel
 Computes s s' (Seq m n) t = (m ≡ Skip) × (t ≡ n) × (s' ≡ s)
 Computes s s' (Par m n) t = (m ≡ Skip) × (n ≡ Skip) × (t ≡ Skip) × (s' ≡ s)
@@ -25,13 +30,15 @@ Computes s s' (Held k op n) t =
 Computes s s' (Not m) t = (k : ℕ) × (w : ℕ) × (m ≡ Lit k w) × (t ≡ Lit (complement w k) w) × (s' ≡ s)
 Computes s s' (Assign m n) t = (k : ℕ) × (w : ℕ) × (n ≡ Lit k w) × (t ≡ Put m k) × (s' ≡ s)
 Computes s s' (Put m k) t =
-    (e : Entry) × (j : ℕ) × (m ≡ Loc e.place) × (entry_at s e.place ≡ Some e) × (slice_get e.numbers 0 ≡ Some j)
-    × (t ≡ Skip) × (s' ≡ store_put s e.place 0 k)
+    (e : Entry) × (i : ℕ) × (j : ℕ) × Locates m e.place i × (entry_at s e.place ≡ Some e) × (slice_get e.numbers i ≡ Some j)
+    × (t ≡ Skip) × (s' ≡ store_put s e.place i k)
 Computes s s' (Deref m) t =
-    (e : Entry) × (j : ℕ) × (m ≡ Loc e.place) × (entry_at s e.place ≡ Some e) × (slice_get e.numbers 0 ≡ Some j)
+    (e : Entry) × (i : ℕ) × (j : ℕ) × Locates m e.place i × (entry_at s e.place ≡ Some e) × (slice_get e.numbers i ≡ Some j)
     × (t ≡ Lit j e.width) × (s' ≡ s)
 Computes s s' (New w m) t =
     (l : ℕ) × (entry_at s l ≡ None) × (t ≡ Scope l (instantiate m (Loc l))) × (s' ≡ variable_at l w 0 ∷ s)
+Computes s s' (NewArray n w m) t =
+    (l : ℕ) × (entry_at s l ≡ None) × (t ≡ Scope l (instantiate m (Arr l))) × (s' ≡ array_at l w n ∷ s)
 Computes s s' (Scope l m) t = IsValue m × (t ≡ m) × (s' ≡ without s l)
 Computes s s' m t = ⊥
 

@@ -1,8 +1,8 @@
--- Stores: the numbers of the local variables of a running program.
+-- Stores: the numbers of the local variables and arrays of a running program.
 --
 -- A store begins empty, and a location is new where the store has nothing at it. So no location has two entries. A location has
 -- a list of numbers, of one width, whose length stays as it was made: a variable has one number, at index 0.
-use Rattle.std.specs.Prelude.{ℕ, List, [], ◌∷◌, set, slice_get, Option, Some, None, nat_eq, if◌then◌else◌}
+use Rattle.std.specs.Prelude.{ℕ, List, [], ◌∷◌, set, slice_get, Option, Some, None, nat_eq, replicate, if◌then◌else◌}
 
 -- a location, the width of its numbers, and the numbers in the order of their indexes
 pub record Entry : Type 0 where
@@ -13,6 +13,10 @@ pub record Entry : Type 0 where
 -- a variable at location l, of w bits, with the number k
 abbrev pub variable_at : ℕ → ℕ → ℕ → Entry
 variable_at l w k = record { place = l; width = w; numbers = k ∷ [] }
+
+-- an array at location l, of n numbers of w bits, all 0
+abbrev pub array_at : ℕ → ℕ → ℕ → Entry
+array_at l w n = record { place = l; width = w; numbers = replicate n 0 }
 
 -- a finite map: of two entries for one location the first counts
 abbrev pub Store : Type 0

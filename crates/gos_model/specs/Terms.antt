@@ -14,9 +14,11 @@ Name = List ℕ
 pub data Op : Type 0 where
   Add Sub And Or Xor Eq Less : Op
 
--- The forms of the language, in the order of its grammar, and from `Loc` on the five that stand only in running
--- terms: a location; a block whose variable is that location; a wait for an event of a port; an operation whose left
--- operand gave k; an assignment whose right side gave k.
+-- The forms of the language, in the order of its grammar, and from `Loc` on the six that stand only in running
+-- terms: a variable's location; an array's location; a block whose variable or array is at that location; a wait for an
+-- event of a port; an operation whose left operand gave k; an assignment whose right side gave k.
+--
+-- `NewArray n w m` is a block m with an array of n numbers of w bits.
 pub data Term : Type 0 where
   Skip : Term
   Lit : (k w : ℕ) → Term
@@ -34,9 +36,11 @@ pub data Term : Type 0 where
   Assign : (m n : Term) → Term
   Deref : (m : Term) → Term
   New : (w : ℕ) (m : Term) → Term
+  NewArray : (n w : ℕ) (m : Term) → Term
   Not : (m : Term) → Term
   Bin : (op : Op) (m n : Term) → Term
   Loc : (l : ℕ) → Term
+  Arr : (l : ℕ) → Term
   Scope : (l : ℕ) (m : Term) → Term
   Wait : (x : Name) (event : ℕ) → Term
   Held : (k : ℕ) (op : Op) (n : Term) → Term

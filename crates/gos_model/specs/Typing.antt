@@ -2,11 +2,11 @@
 --
 -- Read first: Terms. `Typed` has a row for each form, and no order of search. It is Reynolds' syntactic control of
 -- interference in its affine form: the two parts of an application share no name, and neither do those of `||`.
-use Rattle.std.specs.Prelude.{◌≡◌, ℕ, suc, ◌-◌, ◌^◌, ◌<◌, List, [], ◌∷◌, ◌++◌, Contains, Option, Some, None, nat_lt, if◌then◌else◌, slice_get}
+use Rattle.std.specs.Prelude.{◌≡◌, ℕ, suc, ◌-◌, ◌^◌, ◌<◌, List, [], ◌∷◌, ◌++◌, Contains, Option, Some, None, ◌⊎◌, nat_eq, nat_lt, if◌then◌else◌, slice_get}
 use Rattle.std.specs.Str.{bytes_eq}
 use Rattle.gos_types.specs.Types.{Type', Com, Exp, Var, Pair, Fun, IsDone}
 use Rattle.gos_types.specs.Widths.{IsWidth}
-use Rattle.gos_model.specs.Terms.{Name, Term, Skip, Lit, Bound, Import, Lam, App, Both, Fst, Snd, Seq, Par, If, While, Assign, Deref, New, Not, Bin, Loc, Scope, Wait, Held, Put, result_width}
+use Rattle.gos_model.specs.Terms.{Name, Term, Skip, Lit, Bound, Import, Lam, App, Both, Fst, Snd, Seq, Par, If, While, Assign, Deref, New, NewArray, Not, Bin, Loc, Arr, Scope, Wait, Held, Put, result_width}
 
 -- an import: its name and its type
 pub record Imported : Type 0 where
@@ -46,9 +46,11 @@ things d (While m n) = things d m ++ things d n
 things d (Assign m n) = things d m ++ things d n
 things d (Deref m) = things d m
 things d (New w m) = things (suc d) m
+things d (NewArray n w m) = things (suc d) m
 things d (Not m) = things d m
 things d (Bin op m n) = things d m ++ things d n
 things d (Loc l) = Place l ∷ []
+things d (Arr l) = Place l ∷ []
 things d (Scope l m) = Place l ∷ things d m
 things d (Wait x s) = Named x ∷ []
 things d (Held k op n) = things d n
@@ -57,6 +59,18 @@ things d (Put m k) = things d m
 -- nothing is free in both
 abbrev pub Apart : Term → Term → Type 0
 Apart m n = (t : Thing) → Contains (things 0 m) t → Contains (things 0 n) t → ⊥
+
+-- how many numbers an array may have
+abbrev pub IsLength : ℕ → Type 0
+IsLength n = (n ≡ 2) ⊎ ((n ≡ 4) ⊎ ((n ≡ 8) ⊎ (n ≡ 16)))
+
+-- how many bits the index of an array of n numbers has: 2 to this number is n. Of another n it says nothing.
+abbrev pub index_width : ℕ → ℕ
+index_width n = if nat_eq n 2 then 1 else if nat_eq n 4 then 2 else if nat_eq n 8 then 3 else 4
+
+-- the type of an array of n numbers of w bits: a variable at each index
+abbrev pub array_type : ℕ → ℕ → Type'
+array_type n w = Fun (Exp (index_width n)) (Var w)
 
 -- A term with imports i, under binders of the types g with the innermost first, has type t. Running forms have none.
 abbrev pub Typed : Imports → List Type' → Term → Type' → Type 0
@@ -76,9 +90,11 @@ Typed i g (While m n) t = (t ≡ Com) × Typed i g m (Exp 1) × Typed i g n Com
 Typed i g (Assign m n) t = (w : ℕ) × (t ≡ Com) × Typed i g m (Var w) × Typed i g n (Exp w)
 Typed i g (Deref m) t = (w : ℕ) × (t ≡ Exp w) × Typed i g m (Var w)
 Typed i g (New w m) t = IsDone t × IsWidth w × Typed i (Var w ∷ g) m t
+Typed i g (NewArray n w m) t = IsDone t × IsLength n × IsWidth w × Typed i (array_type n w ∷ g) m t
 Typed i g (Not m) t = (w : ℕ) × (t ≡ Exp w) × Typed i g m (Exp w)
 Typed i g (Bin op m n) t = (w : ℕ) × (t ≡ Exp (result_width op w)) × Typed i g m (Exp w) × Typed i g n (Exp w)
 Typed i g (Loc l) t = ⊥
+Typed i g (Arr l) t = ⊥
 Typed i g (Scope l m) t = ⊥
 Typed i g (Wait x s) t = ⊥
 Typed i g (Held k op n) t = ⊥

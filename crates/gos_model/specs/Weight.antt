@@ -1,12 +1,12 @@
 -- The weight of a module, which bounds its cells and its pace.
 --
--- Read first: Typing. A node weighs 4 and the handshakes of its type; the handshakes of the imports
--- count once more.
+-- Read first: Typing. A node weighs 4 and the handshakes of its type, and a block with an array weighs its numbers too, 1 each;
+-- the handshakes of the imports count once more.
 use Rattle.std.specs.Prelude.{ℕ, ◌+◌, List, [], ◌∷◌, length, sum_by, Option, Some, None, slice_get, ◌*◌}
 use Rattle.gos_types.specs.Types.{Type', Com, Exp, Var, Pair, Fun}
 use Rattle.gos_types.specs.Handshakes.{handshakes_of}
-use Rattle.gos_model.specs.Terms.{Op, Term, Skip, Lit, Bound, Import, Lam, App, Both, Fst, Snd, Seq, Par, If, While, Assign, Deref, New, Not, Bin, Loc, Scope, Wait, Held, Put, result_width}
-use Rattle.gos_model.specs.Typing.{Imports, import_type}
+use Rattle.gos_model.specs.Terms.{Op, Term, Skip, Lit, Bound, Import, Lam, App, Both, Fst, Snd, Seq, Par, If, While, Assign, Deref, New, NewArray, Not, Bin, Loc, Arr, Scope, Wait, Held, Put, result_width}
+use Rattle.gos_model.specs.Typing.{Imports, import_type, array_type}
 
 -- the type that is there, or any
 abbrev pub or_com : Option Type' → Type'
@@ -56,9 +56,11 @@ node_type i g (While m n) = Com
 node_type i g (Assign m n) = Com
 node_type i g (Deref m) = read_of (node_type i g m)
 node_type i g (New w m) = node_type i (Var w ∷ g) m
+node_type i g (NewArray n w m) = node_type i (array_type n w ∷ g) m
 node_type i g (Not m) = node_type i g m
 node_type i g (Bin op m n) = op_type op (node_type i g m)
 node_type i g (Loc l) = Com
+node_type i g (Arr l) = Com
 node_type i g (Scope l m) = Com
 node_type i g (Wait x s) = Com
 node_type i g (Held k op n) = Com
@@ -68,7 +70,7 @@ node_type i g (Put m k) = Com
 abbrev pub count : Type' → ℕ
 count t = length (handshakes_of t)
 
--- what a node itself weighs
+-- what a node itself weighs, without the numbers of an array
 abbrev pub node_weight : Imports → List Type' → Term → ℕ
 node_weight i g m = 4 + count (node_type i g m)
 
@@ -90,9 +92,11 @@ nodes_weight i g (While m n) = node_weight i g (While m n) + nodes_weight i g m 
 nodes_weight i g (Assign m n) = node_weight i g (Assign m n) + nodes_weight i g m + nodes_weight i g n
 nodes_weight i g (Deref m) = node_weight i g (Deref m) + nodes_weight i g m
 nodes_weight i g (New w m) = node_weight i g (New w m) + nodes_weight i (Var w ∷ g) m
+nodes_weight i g (NewArray n w m) = n + node_weight i g (NewArray n w m) + nodes_weight i (array_type n w ∷ g) m
 nodes_weight i g (Not m) = node_weight i g (Not m) + nodes_weight i g m
 nodes_weight i g (Bin op m n) = node_weight i g (Bin op m n) + nodes_weight i g m + nodes_weight i g n
 nodes_weight i g (Loc l) = 0
+nodes_weight i g (Arr l) = 0
 nodes_weight i g (Scope l m) = 0
 nodes_weight i g (Wait x s) = 0
 nodes_weight i g (Held k op n) = 0

@@ -21,6 +21,19 @@ ghost use Rattle.gos_model.specs.SmallStores.{
   VariableHasOne,
   FirstCounts,
 };
+ghost use Rattle.gos_model.specs.SmallArrays.{
+  LengthIsPower,
+  ArrayIsZeros,
+  WriteIsAtIndex,
+  OutsideHasNoStep,
+  ReadWaits,
+  WriteWaits,
+  FourAnswers,
+  FourHasType,
+  FourWeighs,
+  ThreeHasNoType,
+  NestedHasNoType,
+};
 ghost use Rattle.gos_model.specs.SmallModules.{Weights, Types, Shared, Links, LinkWeighs};
 ghost use Rattle.gos_model.specs.SmallPrograms.{
   SeqRuns,
@@ -110,4 +123,25 @@ pub fn accesses()
     ensures index { IndexWaits }
     ensures order { IndexIsNotFirst }
     ensures answers { ArrayAnswers }
+{}
+
+/// A new array is zeros, as many as it is long. A write at an index leaves its number there and all others as they were, and an index
+/// outside has no step. The index is evaluated before the read, and after the right side and before the write.
+pub fn arrays()
+    ensures zeros { ArrayIsZeros }
+    ensures write { WriteIsAtIndex }
+    ensures outside { OutsideHasNoStep }
+    ensures reads { ReadWaits }
+    ensures writes { WriteWaits }
+{}
+
+/// The length of an array is 2 to the bits of its index, 1 to 4. A block with four numbers answers what it wrote at one and zero at
+/// another, and weighs its numbers too. Three numbers have no type, nor has an access whose index is of the same array.
+pub fn small_arrays()
+    ensures length { LengthIsPower }
+    ensures answers { FourAnswers }
+    ensures ty { FourHasType }
+    ensures weight { FourWeighs }
+    ensures three { ThreeHasNoType }
+    ensures nested { NestedHasNoType }
 {}

@@ -10,6 +10,6 @@
 mod laws;
 
 pub use laws::{
-    accesses, ground_ports, reached_places, sequences, small_modules, small_traces, stores,
-    types_of_terms, writes,
+    accesses, arrays, ground_ports, reached_places, sequences, small_arrays, small_modules,
+    small_traces, stores, types_of_terms, writes,
 };

@@ -2,6 +2,7 @@ pub mod RegionLemmas
 pub mod EndLemmas
 pub mod ServerLemmas
 pub mod DriverLemmas
+pub mod ArrayDriverLemmas
 pub mod SmallServerLemmas
 pub mod StepLemmas
 pub mod LinkedLemmas
@@ -11,9 +12,14 @@ pub mod OrderLemmas
 pub mod LooseLemmas
 pub mod RegularLemmas
 pub mod WalkLemmas
+pub mod PlayedLemmas
 pub mod InsideLemmas
+pub mod ArrayInsideLemmas
 pub mod QuietLemmas
 pub mod ImportLemmas
+pub mod LocalLemmas
+pub mod ArrayLemmas
 pub mod MatchLemmas
 pub mod RealisesLemmas
 pub mod SmallBlockLemmas
+pub mod SmallArrayLemmas

@@ -2,3 +2,4 @@
 pub mod contexts
 pub mod results
 pub mod variables
+pub mod arrays

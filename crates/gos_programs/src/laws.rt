@@ -1,4 +1,5 @@
-// In reading order.
+// The README has these chapters in reading order.
+pub mod arrays;
 pub mod contexts;
 pub mod results;
 pub mod variables;

@@ -4,8 +4,8 @@ use Rattle.std.specs.Str.{bytes_eq}
 use Rattle.std.proofs.Common.{refl, sym, ◌∙◌, ap, subst, arith, inl, inr}
 use Rattle.gos_types.specs.Types.{Type', Com, Exp, Var}
 use Rattle.gos_types.proofs.BytesLemmas.{bytes_eq_same}
-use Rattle.gos_model.specs.Terms.{Name, Term, Skip, Lit, Bound, Import, Lam, App, Both, Fst, Snd, Seq, Par, If, While, Assign, Deref, New, Not, Bin, Loc, Scope, Wait, Held, Put}
-use Rattle.gos_model.specs.Typing.{Imported, Imports, import_type, Typed}
+use Rattle.gos_model.specs.Terms.{Name, Term, Skip, Lit, Bound, Import, Lam, App, Both, Fst, Snd, Seq, Par, If, While, Assign, Deref, New, Not, Bin, Loc, Scope, Wait, Held, Put, NewArray, Arr}
+use Rattle.gos_model.specs.Typing.{Imported, Imports, import_type, Typed, array_type}
 use Rattle.gos_model.specs.Stores.{Store}
 use Rattle.gos_model.specs.Labels.{Label, Emits, Takes, IsAnswer}
 use Rattle.gos_model.specs.Moves.{Program, Config, Idle, Running, Act, Computing, Showing, ActsTo, Move, Moves, Stalled}
@@ -38,9 +38,11 @@ typed_same i j same g (While m n) t (e, h, k) = (e, typed_same i j same g m (Exp
 typed_same i j same g (Assign m n) t (w, e, h, k) = (w, e, typed_same i j same g m (Var w) h, typed_same i j same g n (Exp w) k)
 typed_same i j same g (Deref m) t (w, e, h) = (w, e, typed_same i j same g m (Var w) h)
 typed_same i j same g (New w m) t (d, width, h) = (d, width, typed_same i j same (Var w ∷ g) m t h)
+typed_same i j same g (NewArray n w m) t (d, l, width, h) = (d, l, width, typed_same i j same (array_type n w ∷ g) m t h)
 typed_same i j same g (Not m) t (w, e, h) = (w, e, typed_same i j same g m (Exp w) h)
 typed_same i j same g (Bin op m n) t (w, e, h, k) = (w, e, typed_same i j same g m (Exp w) h, typed_same i j same g n (Exp w) k)
 typed_same i j same g (Loc l) t h = h
+typed_same i j same g (Arr l) t h = h
 typed_same i j same g (Scope l m) t h = h
 typed_same i j same g (Wait x s) t h = h
 typed_same i j same g (Held k op n) t h = h
@@ -66,9 +68,11 @@ emits_same i j same o (Deref m) t (inl (x, w, e, is, f, g)) = inl (x, w, e, sym 
 emits_same i j same o (Deref m) t (inr (x, p, h)) =
     inr (x, p, puts_as i j (λ (u : Term). Deref u) 2 0 x o.event o.value m t (λ c w array. sym (same x) ∙ array) h)
 emits_same i j same o (New w m) t h = h
+emits_same i j same o (NewArray n w m) t h = h
 emits_same i j same o (Not m) t h = h
 emits_same i j same o (Bin op m n) t h = h
 emits_same i j same o (Loc l) t h = h
+emits_same i j same o (Arr l) t h = h
 emits_same i j same o (Scope l m) t h = h
 emits_same i j same o (Wait x s) t h = h
 emits_same i j same o (Held k op n) t h = h
@@ -94,9 +98,11 @@ takes_same i j same o (Assign m n) t h = h
 takes_same i j same o (Deref m) t (x, p, h) =
     (x, p, reads_as i j (λ (u : Term). Deref u) x o.event o.value m t (λ c w array. sym (same x) ∙ array) h)
 takes_same i j same o (New w m) t h = h
+takes_same i j same o (NewArray n w m) t h = h
 takes_same i j same o (Not m) t h = h
 takes_same i j same o (Bin op m n) t h = h
 takes_same i j same o (Loc l) t h = h
+takes_same i j same o (Arr l) t h = h
 takes_same i j same o (Scope l m) t h = h
 takes_same i j same o (Wait x s) t (at, event, answer) = (at, event, subst (λ (a : Option Type'). IsAnswer a s o.value t) (same x) answer)
 takes_same i j same o (Held k op n) t h = h

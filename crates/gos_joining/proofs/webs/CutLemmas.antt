@@ -9,8 +9,8 @@ use Rattle.gos_types.specs.declared.shakes.Role.{Role}
 use Rattle.gos_types.specs.declared.shakes.Role.TheVariants.{Serve, Ask}
 use Rattle.gos_types.specs.Events.{Direction}
 use Rattle.gos_types.proofs.BoolLemmas.{same_tests}
-use Rattle.gos_plan.specs.Kinds.{Part, Skip, Lit, Seq, Par, If, While, Op, Not, Assign, Deref, Local, Share, Contact, contacts_of, part_contacts}
-use Rattle.gos_plan.specs.Firing.{Phase, Rest, First, Second, Both, LeftOnly, RightOnly, Test, Branch, Body, Left, Right, Waiting, Value, Writing, Active, State, Slot, Token, Row, at, shared_rows, rows, firing}
+use Rattle.gos_plan.specs.Kinds.{Part, Skip, Lit, Seq, Par, If, While, Op, Not, Assign, Deref, Local, Array, Share, Contact, contacts_of, part_contacts}
+use Rattle.gos_plan.specs.Firing.{Phase, Rest, First, Second, Both, LeftOnly, RightOnly, Test, Branch, Body, Left, Right, Waiting, Value, Writing, Active, Cells, Reading, WritingTo, State, Slot, Token, Row, at, shared_rows, rows, firing}
 use Rattle.gos_plan.specs.Plans.{End, PartEnd, ImportEnd, ResultEnd, Joint, Plan, IsRight, contacts_of_part, contact_at, same_end, stands_in}
 use Rattle.gos_plan.specs.Tokens.{Tokens, Element, Fire, Out, In, IsPortEnd, places_of, same_way, with_place, with_state, held_at, with_held, token_at, with_token, with_puts, end_of, way_of, shake_of, way_taken, way_put, bits_of, fired, firing_of, Passes, Does, Runs}
 use Rattle.gos_plan.specs.TokenBits.{LiteralFits, TokensFit, AllFit}
@@ -478,6 +478,10 @@ few (Deref w) Rest n v = (tt, tt)
 few (Deref w) Waiting n v = (tt, tt)
 few (Local w u) Rest n v = (tt, tt)
 few (Local w u) Active n v = (tt, (tt, (tt, tt)))
+few (Array w c u) Rest n v = (tt, tt)
+few (Array w c u) (Cells ns) n v = (tt, (tt, (tt, tt)))
+few (Array w c u) (Reading ns) n v = (tt, tt)
+few (Array w c u) (WritingTo ns) n v = (tt, tt)
 few (Share t) p n v = share_table (λ (r : Row). PutsFew (r.puts v)) t n (λ j c at. few_shared c.role (length (contacts_of t)) j n v) p
 few k p n v = tt
 

@@ -8,10 +8,10 @@ use Rattle.gos_model.specs.Typing.{Imported}
 use Rattle.gos_plan.specs.Kinds.{Part}
 use Rattle.gos_plan.specs.Plans.{Plan}
 use Rattle.gos_plan.specs.Seen.{SeenPlan}
-use Rattle.gos_plan.specs.Size.{shakes_of, plan_size}
+use Rattle.gos_plan.specs.Size.{shakes_of, numbers_of, plan_size}
 use Rattle.gos_plan.specs.Joining.{Link, left_among, all_parts, all_weight, IsJoining}
 use Rattle.gos_realises.specs.realises.Slim.{all_shakes, IsSlim}
-use Rattle.gos_realises.proofs.realises.CountLemmas.{shakes-append}
+use Rattle.gos_realises.proofs.realises.CountLemmas.{shakes-append, numbers-append}
 use Rattle.gos_link.specs.declared.build.Bind.{Bind}
 use Rattle.gos_link.specs.declared.build.Build.{Build}
 use Rattle.gos_link.specs.declared.build.Instance.{Instance}
@@ -31,9 +31,9 @@ same_shakes (k ∷ ks) = let rest = same_shakes ks in omega (arith, rest)
 
 -- what slim plans have together is little for their weight
 record AreFew (ps : List Plan) : Type 0 where
-  joints : all_joints ps ≤ 2 * all_weight ps
-  ends : length (all_parts ps) + all_shakes (all_parts ps) ≤ 4 * all_weight ps
-  imports : all_imports ps ≤ all_weight ps
+  joints : all_joints ps + 2 * numbers_of (all_parts ps) ≤ 2 * all_weight ps
+  ends : length (all_parts ps) + all_shakes (all_parts ps) + 4 * numbers_of (all_parts ps) ≤ 4 * all_weight ps
+  imports : all_imports ps + numbers_of (all_parts ps) ≤ all_weight ps
 
 are_few : (ps : List Plan) → AreSlim ps → AreFew ps
 are_few [] slim = record { joints = omega arith; ends = omega arith; imports = omega arith }
@@ -41,6 +41,7 @@ are_few (p ∷ ps) (slim, others) =
     let rest = are_few ps others in
     let parts = length-append p.parts (all_parts ps) in
     let shakes = shakes-append p.parts (all_parts ps) in
+    let numbers = numbers-append p.parts (all_parts ps) in
     let one_joints = slim.joints in
     let one_ends = slim.ends in
     let one_imports = slim.imports in
@@ -48,9 +49,9 @@ are_few (p ∷ ps) (slim, others) =
     let more_ends = rest.ends in
     let more_imports = rest.imports in
     record {
-      joints = omega (arith, one_joints, more_joints);
-      ends = omega (arith, one_ends, more_ends, parts, shakes);
-      imports = omega (arith, one_imports, more_imports);
+      joints = omega (arith, one_joints, more_joints, numbers);
+      ends = omega (arith, one_ends, more_ends, parts, shakes, numbers);
+      imports = omega (arith, one_imports, more_imports, numbers);
     }
 
 -- a joining of slim plans that has no more joints than they
@@ -63,13 +64,14 @@ joined_slim ps ls r slim parts weight imports joints =
     let all_imports_few = few.imports in
     let ends : length r.parts + all_shakes r.parts ≡ length (all_parts ps) + all_shakes (all_parts ps) =
     ap (λ (ks : List Part). length ks + all_shakes ks) parts in
+    let numbers : numbers_of r.parts ≡ numbers_of (all_parts ps) = ap (λ (ks : List Part). numbers_of ks) parts in
     let left : length r.imports ≡ length (left_among ls 0 ps) =
     ap (λ (xs : List Imported). length xs) imports ∙ length-map (left_among ls 0 ps) (λ l. l.import) in
     let few_imports = few_left ls 0 ps in
     record {
-      joints = omega (arith, joints, all_joints_few, weight);
-      ends = omega (arith, ends, all_ends_few, weight);
-      imports = omega (arith, left, few_imports, all_imports_few, weight);
+      joints = omega (arith, joints, all_joints_few, numbers, weight);
+      ends = omega (arith, ends, all_ends_few, numbers, weight);
+      imports = omega (arith, left, few_imports, all_imports_few, numbers, weight);
     }
 
 module _ (few_joints : JointsAreFew) (b : Build) (ps : List SeenPlan) (are : ArePlansOf b ps) (slim : AreSlim (plans_of ps)) where

@@ -25,7 +25,7 @@ use Rattle.gos_linked.proofs.linked.WholeLemmas.{plan_there, grow_grown}
 use Rattle.gos_linked.proofs.linked.RewiredLemmas.{root_grown, to, from, tree_rewired}
 use Rattle.gos_linked.proofs.linked.BodyLemmas.{body_same}
 use Rattle.gos_linked.proofs.linked.TypedLemmas.{body_typed}
-use Rattle.gos_linked.proofs.linked.OpenLemmas.{linked_differ, open_same}
+use Rattle.gos_linked.proofs.linked.OpenLemmas.{have_imports, linked_differ, open_same}
 
 programs_size : (ps : List Plan) (ms : Instances) → AreRealised ps ms → length ms ≡ length ps
 programs_size [] [] all = refl
@@ -98,7 +98,7 @@ module _ (rewired_is_open : RewiredTreeIsOpen) (b : Build) (ps : List SeenPlan) 
 pub linked_is_realised : RewiredTreeIsOpen → LinkedIsRealised
 linked_is_realised rewired_is_open b ps p programs l each all =
     record {
-      imports = l.joining.imports ∙ open_same (plans_of ps) l.services (linked_rooted b ps p l each).sound programs all;
+      imports = l.joining.imports ∙ open_same (plans_of ps) l.services (linked_rooted b ps p l each).sound programs (have_imports (plans_of ps) programs all);
       right = l.joining.right;
       names = linked_differ b ps p l;
       typed = typed rewired_is_open b ps p programs l each all;

@@ -49,7 +49,7 @@ each_slim (p ∷ ps) [] all = absurd all
 each_slim (p ∷ ps) (m ∷ ms) (one, all) = (one.realises.slim, each_slim ps ms all)
 
 -- the numbers of imports that stay, and those of the root's result
-wide_open : (bs : List Bind) (u : ℕ) (is : List Imported) → HaveWidths is → HaveWidths (open_of bs u is)
+pub wide_open : (bs : List Bind) (u : ℕ) (is : List Imported) → HaveWidths is → HaveWidths (open_of bs u is)
 wide_open bs u [] wide = tt
 wide_open bs u (i ∷ is) (one, wide) = by_giver (giver_of bs u i.name) (wide_open bs u is wide)
   where

@@ -28,6 +28,19 @@ use Rattle.gos_linked.proofs.linked.BodyLemmas.{giver_if, giver_same}
 abbrev import_of : LeftImport → Imported
 import_of l = l.import
 
+-- programs that have the imports of these plans, and the names of each differ
+abbrev pub HaveImports : List Plan → Instances → Type 0
+HaveImports [] [] = Unit {0}
+HaveImports [] (m ∷ ms) = ⊥
+HaveImports (p ∷ ps) [] = ⊥
+HaveImports (p ∷ ps) (m ∷ ms) = (p.imports ≡ m.imports) × NamesDiffer p.imports × HaveImports ps ms
+
+pub have_imports : (ps : List Plan) (ms : Instances) → AreRealised ps ms → HaveImports ps ms
+have_imports [] [] all = tt
+have_imports [] (m ∷ ms) all = absurd all
+have_imports (p ∷ ps) [] all = absurd all
+have_imports (p ∷ ps) (m ∷ ms) (one, all) = (one.imports, one.names, have_imports ps ms all)
+
 differ_in : (ls : List LeftImport)
     → ((i j : ℕ) (x y : LeftImport) → i < j → slice_get ls i ≡ Some x → slice_get ls j ≡ Some y → x.import.name ≢ y.import.name)
     → NamesDiffer (map import_of ls)
@@ -55,7 +68,7 @@ linked_differ b ps p l =
     subst NamesDiffer (sym l.joining.imports)
     (ports_differ b.instances.items (record { name = b.root; instance = b.root }) (all_left (whole_of ps l.services l.root)) l.light.grounded.named.names)
 
-ground_in : (ls : List LeftImport) → AreGround (length ls) ls → AllGround (map import_of ls)
+pub ground_in : (ls : List LeftImport) → AreGround (length ls) ls → AllGround (map import_of ls)
 ground_in [] all = tt
 ground_in (l ∷ ls) all = (all 0 l (omega arith) refl, ground_in ls (λ i x low at. all (suc i) x (omega (arith, low)) at))
 
@@ -144,21 +157,21 @@ module _ (ps : List Plan) (ss : List Service) (sound : IsSound ps ss) where
       chosen None = refl
       chosen (Some s) = refl
 
-  open_among : (u : ℕ) (qs : List Plan) (ms : Instances) → AreRealised qs ms → ((k : ℕ) → k < length qs → plan_at ps (u + k) ≡ plan_at qs k)
+  open_among : (u : ℕ) (qs : List Plan) (ms : Instances) → HaveImports qs ms → ((k : ℕ) → k < length qs → plan_at ps (u + k) ≡ plan_at qs k)
       → map import_of (left_among (links_of ps ss) u qs) ≡ open_from (binds_of ps ss) u ms
   open_among u [] [] all same = refl
   open_among u [] (m ∷ ms) all same = absurd all
   open_among u (q ∷ qs) [] all same = absurd all
-  open_among u (q ∷ qs) (m ∷ ms) (one, all) same =
+  open_among u (q ∷ qs) (m ∷ ms) (imports, names, all) same =
       let none : u + 0 ≡ u = omega arith in
       let here : plan_at ps u ≡ q = ap (plan_at ps) (sym none) ∙ same 0 (omega arith) in
-      let differ : NamesDiffer (plan_at ps u).imports = subst (λ (r : Plan). NamesDiffer r.imports) (sym here) one.names in
-      let head = open_in u differ 0 [] q.imports (ap (λ (r : Plan). r.imports) here) refl ∙ ap (open_of (binds_of ps ss) u) one.imports in
+      let differ : NamesDiffer (plan_at ps u).imports = subst (λ (r : Plan). NamesDiffer r.imports) (sym here) names in
+      let head = open_in u differ 0 [] q.imports (ap (λ (r : Plan). r.imports) here) refl ∙ ap (open_of (binds_of ps ss) u) imports in
       let rest =
       open_among (suc u) qs ms all
       (λ k low. (let sum : suc u + k ≡ u + suc k = omega arith in ap (plan_at ps) sum ∙ same (suc k) (omega (arith, low))))
       in
       map-append import_of (left_in (links_of ps ss) u 0 q.imports) (left_among (links_of ps ss) (suc u) qs) ∙ (λ l. head l ++ rest l)
 
-  pub open_same : (ms : Instances) → AreRealised ps ms → map import_of (left_among (links_of ps ss) 0 ps) ≡ open_from (binds_of ps ss) 0 ms
+  pub open_same : (ms : Instances) → HaveImports ps ms → map import_of (left_among (links_of ps ss) 0 ps) ≡ open_from (binds_of ps ss) 0 ms
   open_same ms all = open_among 0 ps ms all (λ k low. (let none : 0 + k ≡ k = omega arith in ap (plan_at ps) none))

@@ -1,4 +1,4 @@
--- What right bind lines mean is sound, and in a linked build each instance but the root serves.
+-- What right bind lines mean is sound, and where the links of a build are right each instance but the root serves.
 use Rattle.std.specs.Prelude.{◌≡◌, ◌≢◌, ◌⊎◌, ◌<◌, ◌+◌, ◌&&◌, ◌||◌, ℕ, Bool, true, false, List, [], ◌∷◌, ◌++◌, length, Some, None, option_map, slice_get, nat_eq, if◌then◌else◌}
 use Rattle.std.proofs.Common.{refl, sym, ◌∙◌, ap, subst, arith, inl, inr, append-nil, append_assoc}
 use Rattle.std.proofs.lemmas.List.{length-map}
@@ -14,7 +14,7 @@ use Rattle.gos_link.specs.declared.build.Instance.{Instance}
 use Rattle.gos_link.specs.declared.build.Bind.{Bind}
 use Rattle.gos_link.specs.declared.services.Service.{Service}
 use Rattle.gos_link.specs.Services.{HasService, Gives, once, on, first_bound, first_used, IsRightBind, BindsOn}
-use Rattle.gos_link.specs.Linked.{plans_of, is_used, is_placed, IsPlaced, IsLinked}
+use Rattle.gos_link.specs.Linked.{SeenLinks, AreLinks, plans_of, is_used, is_placed, IsPlaced, IsLinked}
 use Rattle.gos_link.proofs.BoundLemmas.{if_none, is_placed_at}
 use Rattle.gos_linked.proofs.linked.ChainLemmas.{IsSound, IsRooted}
 
@@ -136,25 +136,31 @@ or_used : (a b : Bool) → a ≡ false → (a || b) ≡ true → b ≡ true
 or_used true b e h = absurd (cc e)
 or_used false b e h = h
 
-pub linked_rooted : (b : Build) (ps : List SeenPlan) (p : Plan) (l : IsLinked b ps p) → length ps ≡ length b.instances.items
-    → IsRooted (plans_of ps) l.services l.root
-linked_rooted b ps p l each =
-    record { sound = binds_sound b.instances.items ps b.binds.items l.services l.binds; low = omega (arith, root_low, size, each); serves = serves }
+pub links_rooted : (b : Build) (ps : List SeenPlan) (links : SeenLinks) → AreLinks b ps links → length ps ≡ length b.instances.items
+    → IsRooted (plans_of ps) links.services links.root
+links_rooted b ps links are each =
+    record { sound = binds_sound b.instances.items ps b.binds.items links.services are.binds; low = omega (arith, root_low, size, each); serves = serves }
   where
-    placed : IsPlaced b l.services l.root
-    placed = l.light.grounded.named.placed
+    placed : IsPlaced b links.services links.root
+    placed = are.grounded.named.placed
 
-    root_low : l.root < length b.instances.items
+    root_low : links.root < length b.instances.items
     root_low =
-        (position-Some (λ i. bytes_eq i.name b.root) b.instances.items l.root (record { line = 0; name = []; source = []; object = [] }) placed.finds_root).0
+        (position-Some (λ i. bytes_eq i.name b.root) b.instances.items links.root (record { line = 0; name = []; source = []; object = [] }) placed.finds_root).0
 
     size : length (plans_of ps) ≡ length ps
     size = length-map ps plan_of
 
-    serves : (k : ℕ) → k < length (plans_of ps) → k ≢ l.root → (s : Service) × HasService l.services s × (s.giver ≡ k)
+    serves : (k : ℕ) → k < length (plans_of ps) → k ≢ links.root → (s : Service) × HasService links.services s × (s.giver ≡ k)
     serves k low apart =
         let number : 0 + k ≡ k = omega arith in
-        let there : is_placed l.root l.services k ≡ true =
-        ap (is_placed l.root l.services) (sym number) ∙ is_placed_at l.root l.services 0 b.instances.items placed.placed k (omega (arith, low, size, each))
+        let there : is_placed links.root links.services k ≡ true =
+        ap (is_placed links.root links.services) (sym number)
+        ∙ is_placed_at links.root links.services 0 b.instances.items placed.placed k (omega (arith, low, size, each))
         in
-        used_has l.services k (or_used (nat_eq k l.root) (is_used (first_used l.services k)) (ne_eqb k l.root apart) there)
+        used_has links.services k (or_used (nat_eq k links.root) (is_used (first_used links.services k)) (ne_eqb k links.root apart) there)
+
+pub linked_rooted : (b : Build) (ps : List SeenPlan) (p : Plan) (l : IsLinked b ps p) → length ps ≡ length b.instances.items
+    → IsRooted (plans_of ps) l.services l.root
+linked_rooted b ps p l =
+    links_rooted b ps (record { services = l.services; root = l.root }) (record { binds = l.binds; grounded = l.light.grounded })

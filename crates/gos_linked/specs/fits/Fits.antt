@@ -21,7 +21,8 @@ abbrev pub LinkedIsSlim : Type 0
 LinkedIsSlim = (b : Build) (ps : List SeenPlan) (p : Plan) → ArePlansOf b ps → AreSlim (plans_of ps) → IsLinked b ps p → IsSlim p
 
 -- A build of slim plans isn't refused for its size, whatever it would be. For a weight w, which is at most 32,768, the size is at
--- most 26 * 4 w for the parts and their handshakes, 4 * 2 w for the joints and 12 (w + 1) for the ports: 4,063,244.
+-- most 26 * 4 w for the parts and their handshakes, 4 * 2 w for the joints and 12 (w + 1) for the ports: 4,063,244. A number of an
+-- array counts 8, and takes 1 of the weight from all these.
 abbrev pub SlimIsNeverTooLarge : Type 0
 SlimIsNeverTooLarge =
     (b : Build) (ps : List SeenPlan) (size ports : ℕ) → ArePlansOf b ps → AreSlim (plans_of ps) → IsUnlinked b ps (faults.TooLarge size ports) → ⊥

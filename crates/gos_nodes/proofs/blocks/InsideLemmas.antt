@@ -3,7 +3,7 @@
 -- What the body shows elsewhere the block shows too (`inside_moves`). What it shows at its variable the block does with its store:
 -- a number that is read is the store's, and one that is written becomes it (`reads`, `writes`). A request to read and the answer to
 -- a write are unfoldings alone, and these stand before the next move.
-use Rattle.std.specs.Prelude.{◌≡◌, ◌≢◌, ℕ, zero, suc, ◌+◌, ◌&&◌, not, Bool, true, false, List, [], ◌∷◌, ◌++◌, Option, Some, None, if◌then◌else◌}
+use Rattle.std.specs.Prelude.{◌≡◌, ℕ, zero, suc, ◌+◌, ◌&&◌, not, Bool, true, false, List, [], ◌∷◌, ◌++◌, Option, Some, None, if◌then◌else◌}
 use Rattle.std.proofs.Common.{arith, refl, sym, ap, subst, inl, inr, ◌∙◌}
 use Rattle.gos_types.specs.Types.{Type', Com, Exp, Var, Fun}
 use Rattle.gos_types.proofs.BytesLemmas.{same_bytes_eq}
@@ -14,7 +14,7 @@ use Rattle.gos_model.specs.Stores.{variable_at, Store, without}
 use Rattle.gos_model.specs.Steps.{IsValue}
 use Rattle.gos_model.specs.Accesses.{IsArrayImport}
 use Rattle.gos_model.specs.Labels.{Port, Given, Taken, Label, taken, is_answer, IsAnswer}
-use Rattle.gos_model.specs.Moves.{Program, Config, Idle, Running, Act, Computing, Showing, Unfoldings, Answers, Move, Moves, labels, Stalled}
+use Rattle.gos_model.specs.Moves.{Program, Config, Idle, Running, Act, Computing, Showing, Unfoldings, Move, Moves, labels, Stalled}
 use Rattle.gos_model.proofs.MoveLemmas.{moves_then, unfoldings_then}
 use Rattle.gos_programs.specs.contexts.Contexts.{ScopeBody}
 use Rattle.gos_programs.specs.contexts.Renaming.{IsInjective, IsFreeOf, beside}
@@ -32,6 +32,7 @@ use Rattle.gos_programs.proofs.variables.WaitLemmas.{sources_wait, none_waits, w
 use Rattle.gos_programs.proofs.variables.UnfoldedLemmas.{waits_before, answers_value}
 use Rattle.gos_programs.proofs.variables.VariableLemmas.{placed_waits}
 use Rattle.gos_nodes.proofs.parallel.MoveLemmas.{Ended}
+use Rattle.gos_nodes.proofs.blocks.PlayedLemmas.{AllOthers, Left}
 use Rattle.gos_nodes.proofs.nodes.FollowedLemmas.{both_silent}
 
 -- the store of the variable alone, at location 0; all others are renamed to the next one
@@ -46,11 +47,6 @@ home w k = record { injective = injective; free = free; apart = λ l h. omega (a
 
     free : IsFreeOf suc (home_store w k)
     free l = later_at (variable_at 0 w k) [] (suc l) (λ h. omega (arith, h))
-
--- none of these labels is of the given port, nor of this import
-abbrev pub AllOthers : Name → List Label → Type 0
-AllOthers y [] = Unit {0}
-AllOthers y (l ∷ ls) = (l.port ≢ Given) × (l.port ≢ Taken y) × AllOthers y ls
 
 -- 1 where both hold
 abbrev if_both : Bool → Bool → ℕ
@@ -338,15 +334,7 @@ module _ (own wide whole : Program) (y : Name) (w : ℕ) (among : AreAmong own.i
       shown_then j 1 j 0 between next c start (variable_moves (taken y 3 0) j 1 j 0 refl (answer_write j) more between next start.to answered start.inside other)
 
   -- the body ends, and with it the block
-  pub record Left (o : Label) (c : Config) : Type 0 where
-    pub acts : List Act
-    pub silent : labels acts ≡ []
-    pub last : Term
-    pub store : Store
-    pub moves : Moves whole acts c (Running last store)
-    pub answers : Answers o last
-
-  pub leaves : (k : ℕ) (t : Term) (s : Store) (o : Label) (next c : Config) → Inside k 0 (Running t s) c → Ended own t s o next → Left o c
+  pub leaves : (k : ℕ) (t : Term) (s : Store) (o : Label) (next c : Config) → Inside k 0 (Running t s) c → Ended own t s o next → Left whole o c
   leaves k t s o next c i e =
       let (z, made, now) = inside_moves e.acts k 0 (Running t s) (Running e.term e.store) c (silent_others e.acts e.silent) i e.moves in
       let value : IsValue e.last = answers_value o e.last e.answers in

@@ -1,22 +1,19 @@
--- A list of a block is matched by moves of `new x : w in M`, where that of its body is matched by moves of M with the import.
-use Rattle.std.specs.Prelude.{◌≡◌, ◌≢◌, ℕ, List, [], ◌∷◌, ◌++◌, Option, Some, None, All, slice_get}
+-- A list of a block is matched by moves of its term, where that of its body is matched by moves of the body's, and the server is played.
+use Rattle.std.specs.Prelude.{◌≡◌, ◌≢◌, ℕ, true, false, List, [], ◌∷◌, ◌++◌, Option, Some, None, All, slice_get}
 use Rattle.std.proofs.Common.{arith, refl, sym, ap, subst, ◌∙◌}
-use Rattle.gos_types.specs.Events.{Direction, Request, Answer}
+use Rattle.gos_types.specs.Events.{Request, Answer}
 use Rattle.gos_types.proofs.BytesLemmas.{same_bytes_eq}
-use Rattle.gos_model.specs.Terms.{Name, Term, Import, New, Loc, Scope}
-use Rattle.gos_types.specs.Types.{Var}
-use Rattle.gos_model.specs.Typing.{Imported, Typed, import_type}
-use Rattle.gos_model.specs.Substitution.{instantiate}
+use Rattle.gos_model.specs.Terms.{Name, Term}
+use Rattle.gos_model.specs.Typing.{Imported}
 use Rattle.gos_model.specs.Stores.{Store}
 use Rattle.gos_model.specs.Labels.{Given, Taken, Label, given, taken}
 use Rattle.gos_model.specs.Moves.{Program, Config, Idle, Running, Act, Computing, Showing, Answers, Moves, labels, Stalled}
 use Rattle.gos_model.proofs.MoveLemmas.{idle_is_stalled, no_moves}
-use Rattle.gos_plan.specs.Kinds as kinds
 use Rattle.gos_plan.specs.Kinds.{Contact, asks}
-use Rattle.gos_plan.specs.Firing.{Phase, Rest, Active, State, Slot, Req, Ans, Row, at, row_for, rows}
-use Rattle.gos_plan.specs.Plans.{PartEnd, ImportEnd, ResultEnd, Plan, contact_at}
-use Rattle.gos_plan.specs.Tokens.{Tokens, Element, Fire, Out, In, places_of, held_at, with_token, firing_of, fired, Passes, Does, Runs, IsIdle, IsQuiet}
-use Rattle.gos_plan.specs.Orderly.{Open, none_open}
+use Rattle.gos_plan.specs.Firing.{Rest, State, Slot, Req, Ans, Row}
+use Rattle.gos_plan.specs.Plans.{ImportEnd, ResultEnd, Plan, contact_at}
+use Rattle.gos_plan.specs.Tokens.{Tokens, Element, Fire, Out, In, held_at, with_token, firing_of, fired, Passes, Does, Runs, IsIdle, IsQuiet}
+use Rattle.gos_plan.specs.Orderly.{Open, none_open, AllWelcome}
 use Rattle.gos_plan.specs.TokenBits.{LiteralFits}
 use Rattle.gos_plan.proofs.DecidedLemmas.{one_state}
 use Rattle.gos_nodes.specs.sessions.Sessions.{bits}
@@ -29,8 +26,6 @@ use Rattle.gos_realises.proofs.realises.ToldLemmas.{one_name, there_is}
 use Rattle.gos_realises.proofs.realises.InputLemmas.{passed, first_turn, later_turns}
 use Rattle.gos_realises.proofs.realises.MatchedLemmas.{matched_agrees}
 use Rattle.gos_programs.specs.contexts.Plugged.{AreInner}
-use Rattle.gos_programs.specs.contexts.Widening.{Knows}
-use Rattle.gos_programs.proofs.contexts.WideningLemmas.{sources_known, runs_known}
 use Rattle.gos_programs.proofs.contexts.InnerLemmas.{idle_inner}
 use Rattle.gos_nodes.proofs.windows.MeetLemmas.{IsUnjoined, HasPorts}
 use Rattle.gos_nodes.proofs.parallel.GateLemmas.{gate, Same, result_gate, part_gate}
@@ -41,18 +36,15 @@ use Rattle.gos_nodes.proofs.parallel.RegularLemmas.{comes_of_turn}
 use Rattle.gos_nodes.proofs.parallel.QuietLemmas.{Neat, neat_step}
 use Rattle.gos_nodes.proofs.parallel.MoveLemmas.{AllTaken, inner_from, Came, came_on, request_begins, answer_ends}
 use Rattle.gos_nodes.proofs.windows.AskedLemmas.{done_contact}
-use Rattle.gos_nodes.specs.blocks.Servers.{Server, run_of, begin_row, end_row, local_server}
+use Rattle.gos_nodes.specs.blocks.Servers.{run_of, begin_row, end_row}
 use Rattle.gos_nodes.specs.blocks.Block.{Block, IsBlock}
-use Rattle.gos_nodes.proofs.blocks.DriverLemmas as drivers
-use Rattle.gos_nodes.proofs.blocks.DriverLemmas.{LocalServes, is_read, is_write, local_begins, local_active, local_serves}
+use Rattle.gos_nodes.proofs.blocks.PlayedLemmas.{AllOthers, IsPlayed}
 use Rattle.gos_nodes.proofs.blocks.RegionLemmas as region
-use Rattle.gos_nodes.proofs.blocks.StepLemmas.{Supplies, Step, of_body, asked, told, starts, supplies, ended, lost, IsSeen, Served, firing_own, is_run}
+use Rattle.gos_nodes.proofs.blocks.StepLemmas.{Starts, Supplies, Ends, Step, of_body, asked, told, starts, supplies, ended, lost, IsSeen, own_firing, firing_own, is_run}
 use Rattle.gos_nodes.proofs.blocks.LinkedLemmas.{Driven, when_asking, seen, not_variable, asked_turn}
 use Rattle.gos_nodes.proofs.blocks.RegularLemmas.{Holds, Went, is_seen, lost_inside, inside_of}
 use Rattle.gos_nodes.proofs.blocks.WalkLemmas.{one_on, body_rest}
-use Rattle.gos_nodes.proofs.blocks.QuietLemmas.{local_firing, body_quiet, whole_idle}
-use Rattle.gos_nodes.proofs.blocks.ImportLemmas.{wide_imports, body_among, variable_typed, others_same, variable_new}
-use Rattle.gos_nodes.proofs.blocks.InsideLemmas.{home_store, AllOthers, Inside, inside_moves, silent_moves, reads, writes, leaves, inside_waits, begins, first_step}
+use Rattle.gos_nodes.proofs.blocks.QuietLemmas.{body_quiet, whole_idle}
 
 others_taken : (y : Name) (ls : List Label) → AllOthers y ls → AllTaken ls
 others_taken y [] apart = tt
@@ -60,61 +52,37 @@ others_taken y (l ∷ ls) apart = (apart.0, others_taken y ls apart.2)
 
 module _
     (r : Plan) (b : Block) (is : IsBlock r b) (literals : All LiteralFits r.parts) (differ : NamesDiffer r.imports)
-    (names : NamesDiffer b.body.imports) (width : ℕ) (local : b.server ≡ local_server width (bits r.outcome)) (m : Term)
-    (typed : Typed r.imports [] (New width m) r.outcome)
-    (source : Typed b.body.imports [] (instantiate m (Import b.variable.name)) b.body.outcome) where
+    (names : NamesDiffer b.body.imports) (inner_term term : Term) (Within : State → Config → Config → Type 0)
+    (played : IsPlayed b.server b.variable.name (program_of b.body inner_term) (program_of r term) Within) where
   abbrev on_body : Program
-  on_body = program_of b.body (instantiate m (Import b.variable.name))
+  on_body = program_of b.body inner_term
 
   abbrev on_whole : Program
-  on_whole = program_of r (New width m)
+  on_whole = program_of r term
 
-  abbrev on_wide : Program
-  on_wide = record { imports = wide_imports r b is differ; body = Import b.variable.name }
-
-  var_typed : import_type on_wide.imports b.variable.name ≡ Some (Var width)
-  var_typed = variable_typed r b is differ (Var width) (ap (λ (a : Server). a.supply) local)
-
-  -- the body within the block, whose variable has number k
-  abbrev Within : ℕ → Config → Config → Type 0
-  Within k inner c =
-      Inside on_body on_wide on_whole b.variable.name width (body_among r b is differ) var_typed (others_same r b is differ) k 0 inner c
-
-  -- how the whole stands with its body, by the part's phase and number, and by what lies on the joint of the result
-  data Stand (ph : Phase) (k : ℕ) (ask ans : Option ℕ) (inner c : Config) : Type 0 where
-    rests : ph ≡ Rest → ask ≡ None → ans ≡ None → inner ≡ Idle → c ≡ Idle → Stand ph k ask ans inner c
-    waits : ph ≡ Rest → ask ≡ Some 0 → ans ≡ None → inner ≡ Idle → c ≡ Running (New width m) [] → Stand ph k ask ans inner c
-    works : ph ≡ Active → ask ≡ None → ans ≡ None → Within k inner c → Stand ph k ask ans inner c
+  -- how the whole stands with its body, by the server's state, and by what lies on the joint of the result
+  data Stand (q : State) (ask ans : Option ℕ) (inner c : Config) : Type 0 where
+    rests : q.phase ≡ Rest → ask ≡ None → ans ≡ None → inner ≡ Idle → c ≡ Idle → Stand q ask ans inner c
+    waits : q.phase ≡ Rest → ask ≡ Some 0 → ans ≡ None → inner ≡ Idle → c ≡ Running term [] → Stand q ask ans inner c
+    works : b.server.runs q.phase ≡ true → ask ≡ None → ans ≡ None → Within q inner c → Stand q ask ans inner c
     is_done :
-        (v : ℕ) (last : Term) (x : Store) → ph ≡ Rest → ask ≡ None → ans ≡ Some v → inner ≡ Idle → c ≡ Running last x → Answers (given 1 v) last
-        → Stand ph k ask ans inner c
+        (v : ℕ) (last : Term) (x : Store) → q.phase ≡ Rest → ask ≡ None → ans ≡ Some v → inner ≡ Idle → c ≡ Running last x → Answers (given 1 v) last
+        → Stand q ask ans inner c
 
   abbrev Stood : Tokens → Config → Config → Type 0
-  Stood s inner c = Stand (s.state b.own).phase (s.state b.own).number (gate s Request) (gate s Answer) inner c
-
-  knows : (t : Term) (v : Store) → Came on_body (Running t v) → Knows b.body.imports t
-  knows t v (acts, moves) = runs_known on_body acts t v (sources_known b.body.imports [] (instantiate m (Import b.variable.name)) b.body.outcome source) moves
-
-  -- it is run at its third handshake
-  gate_at_run : places_of r (PartEnd b.own 3) ≡ Some (ResultEnd 0)
-  gate_at_run = ap (λ (a : Server). places_of r (PartEnd b.own (run_of a))) (sym local) ∙ part_gate (is_run r b is)
-
-  firing_in : (slot : Slot) (row : Row) (ph : Phase) (s : Tokens) → (s.state b.own).phase ≡ ph
-      → row_for slot (rows (kinds.Local width (bits r.outcome)) ph (s.state b.own).number) ≡ Some row → firing_of (slice_get r.parts b.own) (s.state b.own) slot ≡ Some row
-  firing_in = local_firing r b is literals width local
+  Stood s inner c = Stand (s.state b.own) (gate s Request) (gate s Answer) inner c
 
   -- where nothing is possible the whole can only wait
-  whole_waits : (s : Tokens) (inner c : Config) → Stood s inner c → IsQuiet r s → Agrees b.body on_body (cut_tokens b.cut b.body s) inner → Came on_body inner
-      → Stalled on_whole c
-  whole_waits s inner c (rests rest none empty inner_is is_idle) quiet agrees came = subst (Stalled on_whole) (sym is_idle) (idle_is_stalled on_whole)
-  whole_waits s inner c (waits rest some empty inner_is is_body) quiet agrees came =
-      absurd (quiet.0 b.own (Req 3) (fired r b.own drivers.begin_row 0 s)
-      (0, drivers.begin_row, ap (held_at s Request) gate_at_run ∙ some, firing_in (Req 3) drivers.begin_row Rest s rest refl, refl))
-  whole_waits s inner c (works active none empty i) quiet agrees came =
-      inside_waits on_body on_wide on_whole b.variable.name width (body_among r b is differ) var_typed (others_same r b is differ)
-      (s.state b.own).number inner c i (knows i.term i.store (subst (Came on_body) i.own_is came))
-      (agrees.0 (body_quiet r b is literals width local s quiet active))
-  whole_waits s inner c (is_done v last x rest none some inner_is is_last answers) quiet agrees came =
+  whole_waits : (s : Tokens) (inner c : Config) → Stood s inner c → AllWelcome r s → IsQuiet r s → Agrees b.body on_body (cut_tokens b.cut b.body s) inner
+      → Came on_body inner → Stalled on_whole c
+  whole_waits s inner c (rests rest none empty inner_is is_idle) welcome quiet agrees came = subst (Stalled on_whole) (sym is_idle) (idle_is_stalled on_whole)
+  whole_waits s inner c (waits rest some empty inner_is is_body) welcome quiet agrees came =
+      let (row, by) = is.server.begun (s.state b.own) rest in
+      absurd (quiet.0 b.own (Req (run_of b.server)) (fired r b.own row 0 s)
+      (0, row, ap (held_at s Request) (part_gate (is_run r b is)) ∙ some, own_firing r b is (Req (run_of b.server)) row s by, refl))
+  whole_waits s inner c (works runs none empty within) welcome quiet agrees came =
+      played.waits (s.state b.own) inner c came within (agrees.0 (body_quiet r b is literals s welcome quiet))
+  whole_waits s inner c (is_done v last x rest none some inner_is is_last answers) welcome quiet agrees came =
       let contact : contact_at r (ResultEnd 0) ≡ Some (asks 0 (bits r.outcome)) = done_contact r.outcome is.done in
       let next = with_token r (ResultEnd 0) Answer None s in
       absurd (quiet.1 (ResultEnd 0) v next (
@@ -130,8 +98,8 @@ module _
   whole_rests : (s : Tokens) (inner c : Config) → Stood s inner c → Neat r s → Agrees b.body on_body (cut_tokens b.cut b.body s) inner → c ≡ Idle → IsIdle r s
   whole_rests s inner c (rests rest none empty inner_is is_idle) neat agrees same =
       whole_idle r b is literals s neat (agrees.1 inner_is) rest none empty
-  whole_rests s inner c (waits rest some empty inner_is is_body) neat agrees same = absurd (running_not_idle (New width m) [] c is_body same)
-  whole_rests s inner c (works active none empty i) neat agrees same = absurd (running_not_idle _ _ c i.whole_is same)
+  whole_rests s inner c (waits rest some empty inner_is is_body) neat agrees same = absurd (running_not_idle term [] c is_body same)
+  whole_rests s inner c (works runs none empty within) neat agrees same = absurd (played.busy (s.state b.own) inner c within same)
   whole_rests s inner c (is_done v last x rest none some inner_is is_last answers) neat agrees same = absurd (running_not_idle last x c is_last same)
 
   -- what an element of the body shows is not at the variable
@@ -157,17 +125,20 @@ module _
   local_others x y (takes_in i j k v stands leads slices) =
       let (taken', other') = elsewhere i k stands (not_variable r b is literals i j k leads) in (taken', other', tt)
 
-  -- a request is taken
-  request_goes : (slot : Slot) (h : ℕ) → slot ≡ Req h → (s : Tokens) (acts : List Act) → GoesOn r s (Fire b.own slot) acts
-  request_goes slot h is_slot s acts = subst (λ (x : Slot). GoesOn r s (Fire b.own x) acts) (sym is_slot) tt
+  -- what the server takes goes on
+  own_goes : (slot : Slot) (row : Row) (s : Tokens) (acts : List Act) → firing_of (slice_get r.parts b.own) (s.state b.own) slot ≡ Some row
+      → GoesOn r s (Fire b.own slot) acts
+  own_goes (Req h) row s acts took = tt
+  own_goes (Ans h) row s acts took =
+      quiet_goes r b.own (Ans h) row s acts took (played.quiet (s.state b.own) h row (firing_own r b is (Ans h) row s took))
 
   -- the state of the part, where the joint of the result is as it was
   stand_same : (s w : Tokens) (inner c : Config) → w.state b.own ≡ s.state b.own → gate w Request ≡ gate s Request → gate w Answer ≡ gate s Answer
       → Stood s inner c → Stood w inner c
   stand_same s w inner c state ask ans stood =
-      subst (λ (x : State). Stand x.phase x.number (gate w Request) (gate w Answer) inner c) (sym state)
-      (subst (λ (x : Option ℕ). Stand (s.state b.own).phase (s.state b.own).number x (gate w Answer) inner c) (sym ask)
-      (subst (λ (x : Option ℕ). Stand (s.state b.own).phase (s.state b.own).number (gate s Request) x inner c) (sym ans) stood))
+      subst (λ (x : State). Stand x (gate w Request) (gate w Answer) inner c) (sym state)
+      (subst (λ (x : Option ℕ). Stand (s.state b.own) x (gate w Answer) inner c) (sym ask)
+      (subst (λ (x : Option ℕ). Stand (s.state b.own) (gate s Request) x inner c) (sym ans) stood))
 
   record Follows (x : Element) (s w : Tokens) (c : Config) (ys : List Element) : Type 0 where
     acts : List Act
@@ -183,54 +154,52 @@ module _
   clash_none : (v : ℕ) (o : Option ℕ) → o ≡ None → o ≡ Some v → ⊥
   clash_none v o none some = let bad : None ≡ Some v = sym none ∙ some in cc bad
 
-  clash_phase : (ph : Phase) → ph ≡ Rest → ph ≡ Active → ⊥
-  clash_phase ph rest active = let bad : Rest ≡ Active = sym rest ∙ active in cc bad
-
   -- which of the cases it is, and inner moves of the body
-  module _ (ph : Phase) (k : ℕ) (ask ans : Option ℕ) (inner c : Config) where
+  module _ (q : State) (ask ans : Option ℕ) (inner c : Config) where
     abbrev Here : Type 0
-    Here = Stand ph k ask ans inner c
+    Here = Stand q ask ans inner c
 
-    at_rest : Here → ph ≡ Rest → ask ≡ None → ans ≡ None → (inner ≡ Idle) × (c ≡ Idle)
+    clash_runs : q.phase ≡ Rest → b.server.runs q.phase ≡ true → ⊥
+    clash_runs rest runs = let bad : true ≡ false = sym runs ∙ (ap b.server.runs rest ∙ is.server.rests) in cc bad
+
+    at_rest : Here → q.phase ≡ Rest → ask ≡ None → ans ≡ None → (inner ≡ Idle) × (c ≡ Idle)
     at_rest (rests rest none empty inner_is is_idle) phase no_ask no_ans = (inner_is, is_idle)
     at_rest (waits rest some empty inner_is is_body) phase no_ask no_ans = absurd (clash_none 0 ask no_ask some)
-    at_rest (works active none empty i) phase no_ask no_ans = absurd (clash_phase ph phase active)
+    at_rest (works runs none empty within) phase no_ask no_ans = absurd (clash_runs phase runs)
     at_rest (is_done v last x rest none some inner_is is_last answers) phase no_ask no_ans = absurd (clash_none v ans no_ans some)
 
-    at_asked : (v : ℕ) → Here → ask ≡ Some v → (inner ≡ Idle) × (c ≡ Running (New width m) []) × (ans ≡ None)
+    at_asked : (v : ℕ) → Here → ask ≡ Some v → (inner ≡ Idle) × (c ≡ Running term []) × (ans ≡ None)
     at_asked v (rests rest none empty inner_is is_idle) some = absurd (clash_none v ask none some)
     at_asked v (waits rest here empty inner_is is_body) some = (inner_is, is_body, empty)
-    at_asked v (works active none empty i) some = absurd (clash_none v ask none some)
+    at_asked v (works runs none empty within) some = absurd (clash_none v ask none some)
     at_asked v (is_done n last x rest none here inner_is is_last answers) some = absurd (clash_none v ask none some)
 
     at_done : (v : ℕ) → Here → ans ≡ Some v
-        → (last : Term) × (x : Store) × (ph ≡ Rest) × (ask ≡ None) × (inner ≡ Idle) × (c ≡ Running last x) × Answers (given 1 v) last
+        → (last : Term) × (x : Store) × (q.phase ≡ Rest) × (ask ≡ None) × (inner ≡ Idle) × (c ≡ Running last x) × Answers (given 1 v) last
     at_done v (rests rest none empty inner_is is_idle) some = absurd (clash_none v ans empty some)
     at_done v (waits rest here empty inner_is is_body) some = absurd (clash_none v ans empty some)
-    at_done v (works active none empty i) some = absurd (clash_none v ans empty some)
+    at_done v (works runs none empty within) some = absurd (clash_none v ans empty some)
     at_done v (is_done n last x rest none here inner_is is_last answers) some =
         let both : Some n ≡ Some v = sym here ∙ some in
         let same : n ≡ v = cc both in
         (last, x, rest, none, inner_is, is_last, subst (λ (j : ℕ). Answers (given 1 j) last) same answers)
 
-    at_work : Here → ph ≡ Active → (ask ≡ None) × (ans ≡ None) × Within k inner c
-    at_work (rests rest none empty inner_is is_idle) phase = absurd (clash_phase ph rest phase)
-    at_work (waits rest here empty inner_is is_body) phase = absurd (clash_phase ph rest phase)
-    at_work (works active none empty i) phase = (none, empty, i)
-    at_work (is_done n last x rest none here inner_is is_last answers) phase = absurd (clash_phase ph rest phase)
+    at_work : Here → b.server.runs q.phase ≡ true → (ask ≡ None) × (ans ≡ None) × Within q inner c
+    at_work (rests rest none empty inner_is is_idle) runs = absurd (clash_runs rest runs)
+    at_work (waits rest here empty inner_is is_body) runs = absurd (clash_runs rest runs)
+    at_work (works also none empty within) runs = (none, empty, within)
+    at_work (is_done n last x rest none here inner_is is_last answers) runs = absurd (clash_runs rest runs)
 
     stand_moves : (acts : List Act) (next : Config) → AllOthers b.variable.name (labels acts) → AreInner acts → Here → Moves on_body acts inner next
-        → (e : Config) × Moves on_whole acts c e × Stand ph k ask ans next e
+        → (e : Config) × Moves on_whole acts c e × Stand q ask ans next e
     stand_moves acts next apart own (rests rest none empty inner_is is_idle) moves =
         let (stays, idle_now) = idle_inner on_body acts next own (subst (λ (x : Config). Moves on_body acts x next) inner_is moves) in
         (c, no_moves on_whole acts c stays, rests rest none empty idle_now is_idle)
     stand_moves acts next apart own (waits rest some empty inner_is is_body) moves =
         let (stays, idle_now) = idle_inner on_body acts next own (subst (λ (x : Config). Moves on_body acts x next) inner_is moves) in
         (c, no_moves on_whole acts c stays, waits rest some empty idle_now is_body)
-    stand_moves acts next apart own (works active none empty i) moves =
-        let (e, made, also) =
-        inside_moves on_body on_wide on_whole b.variable.name width (body_among r b is differ) var_typed (others_same r b is differ) acts k 0
-        inner next c apart i moves in (e, made, works active none empty also)
+    stand_moves acts next apart own (works runs none empty within) moves =
+        let (e, made, also) = played.others q acts inner next c apart within moves in (e, made, works runs none empty also)
     stand_moves acts next apart own (is_done v last x rest none some inner_is is_last answers) moves =
         let (stays, idle_now) = idle_inner on_body acts next own (subst (λ (x : Config). Moves on_body acts x next) inner_is moves) in
         (c, no_moves on_whole acts c stays, is_done v last x rest none some idle_now is_last answers)
@@ -260,7 +229,7 @@ module _
         let within = inner_from acts (shows b.body y) shown (others_taken b.variable.name (shows b.body y) others) in
         let now = stand_same s w inner c same.state (same.gates Request) (same.gates Answer) stood in
         let (e, made, stood_now) =
-        stand_moves (w.state b.own).phase (w.state b.own).number (gate w Request) (gate w Answer) inner c acts to apart within now moves in
+        stand_moves (w.state b.own) (gate w Request) (gate w Answer) inner c acts to apart within now moves in
         record {
           acts = acts;
           to = e;
@@ -292,134 +261,77 @@ module _
             let (x, at) = there_is b.body.imports i j none.contact none.own in
             other_import i x at (not_variable r b is literals i none.import j none.outer)
 
-    follow_starts : (s w : Tokens) (v : ℕ) → Does b.body (In (ResultEnd 0) 0) (cut_tokens b.cut b.body s) (cut_tokens b.cut b.body w) → gate s Request ≡ Some v
-        → w.state b.own ≡ at Active 0 → gate w Request ≡ None → gate w Answer ≡ gate s Answer → Stood s inner c → Came on_body inner
+    follow_starts : (s w : Tokens) (z : Starts r b s w) → Stood s inner c → Came on_body inner
         → IsMatched b.body on_body (In (ResultEnd 0) 0 ∷ ys) (cut_tokens b.cut b.body s) inner → Result (Fire b.own (Req (run_of b.server))) s w
-    follow_starts s w v does ask active none ans stood came (agrees, next) =
-        let (inner_is, is_body, empty) = at_asked (s.state b.own).phase (s.state b.own).number (gate s Request) (gate s Answer) inner c v stood ask in
-        let (acts, to, moves, shown, goes, rest) = next (cut_tokens b.cut b.body w) does in
+    follow_starts s w z stood came (agrees, next) =
+        let (inner_is, is_body, empty) = at_asked (s.state b.own) (gate s Request) (gate s Answer) inner c z.value stood z.ask in
+        let (acts, to, moves, shown, goes, rest) = next (cut_tokens b.cut b.body w) z.sees in
         let one = request_begins on_body acts to _ (subst (λ (x : Config). Moves on_body acts x to) inner_is moves) shown in
-        let first =
-        begins on_body on_wide on_whole b.variable.name width (body_among r b is differ) var_typed (others_same r b is differ) m r.outcome
-        b.body.outcome typed.2 (variable_new r b is differ) source in
-        let open_now : Config = Running (Scope 0 (instantiate m (Loc 0))) (home_store width 0) in
-        let more =
-        silent_moves on_body on_wide on_whole b.variable.name width (body_among r b is differ) var_typed (others_same r b is differ) one.acts 0 0
-        (Running (instantiate m (Import b.variable.name)) []) to open_now one.silent first one.moves in
-        let made : Moves on_whole (Computing ∷ more.acts) (Running (New width m) []) more.to = (open_now, first_step on_whole width m, more.moves) in
+        let slot = Req (run_of b.server) in
+        let (opened, step, first) =
+        played.begins (s.state b.own) z.next z.value (firing_own r b is slot (begin_row b.server z.next) s z.took) z.rest in
+        let (last, more, also) =
+        played.others (z.next z.value) one.acts (Running inner_term []) to opened (subst (AllOthers b.variable.name) (sym one.silent) tt) first one.moves in
+        let made : Moves on_whole (Computing ∷ one.acts) (Running term []) last = (opened, step, more) in
         record {
-          acts = Computing ∷ more.acts;
-          to = more.to;
+          acts = Computing ∷ one.acts;
+          to = last;
           inner_to = to;
-          moves = subst (λ (x : Config). Moves on_whole (Computing ∷ more.acts) x more.to) (sym is_body) made;
-          shown = more.silent;
+          moves = subst (λ (x : Config). Moves on_whole (Computing ∷ one.acts) x last) (sym is_body) made;
+          shown = one.silent;
           goes_on = tt;
           stood =
-              subst (λ (x : State). Stand x.phase x.number (gate w Request) (gate w Answer) to more.to) (sym active)
-              (works refl none (ans ∙ empty) more.inside);
+              works z.runs z.none (z.ans ∙ empty)
+              (subst (λ (x : State). Within x to last) (sym z.state) also);
           came = came_on on_body acts inner to came moves;
           matched = rest;
         }
 
-    follow_read : (slot : Slot) (s w : Tokens) (v : ℕ) → slot ≡ Req 1 → Served r b 0 v 0 (s.state b.own).number s w → (s.state b.own).phase ≡ Active
-        → w.state b.own ≡ at Active (s.state b.own).number → ((way : Direction) → gate w way ≡ gate s way) → Stood s inner c → Came on_body inner
-        → IsMatched b.body on_body (Out (ImportEnd b.place 0) v ∷ In (ImportEnd b.place 0) (s.state b.own).number ∷ ys) (cut_tokens b.cut b.body s) inner
+    follow_supply : (slot : Slot) (s w : Tokens) (z : Supplies r b slot s w) → Stood s inner c → Came on_body inner
+        → IsMatched b.body on_body (Out (ImportEnd b.place z.serves.at) z.value ∷ In (ImportEnd b.place z.serves.back) (z.serves.number z.value) ∷ ys) (cut_tokens b.cut b.body s) inner
         → Result (Fire b.own slot) s w
-    follow_read slot s w v is_slot (s1, does, (s2, also, last)) active state gates stood came (agrees, next) =
-        let (none, empty, i) = at_work (s.state b.own).phase (s.state b.own).number (gate s Request) (gate s Answer) inner c stood active in
+    follow_supply slot s w z stood came (agrees, next) =
+        let (none, empty, within) = at_work (s.state b.own) (gate s Request) (gate s Answer) inner c stood z.serves.running in
+        let (s1, does, (s2, also, last)) = z.served in
         let (first, between, moves, shown, goes, (agrees', next')) = next s1 does in
         let (second, to, more, answered, goes', rest) = next' s2 also in
         let all =
-        reads on_body on_wide on_whole b.variable.name width (body_among r b is differ) var_typed (others_same r b is differ)
-        (s.state b.own).number v first second inner between to c
-        (shown ∙ request_label 0 v)
-        (answered ∙ answer_label 0 (s.state b.own).number) i moves more in
+        played.serves (s.state b.own) slot z.row z.serves z.value first second inner between to c (firing_own r b is slot z.row s z.took) came
+        (shown ∙ request_label z.serves.at z.value)
+        (answered ∙ answer_label z.serves.back (z.serves.number z.value)) within moves more in
         record {
           acts = all.acts;
           to = all.to;
           inner_to = to;
           moves = all.moves;
           shown = all.silent;
-          goes_on = request_goes slot 1 is_slot s all.acts;
+          goes_on = own_goes slot z.row s all.acts z.took;
           stood =
-              subst (λ (x : State). Stand x.phase x.number (gate w Request) (gate w Answer) to all.to) (sym state)
-              (works refl (gates Request ∙ none) (gates Answer ∙ empty) all.inside);
+              works (ap (λ (x : State). b.server.runs x.phase) z.state ∙ z.serves.stays z.value) (z.gates Request ∙ none) (z.gates Answer ∙ empty)
+              (subst (λ (x : State). Within x to all.to) (sym z.state) all.within);
           came = came_on on_body second between to (came_on on_body first inner between came moves) more;
           matched = subst (λ a. IsMatched b.body on_body ys a to) (sym last) rest;
         }
 
-    follow_write : (slot : Slot) (s w : Tokens) (v : ℕ) → slot ≡ Req 2 → Served r b 1 v 1 0 s w → (s.state b.own).phase ≡ Active → w.state b.own ≡ at Active v
-        → ((way : Direction) → gate w way ≡ gate s way) → Stood s inner c → Came on_body inner
-        → IsMatched b.body on_body (Out (ImportEnd b.place 1) v ∷ In (ImportEnd b.place 1) 0 ∷ ys) (cut_tokens b.cut b.body s) inner → Result (Fire b.own slot) s w
-    follow_write slot s w v is_slot (s1, does, (s2, also, last)) active state gates stood came (agrees, next) =
-        let (none, empty, i) = at_work (s.state b.own).phase (s.state b.own).number (gate s Request) (gate s Answer) inner c stood active in
-        let (first, between, moves, shown, goes, (agrees', next')) = next s1 does in
-        let (second, to, more, answered, goes', rest) = next' s2 also in
-        let all =
-        writes on_body on_wide on_whole b.variable.name width (body_among r b is differ) var_typed (others_same r b is differ)
-        (s.state b.own).number v first second inner between to c
-        (shown ∙ request_label 1 v)
-        (answered ∙ answer_label 1 0) i moves more in
-        record {
-          acts = all.acts;
-          to = all.to;
-          inner_to = to;
-          moves = all.moves;
-          shown = all.silent;
-          goes_on = request_goes slot 2 is_slot s all.acts;
-          stood =
-              subst (λ (x : State). Stand x.phase x.number (gate w Request) (gate w Answer) to all.to) (sym state)
-              (works refl (gates Request ∙ none) (gates Answer ∙ empty) all.inside);
-          came = came_on on_body second between to (came_on on_body first inner between came moves) more;
-          matched = subst (λ a. IsMatched b.body on_body ys a to) (sym last) rest;
-        }
-
-    -- what the server serves is a read or a write
-    module _ (slot : Slot) (s w : Tokens) (z : Supplies r b slot s w) (stood : Stood s inner c) (came : Came on_body inner) where
-      abbrev Fits : ℕ → ℕ → ℕ → Type 0
-      Fits h j n =
-          Served r b h z.value j n s w
-          × IsMatched b.body on_body (Out (ImportEnd b.place h) z.value ∷ In (ImportEnd b.place j) n ∷ ys) (cut_tokens b.cut b.body s) inner
-
-      at_those : (h j n : ℕ) → z.serves.at ≡ h → z.serves.back ≡ j → z.serves.number z.value ≡ n → Fits z.serves.at z.serves.back (z.serves.number z.value) → Fits h j n
-      at_those h j n first last number fits =
-          subst (λ (x : ℕ). Fits x j n) first (subst (λ (x : ℕ). Fits z.serves.at x n) last (subst (λ (x : ℕ). Fits z.serves.at z.serves.back x) number fits))
-
-      follow_supply : IsMatched b.body on_body (Out (ImportEnd b.place z.serves.at) z.value ∷ In (ImportEnd b.place z.serves.back) (z.serves.number z.value) ∷ ys) (cut_tokens b.cut b.body s) inner
-          → Result (Fire b.own slot) s w
-      follow_supply matched =
-          by_case
-          (local_serves b.server width (bits r.outcome) local (s.state b.own) slot z.row (firing_own r b is slot z.row s z.took) z.serves)
-        where
-          by_case : LocalServes b.server (s.state b.own) slot z.row z.serves → Result (Fire b.own slot) s w
-          by_case (is_read active is_slot first last number next) =
-              let n = (s.state b.own).number in
-              let fits = at_those 0 0 n first last (number z.value) (z.served, matched) in
-              follow_read slot s w z.value is_slot fits.0 active (z.state ∙ next z.value) z.gates stood came fits.1
-          by_case (is_write active is_slot first last number next) =
-              let fits = at_those 1 1 0 first last (number z.value) (z.served, matched) in
-              follow_write slot s w z.value is_slot fits.0 active (z.state ∙ next z.value) z.gates stood came fits.1
-
-    follow_ended : (s w : Tokens) (v : ℕ) → Does b.body (Out (ResultEnd 0) v) (cut_tokens b.cut b.body s) (cut_tokens b.cut b.body w) → (s.state b.own).phase ≡ Active
-        → (w.state b.own).phase ≡ Rest → gate w Request ≡ gate s Request → gate w Answer ≡ Some v → Stood s inner c → Came on_body inner
-        → IsMatched b.body on_body (Out (ResultEnd 0) v ∷ ys) (cut_tokens b.cut b.body s) inner → Result (Fire b.own (Ans 0)) s w
-    follow_ended s w v does active rest' ask ans stood came (agrees, next) =
-        let n = (s.state b.own).number in
-        let (none, empty, i) = at_work (s.state b.own).phase n (gate s Request) (gate s Answer) inner c stood active in
-        let (acts, to, moves, shown, goes, rest) = next (cut_tokens b.cut b.body w) does in
+    follow_ended : (s w : Tokens) (z : Ends r b s w) → Stood s inner c → Came on_body inner
+        → IsMatched b.body on_body (Out (ResultEnd 0) z.value ∷ ys) (cut_tokens b.cut b.body s) inner → Result (Fire b.own (Ans 0)) s w
+    follow_ended s w z stood came (agrees, next) =
+        let (none, empty, within) = at_work (s.state b.own) (gate s Request) (gate s Answer) inner c stood z.runs in
+        let (t, u, is_running) = played.runs (s.state b.own) inner c within in
+        let (acts, to, moves, shown, goes, rest) = next (cut_tokens b.cut b.body w) z.sees in
         let e =
-        answer_ends on_body acts i.term i.store to (given 1 v) refl (subst (λ (x : Config). Moves on_body acts x to) i.own_is moves) (shown ∙ told_label v) in
+        answer_ends on_body acts t u to (given 1 z.value) refl (subst (λ (x : Config). Moves on_body acts x to) is_running moves) (shown ∙ told_label z.value) in
         let left =
-        leaves on_body on_wide on_whole b.variable.name width (body_among r b is differ) var_typed (others_same r b is differ) n i.term i.store
-        (given 1 v) to c (subst (λ (x : Config). Within n x c) i.own_is i) e in
+        played.leaves (s.state b.own) z.next t u (given 1 z.value) to c (firing_own r b is (Ans 0) (end_row b.server z.next) s z.took)
+        (subst (λ (x : Config). Within (s.state b.own) x c) is_running within) e in
         record {
           acts = left.acts;
           to = Running left.last left.store;
           inner_to = to;
           moves = left.moves;
           shown = left.silent;
-          goes_on = quiet_goes r b.own (Ans 0) (drivers.end_row n) s left.acts (firing_in (Ans 0) (drivers.end_row n) Active s active refl) (λ v. refl);
-          stood = is_done v left.last left.store rest' (ask ∙ none) ans e.idle (refl {a = Running left.last left.store}) left.answers;
+          goes_on = own_goes (Ans 0) (end_row b.server z.next) s left.acts z.took;
+          stood = is_done z.value left.last left.store z.rest (z.ask ∙ none) z.ans e.idle (refl {a = Running left.last left.store}) left.answers;
           came = came_on on_body acts inner to came moves;
           matched = rest;
         }
@@ -430,14 +342,14 @@ module _
     follow x s w (asked v s' w' small unseen state ask ans) seen_so driven comes stood came matched =
         let (rest, none, empty) =
         when_asking b.server.runs is.server.rests (is_open past (ResultEnd 0)) (s'.state b.own).phase (gate s' Request) (gate s' Answer) driven.stage (asked_turn r b is literals past comes) in
-        let (inner_is, is_idle) = at_rest (s'.state b.own).phase (s'.state b.own).number (gate s' Request) (gate s' Answer) inner c stood rest none empty in
+        let (inner_is, is_idle) = at_rest (s'.state b.own) (gate s' Request) (gate s' Answer) inner c stood rest none empty in
         record {
           acts = Showing (given 0 0) ∷ [];
-          to = Running (New width m) [];
+          to = Running term [];
           inner_to = inner;
           moves =
-              subst (λ (x : Config). Moves on_whole (Showing (given 0 0) ∷ []) x (Running (New width m) [])) (sym is_idle)
-              (Running (New width m) [], (refl, refl), refl);
+              subst (λ (x : Config). Moves on_whole (Showing (given 0 0) ∷ []) x (Running term [])) (sym is_idle)
+              (Running term [], (refl, refl), refl);
           shown = λ t. given 0 (sym small t) ∷ [];
           goes_on = tt;
           stood = waits (ap (λ q. q.phase) state ∙ rest) (ask ∙ ap (λ k. Some k) small) (ans ∙ empty) inner_is refl;
@@ -446,7 +358,7 @@ module _
         }
     follow x s w (told v s' w' unseen state ans none ask) seen_so driven comes stood came matched =
         let (last, store, rest, empty, inner_is, is_last, answers) =
-        at_done (s'.state b.own).phase (s'.state b.own).number (gate s' Request) (gate s' Answer) inner c v stood ans in
+        at_done (s'.state b.own) (gate s' Request) (gate s' Answer) inner c v stood ans in
         record {
           acts = Showing (given 1 v) ∷ [];
           to = Idle;
@@ -459,19 +371,9 @@ module _
           came = came;
           matched = subst (λ a. IsMatched b.body on_body ys a inner) (sym unseen) matched;
         }
-    follow x s w (starts s' w' z) seen_so driven comes stood came matched =
-        let slot = Req (run_of b.server) in
-        let row = begin_row b.server z.next in
-        let begins_so =
-        local_begins b.server width (bits r.outcome) local (s'.state b.own) slot row (firing_own r b is slot row s' z.took) z.rest in
-        let active : w'.state b.own ≡ at Active 0 = z.state ∙ ap (λ (y : Row). y.next z.value) begins_so in
-        follow_starts s' w' z.value z.sees z.ask active z.none z.ans stood came matched
+    follow x s w (starts s' w' z) seen_so driven comes stood came matched = follow_starts s' w' z stood came matched
     follow x s w (supplies slot s' w' z) seen_so driven comes stood came matched = follow_supply slot s' w' z stood came matched
-    follow x s w (ended s' w' z) seen_so driven comes stood came matched =
-        let row = end_row b.server z.next in
-        let active =
-        local_active b.server width (bits r.outcome) local (s'.state b.own) (Ans 0) row (firing_own r b is (Ans 0) row s' z.took) z.runs in
-        follow_ended s' w' z.value z.sees active z.rest z.ask z.ans stood came matched
+    follow x s w (ended s' w' z) seen_so driven comes stood came matched = follow_ended s' w' z stood came matched
     follow x s w (lost j k v s' w' t there none unseen same) seen_so driven comes stood came matched =
         absurd seen_so
 
@@ -491,7 +393,7 @@ module _
         → IsMatched b.body on_body (body_rest r b is literals ports regular first resting xs s t past hs o lo holds runs turns) (cut_tokens b.cut b.body s) inner
         → IsMatched r on_whole xs s c
     matches [] s t past hs o lo holds runs turns neat inner c stood came matched = (
-      λ quiet. whole_waits s inner c stood quiet matched came,
+      λ quiet. whole_waits s inner c stood holds.welcome quiet matched came,
       λ same. whole_rests s inner c stood neat matched same,
     )
     matches (x ∷ xs) s t past hs o lo holds (w, does, runs) turns neat inner c stood came matched =
@@ -504,7 +406,7 @@ module _
         goes past (passed b.body [] hs) inner c ys x s w one.went holds.driven (comes_of_turn r past x (first_turn r past x xs turns)) stood came matched in
         let more =
         matches xs w t (after r x past) hs_on one.now one.lo one.holds runs later (neat_step r x s w does neat) on.inner_to on.to on.stood on.came on.matched in (
-          (λ quiet. whole_waits s inner c stood quiet agrees came, λ same. whole_rests s inner c stood neat agrees same),
+          (λ quiet. whole_waits s inner c stood holds.welcome quiet agrees came, λ same. whole_rests s inner c stood neat agrees same),
           λ u also. (
             on.acts,
             on.to,

@@ -1,12 +1,12 @@
--- Where the whole is quiet the body of a local variable is, and where the body and its server are idle the whole is.
-use Rattle.std.specs.Prelude.{◌≡◌, ◌⊎◌, ℕ, zero, suc, Option, Some, None, All, slice_get}
+-- Where the whole is quiet the body is, and where the body and its server are idle the whole is.
+use Rattle.std.specs.Prelude.{◌≡◌, ◌⊎◌, ℕ, suc, Option, Some, None, All, slice_get}
 use Rattle.std.proofs.Common.{refl, sym, ap, subst, inl, inr, ◌∙◌}
-use Rattle.gos_types.specs.Types.{Var}
 use Rattle.gos_types.specs.Events.{Direction, Request, Answer}
-use Rattle.gos_plan.specs.Kinds.{Contact, Local, contacts_of}
-use Rattle.gos_plan.specs.Firing.{Phase, Rest, Active, Slot, Req, Ans, Row, at, row_for, rows, firing}
-use Rattle.gos_plan.specs.Plans.{End, PartEnd, ImportEnd, ResultEnd, Plan, contact_at}
-use Rattle.gos_plan.specs.Tokens.{Tokens, Out, token_at, firing_of, fired, Passes, IsIdle, IsQuiet}
+use Rattle.gos_plan.specs.Kinds.{Part, Contact, asks, contacts_of, part_contacts}
+use Rattle.gos_plan.specs.Firing.{Rest, Slot, Req, Ans}
+use Rattle.gos_plan.specs.Plans.{End, PartEnd, ImportEnd, ResultEnd, Plan, contact_at, contacts_of_part}
+use Rattle.gos_plan.specs.Tokens.{Tokens, Fire, Out, end_of, way_of, way_taken, token_at, fired, Passes, Does, IsIdle, IsQuiet}
+use Rattle.gos_plan.specs.Orderly.{AllWelcome}
 use Rattle.gos_plan.specs.TokenBits.{LiteralFits}
 use Rattle.gos_joining.specs.webs.Cutting.{cut_tokens}
 use Rattle.gos_nodes.specs.sessions.Sessions.{bits}
@@ -14,66 +14,69 @@ use Rattle.gos_nodes.specs.parallel.Parallel.{IsJointOf, IsPartOf}
 use Rattle.gos_nodes.proofs.parallel.GateLemmas.{gate}
 use Rattle.gos_nodes.proofs.parallel.HungLemmas.{IsHung}
 use Rattle.gos_nodes.proofs.parallel.QuietLemmas.{Neat, idle_by_parts, joint_empty, part_rests, lies_there, import_quiet, region_quiet}
-use Rattle.gos_nodes.specs.blocks.Servers.{Server, run_of, local_server}
+use Rattle.gos_nodes.specs.blocks.Servers.{run_of}
 use Rattle.gos_nodes.specs.blocks.Block.{Block, IsBlock}
-use Rattle.gos_nodes.proofs.blocks.DriverLemmas as drivers
-use Rattle.gos_nodes.proofs.blocks.DriverLemmas.{read_row, write_row, end_row}
+use Rattle.gos_nodes.proofs.blocks.ServerLemmas.{body_contact, supply_contact}
 use Rattle.gos_nodes.proofs.blocks.RegionLemmas as region
 use Rattle.gos_nodes.proofs.blocks.RegionLemmas.{Which, variable, other, which}
-use Rattle.gos_nodes.proofs.blocks.StepLemmas.{own_firing}
 
 module _ (r : Plan) (b : Block) (is : IsBlock r b) (literals : All LiteralFits r.parts) where
   hung : IsHung b.own 0 (bits r.outcome) b.cut r b.body
   hung = region.hung_body r b is
 
-  -- a request at the variable is served
-  served_fires : (k v : ℕ) (row : Row) (s : Tokens) → IsQuiet r s → firing_of (slice_get r.parts b.own) (s.state b.own) (Req (suc k)) ≡ Some row
-      → token_at b.body (cut_tokens b.cut b.body s) (ImportEnd b.place k) Request ≡ Some v → ⊥
-  served_fires k v row s quiet by lies =
-      let here : token_at r s (PartEnd b.own (suc k)) Request ≡ Some v =
-      ap (λ (e : End). token_at r s e Request) (sym (is.served k)) ∙ lies_there hung b.place k Request v s lies in
-      quiet.0 b.own (Req (suc k)) (fired r b.own row v s) (v, row, here, by, refl)
+  -- a token that lies where the server takes it would be taken
+  taken_fires : (t : Slot) (c : Contact) (v : ℕ) (s : Tokens) → AllWelcome r s → IsQuiet r s → contact_at r (end_of b.own t) ≡ Some c → way_taken c.role ≡ way_of t
+      → token_at r s (end_of b.own t) (way_of t) ≡ Some v → (w : Tokens) × Does r (Fire b.own t) s w
+  taken_fires t c v s welcome quiet there way lies =
+      let (row, by) = welcome b.own t c v there way lies in (fired r b.own row v s, (v, row, lies, by, refl))
 
-  module _ (w : ℕ) (local : b.server ≡ local_server w (bits r.outcome)) where
-    -- the rows of a local variable
-    pub local_firing : (slot : Slot) (row : Row) (ph : Phase) (s : Tokens) → (s.state b.own).phase ≡ ph
-        → row_for slot (rows (Local w (bits r.outcome)) ph (s.state b.own).number) ≡ Some row → firing_of (slice_get r.parts b.own) (s.state b.own) slot ≡ Some row
-    local_firing slot row ph s phase known =
-        own_firing r b is slot row s
-        (ap (λ (a : Server). firing a.part (s.state b.own) slot) local ∙ drivers.local_firing w (bits r.outcome) (s.state b.own) slot row ph phase known)
+  own_contact : (h : ℕ) (c : Contact) → slice_get (part_contacts b.server.part) h ≡ Some c → contact_at r (PartEnd b.own h) ≡ Some c
+  own_contact h c there = ap (λ (o : Option Part). slice_get (contacts_of_part o) h) is.own ∙ there
 
-    local_contact : (h : ℕ) → contact_at b.body (ImportEnd b.place h) ≡ slice_get (contacts_of (Var w)) h
-    local_contact h = region.variable_contact r b is h ∙ ap (λ (a : Server). slice_get (contacts_of a.supply) h) local
+  module _ (s : Tokens) (welcome : AllWelcome r s) (quiet : IsQuiet r s) where
+    -- what the body puts at the variable is taken
+    supply_fires : (k v : ℕ) (c : Contact) → slice_get (contacts_of b.server.supply) k ≡ Some c
+        → token_at b.body (cut_tokens b.cut b.body s) (ImportEnd b.place k) (way_taken c.role) ≡ Some v → ⊥
+    supply_fires k v c there lies = by_way (way_taken c.role) refl
+      where
+        here : token_at r s (PartEnd b.own (suc k)) (way_taken c.role) ≡ Some v
+        here = ap (λ (e : End). token_at r s e (way_taken c.role)) (sym (is.served k)) ∙ lies_there hung b.place k (way_taken c.role) v s lies
 
-    at_variable : (k v : ℕ) (s u : Tokens) → IsQuiet r s → (s.state b.own).phase ≡ Active
-        → Passes b.body (Out (ImportEnd b.place k) v) (contact_at b.body (ImportEnd b.place k)) (cut_tokens b.cut b.body s) u → ⊥
-    at_variable zero v s u quiet active passes =
-        let here =
-        subst (λ (o : Option Contact). Passes b.body (Out (ImportEnd b.place 0) v) o (cut_tokens b.cut b.body s) u)
-        (local_contact 0) passes in
-        let row = read_row (s.state b.own).number in
-        served_fires 0 v row s quiet (local_firing (Req 1) row Active s active refl) here.0
-    at_variable (suc zero) v s u quiet active passes =
-        let here =
-        subst (λ (o : Option Contact). Passes b.body (Out (ImportEnd b.place 1) v) o (cut_tokens b.cut b.body s) u)
-        (local_contact 1) passes in
-        served_fires 1 v write_row s quiet (local_firing (Req 2) write_row Active s active refl) here.0
-    at_variable (suc (suc k)) v s u quiet active passes =
-        subst (λ (o : Option Contact). Passes b.body (Out (ImportEnd b.place (suc (suc k))) v) o (cut_tokens b.cut b.body s) u)
-        (local_contact (suc (suc k))) passes
+        at_own : contact_at r (PartEnd b.own (suc k)) ≡ Some c
+        at_own = own_contact (suc k) c (supply_contact b.server (bits r.outcome) is.server k c there)
 
-    pub body_quiet : (s : Tokens) → IsQuiet r s → (s.state b.own).phase ≡ Active → IsQuiet b.body (cut_tokens b.cut b.body s)
-    body_quiet s quiet active =
+        by_way : (way : Direction) → way_taken c.role ≡ way → ⊥
+        by_way Request way =
+            let (w, does) =
+            taken_fires (Req (suc k)) c v s welcome quiet at_own way (subst (λ (x : Direction). token_at r s (PartEnd b.own (suc k)) x ≡ Some v) way here) in
+            quiet.0 b.own (Req (suc k)) w does
+        by_way Answer way =
+            let (w, does) =
+            taken_fires (Ans (suc k)) c v s welcome quiet at_own way (subst (λ (x : Direction). token_at r s (PartEnd b.own (suc k)) x ≡ Some v) way here) in
+            quiet.0 b.own (Ans (suc k)) w does
+
+    at_variable : (k v : ℕ) (u : Tokens) → Passes b.body (Out (ImportEnd b.place k) v) (contact_at b.body (ImportEnd b.place k)) (cut_tokens b.cut b.body s) u → ⊥
+    at_variable k v u passes =
+        by_contact (slice_get (contacts_of b.server.supply) k) refl
+        (subst (λ (o : Option Contact). Passes b.body (Out (ImportEnd b.place k) v) o (cut_tokens b.cut b.body s) u) (region.variable_contact r b is k) passes)
+      where
+        by_contact : (o : Option Contact) → slice_get (contacts_of b.server.supply) k ≡ o
+            → Passes b.body (Out (ImportEnd b.place k) v) o (cut_tokens b.cut b.body s) u → ⊥
+        by_contact None there none = none
+        by_contact (Some c) there lies = supply_fires k v c there lies.0
+
+    pub body_quiet : IsQuiet b.body (cut_tokens b.cut b.body s)
+    body_quiet =
         region_quiet hung (region.body_done r b is) s quiet
         (λ v lies.
-        let row = end_row (s.state b.own).number in
-        (fired r b.own row v s, (v, row, lies, local_firing (Ans 0) row Active s active refl, refl)))
+        taken_fires (Ans 0) (asks 0 (bits r.outcome)) v s welcome quiet
+        (own_contact 0 (asks 0 (bits r.outcome)) (body_contact b.server (bits r.outcome) is.server)) refl lies)
         (λ i k v u passes. at_import i k v u (which b i) passes)
       where
         at_import : (i k v : ℕ) (u : Tokens) → Which b i
             → Passes b.body (Out (ImportEnd i k) v) (contact_at b.body (ImportEnd i k)) (cut_tokens b.cut b.body s) u → ⊥
         at_import i k v u (variable same) passes =
-            at_variable k v s u quiet active
+            at_variable k v u
             (subst (λ n. Passes b.body (Out (ImportEnd n k) v) (contact_at b.body (ImportEnd n k)) (cut_tokens b.cut b.body s) u) same passes)
         at_import i k v u (other apart) passes =
             import_quiet hung i k v s u quiet (λ stands. let (j, leads, same) = is.imports i k apart stands in (j, leads)) passes

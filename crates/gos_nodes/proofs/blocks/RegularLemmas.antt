@@ -64,6 +64,7 @@ module _
     pub body : History b.body (Inside first) (Inside s) hs lo
     opened : Opened r b is literals past o lo s
     pub sound : Sound r b s
+    pub welcome : AllWelcome r s
     open_ports : Ports r is.cut.whole_right o past
 
   -- which step an element is: one that the body sees by itself, or an input at an end in no joint
@@ -101,7 +102,7 @@ module _
           now = now;
           lo = own_now;
           comes = comes;
-          welcome = welcome_all r b is literals w (after r x past) (passed b.body [] (hs ++ ys)) now own_now driven_on next.turned ready opened welcome;
+          welcome = welcome_now;
           holds =
               record {
                 driven = driven_on;
@@ -109,6 +110,7 @@ module _
                 body = history;
                 opened = opened;
                 sound = sound_on r b is literals x s w holds.sound does;
+                welcome = welcome_now;
                 open_ports = ports_after r is.cut.whole_right x o now s w past does comes holds.open_ports;
               };
           output = output (whole_turned r b is ports (after r x past) (passed b.body [] (hs ++ ys)) w driven_on shared_on next.turned);
@@ -134,6 +136,10 @@ module _
             let further =
             grow b.body regular (Inside first) (Inside w) u (hs ++ ys) (Out e v ∷ []) own_now body_idle history (u, one, refl) tt in
             further.outputs
+
+        welcome_now : AllWelcome r w
+        welcome_now =
+            welcome_all r b is literals w (after r x past) (passed b.body [] (hs ++ ys)) now own_now driven_on next.turned ready opened welcome
 
     seen_step : (z : Step r b x s w) → IsSeen r b x s w z → InputTurns r past x → After x s w past hs o
     seen_step z seen_so turn =
@@ -283,6 +289,7 @@ module _
             at_first b.body (Inside first) (closed_turned b.body (body_done r b is) [] (λ k h. refl)) (idle_welcome b.body (Inside first) body_idle);
         opened = opened_first r b is literals first rests;
         sound = sound_first r b is first rests;
+        welcome = idle_welcome r first rests;
         open_ports = λ e port up. absurd (cc up);
       }
 

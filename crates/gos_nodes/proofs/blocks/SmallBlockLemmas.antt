@@ -26,16 +26,16 @@ use Rattle.gos_nodes.specs.blocks.SmallBlocks.{skip_block, one_bit, unused, new_
 whole_is_right : IsRight new_skip
 whole_is_right = (((0, 0, refl, refl), refl, refl), (((0, 0, refl, refl), refl, refl), tt))
 
-its_parts : (i : ℕ) (k : Part) → slice_get unused.parts i ≡ Some k → (slice_get new_skip.parts 1 ≡ Some k) × (Some 0 ≡ Some i)
+pub its_parts : (i : ℕ) (k : Part) → slice_get unused.parts i ≡ Some k → (slice_get new_skip.parts 1 ≡ Some k) × (Some 0 ≡ Some i)
 its_parts zero k is = (is, refl)
 its_parts (suc i) k is = absurd (none-some k is)
 
-its_numbers : (i j : ℕ) → skip_number i ≡ Some j → (1 ≡ i) × ((k : Part) × (slice_get unused.parts j ≡ Some k))
+pub its_numbers : (i j : ℕ) → skip_number i ≡ Some j → (1 ≡ i) × ((k : Part) × (slice_get unused.parts j ≡ Some k))
 its_numbers zero j is = absurd (none-some j is)
 its_numbers (suc zero) j is = (refl, (Skip, ap (λ n. slice_get unused.parts n) (sym (same_Some 0 j is))))
 its_numbers (suc (suc i)) j is = absurd (none-some j is)
 
-its_inners : (x e : End) → body_inner x ≡ Some e → IsPortEnd e × StandsIn unused e × (body_outer e ≡ x)
+pub its_inners : (x e : End) → body_inner x ≡ Some e → IsPortEnd e × StandsIn unused e × (body_outer e ≡ x)
 its_inners (PartEnd zero zero) e is =
     subst (λ x. IsPortEnd x × StandsIn unused x × (body_outer x ≡ PartEnd 0 0)) (same_Some (ResultEnd 0) e is)
     (tt, (joint (ResultEnd 0) (PartEnd 0 0), (0, omega arith, refl), refl), refl)

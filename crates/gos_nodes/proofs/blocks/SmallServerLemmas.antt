@@ -1,11 +1,12 @@
 -- What is no server: other parts in the place of a Local, other supplies, and a Local of which something else is said.
 use Rattle.std.specs.Prelude.{◌≡◌, ℕ, suc, true, false, List, [], ◌∷◌, ◌++◌, Option, Some, None, length, slice_get}
 use Rattle.std.proofs.Common.{arith, refl, sym, ap, ◌∙◌}
+use Rattle.std.proofs.lemmas.Option.{none-some}
 use Rattle.gos_types.specs.Types.{Exp, Var}
 use Rattle.gos_plan.specs.Kinds.{Contact, Lit, Seq, Share, contacts_of, part_contacts, serves}
-use Rattle.gos_plan.specs.Firing.{Phase, Rest, Slot, Req, Row, at}
-use Rattle.gos_nodes.specs.blocks.Servers.{Server, run_of, IsServer, ServerRow, begins, serves_one, ends, local_server}
-use Rattle.gos_nodes.specs.blocks.SmallServers.{OthersAreNone, TypeIsNeeded, OpenIsNone}
+use Rattle.gos_plan.specs.Firing.{Phase, Rest, Reading, Slot, Req, Row, at}
+use Rattle.gos_nodes.specs.blocks.Servers.{Server, run_of, IsServer, ServerRow, begins, serves_one, ends, local_server, array_server}
+use Rattle.gos_nodes.specs.blocks.SmallServers.{OthersAreNone, TypeIsNeeded, OpenIsNone, ArrayTypeIsNeeded}
 
 -- a server has two handshakes more than its supply
 lengths : (a : Server) (v : ℕ) → IsServer a v → length (part_contacts a.part) ≡ suc (length (contacts_of a.supply ++ serves 0 v ∷ []))
@@ -51,4 +52,12 @@ open_is_none w v = (
   λ is. let bad = is.closed (at Rest 0) 0 refl in cc bad,
   λ is.
       let (p, runs) = some_runs (record (local_server w v) { runs = λ p. false }) v is in cc runs,
+)
+
+pub array_type_is_needed : ArrayTypeIsNeeded
+array_type_is_needed w v = (
+  λ is. let bad = lengths (record (array_server w 2 v) { supply = Var w }) v is in omega (arith, bad),
+  λ is. let bad : 1 ≡ 2 = ap (answer_at 1) is.contacts in omega (arith, bad),
+  λ is.
+      let (row, by) = is.served (at (Reading []) 0) (Req 2) 1 (serves 0 w) refl refl refl refl refl (tt, refl, λ h. absurd (cc h)) in none-some row by,
 )

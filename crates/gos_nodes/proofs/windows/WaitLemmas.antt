@@ -2,8 +2,8 @@
 use Rattle.std.specs.List.{list_any}
 use Rattle.std.proofs.Common.{◌≡◌, ℕ, Bool, true, false, Some, refl, arith, nat_eq}
 use Rattle.gos_types.specs.Types.{Type'}
-use Rattle.gos_plan.specs.Kinds.{Part, Skip, Lit, Seq, Par, If, While, Op, Not, Assign, Deref, Local, Share}
-use Rattle.gos_plan.specs.Firing.{Phase, Rest, First, Second, Both, LeftOnly, RightOnly, Test, Branch, Body, Left, Right, Waiting, Value, Writing, Active, State, at, Slot, Req, Ans, Row, same_slot, rows, firing}
+use Rattle.gos_plan.specs.Kinds.{Part, Skip, Lit, Seq, Par, If, While, Op, Not, Assign, Deref, Local, Array, Share}
+use Rattle.gos_plan.specs.Firing.{Phase, Rest, First, Second, Both, LeftOnly, RightOnly, Test, Branch, Body, Left, Right, Waiting, Value, Writing, Active, Cells, Reading, WritingTo, State, at, Slot, Req, Ans, Row, same_slot, rows, firing}
 use Rattle.gos_plan.specs.Turns.{IsUnshared}
 use Rattle.gos_plan.proofs.RowLemmas.{EachRow, row_with}
 use Rattle.gos_realises.proofs.quiet.TieLemmas.{waits, is_put}
@@ -54,6 +54,10 @@ table (Local w b) Rest n v u = ((λ a. ((λ p. grind (arith, p)), (λ y h. grind
 table Par Rest n v u = ((λ a. ((λ p. grind (arith, p)), (λ y h. grind (arith, y, h)))), tt)
 table Par Both n v u = ((λ a. ((λ p. grind (arith, p)), (λ y h. grind (arith, y, h)))), ((λ a. ((λ p. grind (arith, p)), (λ y h. grind (arith, y, h)))), tt))
 table (Local w b) Active n v u = ((λ a. ((λ p. grind (arith, p)), (λ y h. grind (arith, y, h)))), ((λ a. ((λ p. grind (arith, p)), (λ y h. grind (arith, y, h)))), ((λ a. ((λ p. grind (arith, p)), (λ y h. grind (arith, y, h)))), tt)))
+table (Array w c b) Rest n v u = ((λ a. ((λ p. grind (arith, p)), (λ y h. grind (arith, y, h)))), tt)
+table (Array w c b) (Cells ns) n v u = ((λ a. ((λ p. grind (arith, p)), (λ y h. grind (arith, y, h)))), ((λ a. ((λ p. grind (arith, p)), (λ y h. grind (arith, y, h)))), ((λ a. ((λ p. grind (arith, p)), (λ y h. grind (arith, y, h)))), tt)))
+table (Array w c b) (Reading ns) n v u = ((λ a. ((λ p. grind (arith, p)), (λ y h. grind (arith, y, h)))), tt)
+table (Array w c b) (WritingTo ns) n v u = ((λ a. ((λ p. grind (arith, p)), (λ y h. grind (arith, y, h)))), tt)
 table (If w) Test n v u = choosing w n v (nat_eq v 1) refl
 table (If w) Branch n v u = chosen_branch w n v (nat_eq n 1) refl
 table While Test n v u = looping n v (nat_eq v 1) refl
@@ -76,6 +80,7 @@ rest_waits (Not w) n a h = cc h
 rest_waits (Assign w) n a h = cc h
 rest_waits (Deref w) n a h = cc h
 rest_waits (Local w v) n a h = cc h
+rest_waits (Array w c v) n a h = cc h
 rest_waits (Share t) n a h = cc h
 
 -- each kind is Share or another
@@ -92,3 +97,4 @@ told_share (Not w) Q plain share = plain (λ t h. cc h)
 told_share (Assign w) Q plain share = plain (λ t h. cc h)
 told_share (Deref w) Q plain share = plain (λ t h. cc h)
 told_share (Local w n) Q plain share = plain (λ t h. cc h)
+told_share (Array w c n) Q plain share = plain (λ t h. cc h)

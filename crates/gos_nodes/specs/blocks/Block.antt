@@ -6,7 +6,7 @@
 use Rattle.std.specs.Prelude.{◌≡◌, ◌≢◌, ◌⊎◌, ℕ, suc, [], All, Contains, Some, None, slice_get}
 use Rattle.gos_types.specs.declared.shakes.Role.TheVariants.{Ask}
 use Rattle.gos_types.specs.Types.{IsDone}
-use Rattle.gos_model.specs.Terms.{Term, Import, New}
+use Rattle.gos_model.specs.Terms.{Term, Import, New, NewArray}
 use Rattle.gos_model.specs.Substitution.{instantiate}
 use Rattle.gos_model.specs.Typing.{Imported, Typed}
 use Rattle.gos_plan.specs.Kinds.{Part, Contact, contacts_of}
@@ -20,7 +20,7 @@ use Rattle.gos_realises.specs.realises.Realises.{AllGround, AllPorts, NamesDiffe
 use Rattle.gos_nodes.specs.windows.Nodes.{IsRestful}
 use Rattle.gos_nodes.specs.windows.OpenNodes.{IsHeard}
 use Rattle.gos_nodes.specs.parallel.Parallel.{IsJointOf, IsPartOf}
-use Rattle.gos_nodes.specs.blocks.Servers.{Server, run_of, IsServer, local_server}
+use Rattle.gos_nodes.specs.blocks.Servers.{Server, run_of, IsServer, local_server, array_server}
 
 -- The number of the server, and what it is; the body's plan, how it lies in the whole, and which of its imports stands for the bound
 -- variable.
@@ -90,3 +90,11 @@ BlockRealises =
     → IsBlock r b → IsHeard b.cut r b.body → b.server ≡ local_server w (bits r.outcome) → All LiteralFits r.parts → AllPorts r.imports → NamesDiffer r.imports
     → Typed r.imports [] (New w m) r.outcome
     → Realises r.outcome b.body (instantiate m (Import b.variable.name)) → Realises r.outcome r (New w m)
+
+-- Where the server is an array, the whole so realises `new a[n] : w in M`.
+abbrev pub ArrayBlockRealises : Type 0
+ArrayBlockRealises =
+    (r : Plan) (b : Block) (n w : ℕ) (m : Term)
+    → IsBlock r b → IsHeard b.cut r b.body → b.server ≡ array_server w n (bits r.outcome) → All LiteralFits r.parts → AllPorts r.imports → NamesDiffer r.imports
+    → Typed r.imports [] (NewArray n w m) r.outcome
+    → Realises r.outcome b.body (instantiate m (Import b.variable.name)) → Realises r.outcome r (NewArray n w m)

@@ -1,12 +1,13 @@
 -- Servers: the parts that run a body, and serve it a supply of a type while it runs.
 --
 -- Read first: Firing of gos_plan; Regular of gos_realises. A server asks its body at handshake 0, and is run at its last one; at those
--- between it serves the supply, as an import of this type is served. A local variable is a server of a variable.
-use Rattle.std.specs.Prelude.{◌≡◌, ℕ, suc, Bool, true, false, not, [], ◌∷◌, ◌++◌, Some, nat_eq, slice_get, if◌then◌else◌}
+-- between it serves the supply, as an import of this type is served. A local variable is a server of a variable, and an array of an array.
+use Rattle.std.specs.Prelude.{◌≡◌, ℕ, zero, suc, Bool, true, false, not, [], ◌∷◌, ◌++◌, Some, nat_eq, slice_get, if◌then◌else◌}
 use Rattle.gos_types.specs.Types.{Type', Var}
 use Rattle.gos_types.specs.Events.{Direction}
-use Rattle.gos_plan.specs.Kinds.{Part, Contact, asks, serves, contacts_of, part_contacts, Local}
-use Rattle.gos_plan.specs.Firing.{Phase, Rest, Active, State, Slot, Req, Ans, Row, put, firing}
+use Rattle.gos_model.specs.Typing.{array_type}
+use Rattle.gos_plan.specs.Kinds.{Part, Contact, asks, serves, contacts_of, part_contacts, Local, Array}
+use Rattle.gos_plan.specs.Firing.{Phase, Rest, Active, Cells, Reading, WritingTo, State, Slot, Req, Ans, Row, put, firing}
 use Rattle.gos_plan.specs.Tokens.{shake_of, way_of, way_taken, way_put}
 use Rattle.gos_realises.specs.realises.Regular.{is_request, count, KeepsTurnsOf}
 
@@ -100,3 +101,22 @@ is_active p = false
 
 abbrev pub local_server : ℕ → ℕ → Server
 local_server w v = record { part = Local w v; supply = Var w; runs = is_active; opened = λ q h. false }
+
+-- An array of n numbers of w bits, whose body answers with v bits, is a server of an array. A read and a write stay open while it waits
+-- for their index.
+abbrev pub array_runs : Phase → Bool
+array_runs (Cells ns) = true
+array_runs (Reading ns) = true
+array_runs (WritingTo ns) = true
+array_runs p = false
+
+abbrev pub array_opened : Phase → ℕ → Bool
+array_opened (Reading ns) zero = true
+array_opened (Reading ns) (suc zero) = true
+array_opened (WritingTo ns) zero = true
+array_opened (WritingTo ns) (suc (suc zero)) = true
+array_opened p h = false
+
+abbrev pub array_server : ℕ → ℕ → ℕ → Server
+array_server w n v =
+    record { part = Array w n v; supply = array_type n w; runs = array_runs; opened = λ q. array_opened q.phase }

@@ -1,20 +1,21 @@
--- The plan of `new x : 1 in skip`: it is a block, whose body is the plan of `skip` with an import that is not used.
+-- The plans of `new x : 1 in skip` and of `new a[2] : 1 in skip`: each is a block, whose body is the plan of `skip` with an import that is
+-- not used.
 --
 -- Read first: Block; SmallPlans of gos_plan, SmallParallel of parallel.
 use Rattle.std.specs.Prelude.{zero, suc, [], ◌∷◌, Option, Some, None}
 use Rattle.gos_types.specs.Types.{Com, Var}
 use Rattle.gos_model.specs.Terms as terms
-use Rattle.gos_model.specs.Terms.{New}
+use Rattle.gos_model.specs.Terms.{New, NewArray}
 use Rattle.gos_model.specs.SmallPrograms.{c}
-use Rattle.gos_model.specs.Typing.{Imported}
-use Rattle.gos_plan.specs.Kinds.{Skip, Local}
+use Rattle.gos_model.specs.Typing.{Imported, array_type}
+use Rattle.gos_plan.specs.Kinds.{Skip, Local, Array}
 use Rattle.gos_plan.specs.Plans.{End, PartEnd, ImportEnd, ResultEnd, Plan}
 use Rattle.gos_plan.specs.SmallPlans.{skip_plan}
 use Rattle.gos_joining.specs.webs.Webs.{joint}
 use Rattle.gos_joining.specs.webs.Cutting.{Cut}
 use Rattle.gos_realises.specs.realises.Realises.{Realises}
 use Rattle.gos_nodes.specs.parallel.SmallParallel.{skip_number}
-use Rattle.gos_nodes.specs.blocks.Servers.{local_server}
+use Rattle.gos_nodes.specs.blocks.Servers.{local_server, array_server}
 use Rattle.gos_nodes.specs.blocks.Block.{Block, IsBlock}
 
 abbrev pub one_bit : Imported
@@ -71,3 +72,32 @@ OtherPartIsNot = IsBlock new_skip (record skip_block { own = 1 }) → ⊥
 -- So it realises the block, where the body's plan realises `skip`: all else that the law asks for is there.
 abbrev pub NewSkipIsRealised : Type 0
 NewSkipIsRealised = Realises Com unused terms.Skip → Realises Com new_skip (New 1 terms.Skip)
+
+-- An array of two numbers in the place of the variable.
+abbrev pub two_bits : Imported
+two_bits = record { name = c; ty = array_type 2 1 }
+
+abbrev pub unused_array : Plan
+unused_array = record skip_plan { imports = two_bits ∷ [] }
+
+abbrev pub new_array : Plan
+new_array =
+    record new_skip {
+      parts = Array 1 2 0 ∷ Skip ∷ [];
+      joints = joint (ResultEnd 0) (PartEnd 0 4) ∷ joint (PartEnd 0 0) (PartEnd 1 0) ∷ [];
+    }
+
+abbrev pub array_block : Block
+array_block = record skip_block { server = array_server 1 2 0; body = unused_array; variable = two_bits }
+
+abbrev pub NewArrayIsBlock : Type 0
+NewArrayIsBlock = IsBlock new_array array_block
+
+abbrev pub NewArrayIsRealised : Type 0
+NewArrayIsRealised = Realises Com unused_array terms.Skip → Realises Com new_array (NewArray 2 1 terms.Skip)
+
+-- An array of another length isn't its server, nor is a variable.
+abbrev pub LengthIsNeeded : Type 0
+LengthIsNeeded =
+    (IsBlock new_array (record array_block { server = array_server 1 4 0 }) → ⊥)
+    × (IsBlock new_array (record array_block { server = local_server 1 0 }) → ⊥)

@@ -1,10 +1,11 @@
--- A local variable is a server of a variable, and of nothing else; other parts are none.
+-- A local variable is a server of a variable and an array one of an array, and of nothing else; other parts are none.
 --
 -- Read first: Servers.
 use Rattle.std.specs.Prelude.{ℕ, suc, true, false}
 use Rattle.gos_types.specs.Types.{Exp, Var}
+use Rattle.gos_model.specs.Typing.{array_type}
 use Rattle.gos_plan.specs.Kinds.{Lit, Seq, Share}
-use Rattle.gos_nodes.specs.blocks.Servers.{IsServer, local_server}
+use Rattle.gos_nodes.specs.blocks.Servers.{IsServer, local_server, array_server}
 
 abbrev pub LocalIsServer : Type 0
 LocalIsServer = (w v : ℕ) → IsServer (local_server w v) v
@@ -31,3 +32,14 @@ OpenIsNone =
     (w v : ℕ)
     → (IsServer (record (local_server w v) { opened = λ q h. true }) v → ⊥)
     × (IsServer (record (local_server w v) { runs = λ p. false }) v → ⊥)
+
+abbrev pub ArrayIsServer : Type 0
+ArrayIsServer = (w n v : ℕ) → IsServer (array_server w n v) v
+
+-- An array is no server of a variable, nor of an array of another length; and a read that waits for its index is open.
+abbrev pub ArrayTypeIsNeeded : Type 0
+ArrayTypeIsNeeded =
+    (w v : ℕ)
+    → (IsServer (record (array_server w 2 v) { supply = Var w }) v → ⊥)
+    × (IsServer (record (array_server w 2 v) { supply = array_type 4 w }) v → ⊥)
+    × (IsServer (record (array_server w 2 v) { opened = λ q h. false }) v → ⊥)

@@ -1,14 +1,14 @@
 -- What a context does comes from its term, or from a row of its own.
 use Rattle.std.specs.Prelude.{◌≡◌, ◌⊎◌, ℕ, zero, suc, IsTrue}
-use Rattle.std.proofs.Common.{arith, refl, sym, subst, inl, inr}
-use Rattle.gos_model.specs.Terms.{Term, Skip, Lit, Par}
+use Rattle.std.proofs.Common.{arith, refl, sym, ap, subst, inl, inr, ◌∙◌}
+use Rattle.gos_model.specs.Terms.{Term, Skip, Lit, Par, Deref, Put, Arr, App, Both}
 use Rattle.gos_model.specs.Typing.{Imports}
 use Rattle.gos_model.specs.Stores.{Store}
-use Rattle.gos_model.specs.Reach.{Rel, Reached, Below, Rewrites, Under, Aside, Unfolds}
-use Rattle.gos_model.specs.Steps.{Computes, IsValue, Steps}
+use Rattle.gos_model.specs.Reach.{Rel, Reached, Below, Rewrites, Under, Aside, Unfolds, InPortIndex, InIndex}
+use Rattle.gos_model.specs.Steps.{Computes, IsValue, Steps, Locates}
 use Rattle.gos_model.specs.Labels.{Label, Emits, Takes, is_output, given}
 use Rattle.gos_model.specs.Moves.{Program, Config, Idle, Running, Computing, Showing, Acts, Unfoldings, Move, Stalled}
-use Rattle.gos_programs.specs.contexts.Contexts.{Context, SeqFirst, ParLeft, ParRight, IfTest, BinLeft, HeldRight, NotOf, AssignRight, ScopeBody, ReadIndex, WriteIndex, plug, IsAlone}
+use Rattle.gos_programs.specs.contexts.Contexts.{Context, SeqFirst, ParLeft, ParRight, IfTest, BinLeft, HeldRight, NotOf, AssignRight, ScopeBody, ReadIndex, WriteIndex, plug, IsAlone, ReadAt, WriteAt}
 use Rattle.gos_programs.specs.contexts.Backward.{UnfoldingsWithin, UnfoldingsOfBoth, StepsWithin, StepsOfBoth, LabelsWithin, LabelsOfBoth, WaitsWithin, BothWait, RightWaits, LeftWaits}
 
 -- the three ways in which a head is changed
@@ -18,6 +18,15 @@ OneHead a b = (Rewrites a b ⊎ Under Rewrites a b) ⊎ Aside Rewrites a b
 -- an output or an input
 abbrev pub OneLabel : Imports → Label → Rel
 OneLabel i o a b = Emits i o a b ⊎ Takes i o a b
+
+-- an array of the program's own is no port
+no_port : (R : Rel) (l : ℕ) (m v : Term) → InPortIndex R (Arr l) m v → ⊥
+no_port R l (Both b m) v ((x, e), m', f, h) = cc e
+no_port R l m v h = absurd h
+
+within_array : (R : Rel) (l : ℕ) (m v : Term) → InIndex R (App (Arr l) m) v → (t : Term) × (v ≡ App (Arr l) t) × Reached R m t
+within_array R l m v (inl h) = absurd (no_port R l m v h)
+within_array R l m v (inr (place, t, e, h)) = (t, e, h)
 
 -- of any relation
 pub below_within : (R : Rel) (c : Context) (m v : Term) → IsAlone c → Below R (plug c m) v → (t : Term) × (v ≡ plug c t) × Reached R m t
@@ -32,6 +41,8 @@ below_within R (AssignRight n) m v alone h = h
 below_within R (ScopeBody l) m v alone h = h
 below_within R (ReadIndex x n) m v alone h = absurd alone
 below_within R (WriteIndex x n k) m v alone h = absurd alone
+below_within R (ReadAt l) m v alone (v', e, h) = let (t, f, g) = within_array R l m v' h in (t, e ∙ ap (λ (x : Term). Deref x) f, g)
+below_within R (WriteAt l k) m v alone (v', e, h) = let (t, f, g) = within_array R l m v' h in (t, e ∙ ap (λ (x : Term). Put x k) f, g)
 
 -- no context is a head, and none but an index shows a label
 no_head : (c : Context) (m v : Term) → OneHead (plug c m) v → ⊥
@@ -46,6 +57,8 @@ no_head (AssignRight n) m v h = grind (arith, h)
 no_head (ScopeBody l) m v h = grind (arith, h)
 no_head (ReadIndex x n) m v h = grind (arith, h)
 no_head (WriteIndex x n k) m v h = grind (arith, h)
+no_head (ReadAt l) m v h = grind (arith, h)
+no_head (WriteAt l k) m v h = grind (arith, h)
 
 no_label : (i : Imports) (o : Label) (c : Context) (m v : Term) → IsAlone c → OneLabel i o (plug c m) v → ⊥
 no_label i o (SeqFirst n) m v alone h = grind (arith, h)
@@ -59,6 +72,8 @@ no_label i o (AssignRight n) m v alone h = grind (arith, h)
 no_label i o (ScopeBody l) m v alone h = grind (arith, h)
 no_label i o (ReadIndex x n) m v alone h = absurd alone
 no_label i o (WriteIndex x n k) m v alone h = absurd alone
+no_label i o (ReadAt l) m v alone h = grind (arith, h)
+no_label i o (WriteAt l k) m v alone h = grind (arith, h)
 
 no_label_of_both : (i : Imports) (o : Label) (l r v : Term) → OneLabel i o (Par l r) v → ⊥
 no_label_of_both i o l r v (inl h) = h
@@ -97,6 +112,11 @@ unfoldings_of_both (suc n) l r v (u, h, hs) =
         let rest = rests l b e in
         (rest.0, suc rest.1, rest.2, rest.3, rest.4, rest.5, (b, g, rest.6))
 
+-- an array stands for a number with a number as its index
+pub index_value : (x : ℕ) (m : Term) (l i : ℕ) → Locates (App (Arr x) m) l i → IsValue m
+index_value x m l i (inl (e, z)) = absurd (cc e)
+index_value x m l i (inr (w, e)) = let is : m ≡ Lit i w = cc e in inr (i, w, is)
+
 -- the row of a context asks for a value
 row_of : (c : Context) (s s' : Store) (m v : Term) → IsAlone c → Computes s s' (plug c m) v → IsValue m
 row_of (SeqFirst n) s s' m v alone h = inl h.0
@@ -111,6 +131,8 @@ row_of (AssignRight n) s s' m v alone (k, w, e, h, g) = inr (k, w, e)
 row_of (ScopeBody l) s s' m v alone h = h.0
 row_of (ReadIndex x n) s s' m v alone h = absurd alone
 row_of (WriteIndex x n k) s s' m v alone h = absurd alone
+row_of (ReadAt l) s s' m v alone (e, i, j, place, has, is, left, now) = index_value l m e.place i place
+row_of (WriteAt l k) s s' m v alone (e, i, j, place, has, is, left, now) = index_value l m e.place i place
 
 pub steps_within : StepsWithin
 steps_within c s s' m v alone (inl h) = inr (h, row_of c s s' m v alone h)
@@ -175,6 +197,8 @@ no_value (AssignRight n) m h = grind (arith, h)
 no_value (ScopeBody l) m h = grind (arith, h)
 no_value (ReadIndex x n) m h = grind (arith, h)
 no_value (WriteIndex x n k) m h = grind (arith, h)
+no_value (ReadAt l) m h = grind (arith, h)
+no_value (WriteAt l k) m h = grind (arith, h)
 
 stuck_within : (i : Imports) (s : Store) (c : Context) (m : Term) → IsAlone c → (IsValue m → ⊥) → IsStuck i s m → IsStuck i s (plug c m)
 stuck_within i s c m alone none stuck = (silent, shown)

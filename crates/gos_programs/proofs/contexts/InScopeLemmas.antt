@@ -2,16 +2,16 @@
 use Rattle.std.specs.Prelude.{ℕ, zero, suc, Bool, true, false, List, [], ◌∷◌, Option, Some, nat_eq, if◌then◌else◌}
 use Rattle.std.proofs.Common.{refl, sym, subst, inl, inr}
 use Rattle.gos_types.specs.Types.{Type', Com, Exp, Var, Pair, Fun}
-use Rattle.gos_model.specs.Terms.{Term, Skip, Lit, Bound, Import, Lam, App, Both, Fst, Snd, Seq, Par, If, While, Assign, Deref, New, Not, Bin, Loc, Scope, Wait, Held, Put}
+use Rattle.gos_model.specs.Terms.{Term, Skip, Lit, Bound, Import, Lam, App, Both, Fst, Snd, Seq, Par, If, While, Assign, Deref, New, Not, Bin, Loc, Scope, Wait, Held, Put, NewArray, Arr}
 use Rattle.gos_model.specs.Substitution.{put_at}
-use Rattle.gos_model.specs.Typing.{Imports, Typed, import_type}
+use Rattle.gos_model.specs.Typing.{Imports, Typed, import_type, array_type}
 use Rattle.gos_model.specs.Stores.{Store}
 use Rattle.gos_model.specs.Reach.{Rel, Rewrites, Under, Aside}
 use Rattle.gos_model.specs.Steps.{Computes, IsValue}
 use Rattle.gos_model.specs.Labels.{Label, IsAnswer}
 use Rattle.gos_model.specs.Moves.{Act, Computing, Showing, Acts, Unfoldings}
 use Rattle.gos_model.proofs.AccessMapLemmas.{puts_keep, reads_keep, writes_keep}
-use Rattle.gos_programs.specs.contexts.Contexts.{Context, SeqFirst, ParLeft, ParRight, IfTest, BinLeft, HeldRight, NotOf, AssignRight, ScopeBody, ReadIndex, WriteIndex, plug}
+use Rattle.gos_programs.specs.contexts.Contexts.{Context, SeqFirst, ParLeft, ParRight, IfTest, BinLeft, HeldRight, NotOf, AssignRight, ScopeBody, ReadIndex, WriteIndex, plug, ReadAt, WriteAt}
 use Rattle.gos_programs.specs.contexts.Standing.{Has, InScope}
 use Rattle.gos_programs.proofs.contexts.BackwardLemmas.{OneHead, OneLabel}
 use Rattle.gos_programs.proofs.contexts.ReachedLemmas.{reached_lifted}
@@ -34,9 +34,11 @@ sources_scoped i g (While m n) t (e, h, k) = (sources_scoped i g m (Exp 1) h, so
 sources_scoped i g (Assign m n) t (w, e, h, k) = (sources_scoped i g m (Var w) h, sources_scoped i g n (Exp w) k)
 sources_scoped i g (Deref m) t (w, e, h) = sources_scoped i g m (Var w) h
 sources_scoped i g (New w m) t (d, k, h) = sources_scoped i (Var w ∷ g) m t h
+sources_scoped i g (NewArray n w m) t (d, l, k, h) = sources_scoped i (array_type n w ∷ g) m t h
 sources_scoped i g (Not m) t (w, e, h) = sources_scoped i g m (Exp w) h
 sources_scoped i g (Bin op m n) t (w, e, h, k) = (sources_scoped i g m (Exp w) h, sources_scoped i g n (Exp w) k)
 sources_scoped i g (Loc l) t h = absurd h
+sources_scoped i g (Arr l) t h = absurd h
 sources_scoped i g (Scope l m) t h = absurd h
 sources_scoped i g (Wait x s) t h = absurd h
 sources_scoped i g (Held k op n) t h = absurd h
@@ -64,9 +66,11 @@ widened (While m n) ls ks f h = (widened m ls ks f h.0, widened n ls ks f h.1)
 widened (Assign m n) ls ks f h = (widened m ls ks f h.0, widened n ls ks f h.1)
 widened (Deref m) ls ks f h = widened m ls ks f h
 widened (New w m) ls ks f h = widened m ls ks f h
+widened (NewArray n w m) ls ks f h = widened m ls ks f h
 widened (Not m) ls ks f h = widened m ls ks f h
 widened (Bin op m n) ls ks f h = (widened m ls ks f h.0, widened n ls ks f h.1)
 widened (Loc l) ls ks f h = f l h
+widened (Arr l) ls ks f h = f l h
 widened (Scope l m) ls ks f h = widened m (l ∷ ls) (l ∷ ks) (more l ls ks f) h
 widened (Wait x s) ls ks f h = tt
 widened (Held k op n) ls ks f h = widened n ls ks f h
@@ -94,9 +98,11 @@ scoped_put (While m n) ls d q k h = (scoped_put m ls d q k h.0, scoped_put n ls 
 scoped_put (Assign m n) ls d q k h = (scoped_put m ls d q k h.0, scoped_put n ls d q k h.1)
 scoped_put (Deref m) ls d q k h = scoped_put m ls d q k h
 scoped_put (New w m) ls d q k h = scoped_put m ls (suc d) q k h
+scoped_put (NewArray n w m) ls d q k h = scoped_put m ls (suc d) q k h
 scoped_put (Not m) ls d q k h = scoped_put m ls d q k h
 scoped_put (Bin op m n) ls d q k h = (scoped_put m ls d q k h.0, scoped_put n ls d q k h.1)
 scoped_put (Loc l) ls d q k h = h
+scoped_put (Arr l) ls d q k h = h
 scoped_put (Scope l m) ls d q k h = scoped_put m (l ∷ ls) d q (widened q ls (l ∷ ls) (λ x y. inr y) k) h
 scoped_put (Wait x s) ls d q k h = tt
 scoped_put (Held j op n) ls d q k h = scoped_put n ls d q k h
@@ -141,6 +147,8 @@ stays_in (AssignRight n) a b q ls (h, k) = (h, q ls k)
 stays_in (ScopeBody l) a b q ls h = q (l ∷ ls) h
 stays_in (ReadIndex x n) a b q ls (w, (h, k)) = (w, (h, q ls k))
 stays_in (WriteIndex x n j) a b q ls (w, (h, k)) = (w, (h, q ls k))
+stays_in (ReadAt l) a b q ls (h, k) = (h, q ls k)
+stays_in (WriteAt l j) a b q ls (h, k) = (h, q ls k)
 
 scoped_head : (m t : Term) → OneHead m t → Stays m t
 scoped_head m t (inl (inl h)) ls s = scoped_rewrite ls m t h s
@@ -185,10 +193,12 @@ scoped_row s s' (Bin op m n) b (j, w, em, et, es) ls (h, k) = subst (InScope ls)
 scoped_row s s' (Held k op n) b (j, w, en, et, es) ls h = subst (InScope ls) (sym et) tt
 scoped_row s s' (Not m) b (k, w, em, et, es) ls h = subst (InScope ls) (sym et) tt
 scoped_row s s' (Assign m n) b (j, w, en, et, es) ls (h, k) = subst (InScope ls) (sym et) h
-scoped_row s s' (Put m k) b (e, old, em, here, has, et, es) ls h = subst (InScope ls) (sym et) tt
-scoped_row s s' (Deref m) b (e, old, em, here, has, et, es) ls h = subst (InScope ls) (sym et) tt
+scoped_row s s' (Put m k) b (e, j, old, em, here, has, et, es) ls h = subst (InScope ls) (sym et) tt
+scoped_row s s' (Deref m) b (e, j, old, em, here, has, et, es) ls h = subst (InScope ls) (sym et) tt
 scoped_row s s' (New w m) b (l, absent, et, es) ls h =
     subst (InScope ls) (sym et) (scoped_put m (l ∷ ls) 0 (Loc l) (inl refl) (widened m ls (l ∷ ls) (λ x y. inr y) h))
+scoped_row s s' (NewArray n w m) b (l, absent, et, es) ls h =
+    subst (InScope ls) (sym et) (scoped_put m (l ∷ ls) 0 (Arr l) (inl refl) (widened m ls (l ∷ ls) (λ x y. inr y) h))
 scoped_row s s' (Scope l m) b (is, et, es) ls h = subst (InScope ls) (sym et) (scoped_value m is ls)
 scoped_row s s' m b h ls k = absurd h
 

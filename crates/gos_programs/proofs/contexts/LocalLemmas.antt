@@ -3,7 +3,7 @@ use Rattle.gos_model.specs.Accesses.{IsArrayImport}
 use Rattle.std.specs.Prelude.{◌≡◌, ℕ, zero, suc, Bool, true, false, [], ◌∷◌, Option, Some}
 use Rattle.std.proofs.Common.{arith, refl, sym, ap, subst, inl, inr, ◌∙◌}
 use Rattle.gos_types.specs.Types.{Type', Com, Exp, Var, Fun}
-use Rattle.gos_model.specs.Terms.{Name, Term, Import, Seq, Par, If, Assign, Deref, Not, Bin, Loc, Scope, Wait, Held, Put, App, Both}
+use Rattle.gos_model.specs.Terms.{Name, Term, Import, Seq, Par, If, Assign, Deref, Not, Bin, Loc, Scope, Wait, Held, Put, App, Both, Arr}
 use Rattle.gos_model.specs.Typing.{Imports, import_type}
 use Rattle.gos_model.specs.Stores.{variable_at, Store, entry_at, store_put}
 use Rattle.gos_model.specs.Reach.{Rel}
@@ -11,7 +11,7 @@ use Rattle.gos_model.specs.Steps.{Computes, Steps}
 use Rattle.gos_model.specs.Labels.{Label, Taken, taken, IsAnswer}
 use Rattle.gos_model.specs.Moves.{Act, Computing, Showing, Acts, Unfoldings}
 use Rattle.gos_model.proofs.AccessMapLemmas.{GoesInto, puts_mapped, reads_mapped, writes_mapped}
-use Rattle.gos_programs.specs.contexts.Contexts.{Context, SeqFirst, ParLeft, ParRight, IfTest, BinLeft, HeldRight, NotOf, AssignRight, ScopeBody, ReadIndex, WriteIndex, plug}
+use Rattle.gos_programs.specs.contexts.Contexts.{Context, SeqFirst, ParLeft, ParRight, IfTest, BinLeft, HeldRight, NotOf, AssignRight, ScopeBody, ReadIndex, WriteIndex, plug, ReadAt, WriteAt}
 use Rattle.gos_programs.specs.contexts.Renaming.{beside}
 use Rattle.gos_programs.proofs.contexts.BackwardLemmas.{OneLabel}
 use Rattle.gos_programs.proofs.contexts.ReachedLemmas.{reached_lifted}
@@ -36,11 +36,11 @@ waits_placed : (r : ℕ → ℕ) (y : Name) (z : ℕ) (x : Name) (n : ℕ) → b
 waits_placed r y z x n f = ap (λ (b : Bool). wait_for b z x n) f
 
 -- a label of another import
-other_of : (y x : Name) (o : Label) (e k : ℕ) → (o.port ≡ Taken y → ⊥) → o ≡ taken x e k → bytes_eq x y ≡ false
+pub other_of : (y x : Name) (o : Label) (e k : ℕ) → (o.port ≡ Taken y → ⊥) → o ≡ taken x e k → bytes_eq x y ≡ false
 other_of y x o e k apart is =
     name_cases x y (λ same t. absurd (apart (ap (λ (v : Label). v.port) is ∙ ap Taken same))) (λ f. f)
 
-other_port : (y x : Name) (o : Label) → (o.port ≡ Taken y → ⊥) → o.port ≡ Taken x → bytes_eq x y ≡ false
+pub other_port : (y x : Name) (o : Label) → (o.port ≡ Taken y → ⊥) → o.port ≡ Taken x → bytes_eq x y ≡ false
 other_port y x o apart p = name_cases x y (λ same t. absurd (apart (p ∙ ap Taken same))) (λ g. g)
 
 goes_placed : (r : ℕ → ℕ) (y : Name) (z : ℕ) (x : Name) (f : Term → Term) → bytes_eq x y ≡ false
@@ -200,6 +200,8 @@ one_in r y z (AssignRight n) a b h = ap (λ (v : Term). Assign (placed r y z n) 
 one_in r y z (ScopeBody l) a b h = ap (λ (v : Term). Scope (r l) v) h
 one_in r y z (ReadIndex x n) a b h = ap (λ (v : Term). Deref (App (placed r y z (Wait x 0)) (Both (placed r y z n) v))) h
 one_in r y z (WriteIndex x n k) a b h = ap (λ (v : Term). Put (App (placed r y z (Wait x 0)) (Both (placed r y z n) v)) k) h
+one_in r y z (ReadAt l) a b h = ap (λ (v : Term). Deref (App (Arr (r l)) v)) h
+one_in r y z (WriteAt l k) a b h = ap (λ (v : Term). Put (App (Arr (r l)) v) k) h
 
 pub read_asked : ReadAsked
 read_asked p y r z w s u m t typed (n, v, hs, (h, e)) =
@@ -239,7 +241,7 @@ read_row r y z w k i f typed home s (Wait x n) b (inr (p, e, h)) =
     let g = answer_there i y w typed x 1 n k b same e h in
     let is : placed r y z (Wait x n) ≡ Deref (Loc z) = wait_there r y z x n same ∙ ap (λ (v : ℕ). wait_for true z x v) (sym e) in
     subst (λ (v : Term). Computes (beside r s f) (beside r s f) v (placed r y z b)) (sym is)
-    (variable_at z w k, k, refl, at_home r f z w k home s, refl, ap (placed r y z) g.1, refl)
+    (variable_at z w k, 0, k, inl (refl, refl), at_home r f z w k home s, refl, ap (placed r y z) g.1, refl)
 read_row r y z w k i f typed home s (Deref m) b (inl (inr (x, p, (c, v, n', array, rest)))) = absurd (no_array_there i x y w c v typed p array)
 read_row r y z w k i f typed home s (Deref m) b (inr (x, p, (c, v, n', q', array, em, rest))) = absurd (no_array_there i x y w c v typed p array)
 read_row r y z w k i f typed home s (Put m n) b (inl (inr (x, p, (c, v, n', array, rest)))) = absurd (no_array_there i x y w c v typed p array)
@@ -256,8 +258,9 @@ write_row r y z w k j i f typed home s (Deref m) b (inl (inl (x, v, em, h, e, et
 write_row r y z w k j i f typed home s (Put m n) b (inl (inl (x, v, em, h, e, et))) =
     let same = name_of x y 2 2 j n e in (
       variable_at z w k,
+      0,
       k,
-      ap (placed r y z) em ∙ loc_placed r y z x same,
+      inl (ap (placed r y z) em ∙ loc_placed r y z x same, refl),
       at_home r f z w k home s,
       refl,
       ap (placed r y z) et ∙ wait_there r y z x 3 same,

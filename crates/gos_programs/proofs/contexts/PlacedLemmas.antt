@@ -2,14 +2,14 @@
 use Rattle.std.specs.Prelude.{◌≡◌, ℕ, zero, suc, Bool, true, false, List, [], ◌∷◌, Some, None, nat_eq, if◌then◌else◌}
 use Rattle.std.proofs.Common.{refl, sym, ap, subst, inl, inr, ◌∙◌}
 use Rattle.gos_types.specs.Types.{Type', Com, Exp, Var, Pair, Fun}
-use Rattle.gos_model.specs.Terms.{Name, Term, Skip, Lit, Bound, Import, Lam, App, Both, Fst, Snd, Seq, Par, If, While, Assign, Deref, New, Not, Bin, Loc, Scope, Wait, Held, Put}
+use Rattle.gos_model.specs.Terms.{Name, Term, Skip, Lit, Bound, Import, Lam, App, Both, Fst, Snd, Seq, Par, If, While, Assign, Deref, New, Not, Bin, Loc, Scope, Wait, Held, Put, NewArray, Arr}
 use Rattle.gos_model.specs.Substitution.{put_at}
-use Rattle.gos_model.specs.Typing.{Imports, Typed, import_type}
+use Rattle.gos_model.specs.Typing.{Imports, Typed, import_type, array_type}
 use Rattle.gos_model.specs.Stores.{Store}
 use Rattle.gos_model.specs.Reach.{Rel, Reached, Rewrites, Under, Aside}
-use Rattle.gos_model.specs.Steps.{Computes, IsValue}
+use Rattle.gos_model.specs.Steps.{Computes, IsValue, Locates}
 use Rattle.gos_model.specs.Moves.{Unfoldings}
-use Rattle.gos_programs.specs.contexts.Contexts.{Context, SeqFirst, ParLeft, ParRight, IfTest, BinLeft, HeldRight, NotOf, AssignRight, ScopeBody, ReadIndex, WriteIndex, plug}
+use Rattle.gos_programs.specs.contexts.Contexts.{Context, SeqFirst, ParLeft, ParRight, IfTest, BinLeft, HeldRight, NotOf, AssignRight, ScopeBody, ReadIndex, WriteIndex, plug, ReadAt, WriteAt}
 use Rattle.gos_programs.specs.contexts.Renaming.{IsInjective, IsFreeOf, beside}
 use Rattle.gos_programs.proofs.contexts.BackwardLemmas.{OneHead}
 use Rattle.gos_programs.proofs.contexts.ReachedLemmas.{reached_lifted}
@@ -59,9 +59,11 @@ placed_put r y z (While m n) d q = λ i. While (placed_put r y z m d q i) (place
 placed_put r y z (Assign m n) d q = λ i. Assign (placed_put r y z m d q i) (placed_put r y z n d q i)
 placed_put r y z (Deref m) d q = λ i. Deref (placed_put r y z m d q i)
 placed_put r y z (New w m) d q = λ i. New w (placed_put r y z m (suc d) q i)
+placed_put r y z (NewArray n w m) d q = λ i. NewArray n w (placed_put r y z m (suc d) q i)
 placed_put r y z (Not m) d q = λ i. Not (placed_put r y z m d q i)
 placed_put r y z (Bin op m n) d q = λ i. Bin op (placed_put r y z m d q i) (placed_put r y z n d q i)
 placed_put r y z (Loc l) d q = refl
+placed_put r y z (Arr l) d q = refl
 placed_put r y z (Scope l m) d q = λ i. Scope (r l) (placed_put r y z m d q i)
 placed_put r y z (Wait x n) d q = wait_placed r y z d (bytes_eq x y) x n q
 placed_put r y z (Held k op n) d q = λ i. Held k op (placed_put r y z n d q i)
@@ -88,11 +90,13 @@ placed_in r y z R (ScopeBody l) a b h = inr (placed r y z b, refl, h)
 placed_in r y z R (ReadIndex x n) a b h =
     let g = placed r y z in
     subst (λ (v : Term). Reached R (Deref (App v (Both (g n) (g a)))) (Deref (App v (Both (g n) (g b))))) (sym (wait_zero z x (bytes_eq x y)))
-    (inr (App (Wait x 0) (Both (g n) (g b)), refl, ((x, refl), g b, refl, h)))
+    (inr (App (Wait x 0) (Both (g n) (g b)), refl, inl ((x, refl), g b, refl, h)))
 placed_in r y z R (WriteIndex x n k) a b h =
     let g = placed r y z in
     subst (λ (v : Term). Reached R (Put (App v (Both (g n) (g a))) k) (Put (App v (Both (g n) (g b))) k)) (sym (wait_zero z x (bytes_eq x y)))
-    (inr (App (Wait x 0) (Both (g n) (g b)), refl, ((x, refl), g b, refl, h)))
+    (inr (App (Wait x 0) (Both (g n) (g b)), refl, inl ((x, refl), g b, refl, h)))
+placed_in r y z R (ReadAt l) a b h = inr (App (Arr (r l)) (placed r y z b), refl, inr ((r l, refl), placed r y z b, refl, h))
+placed_in r y z R (WriteAt l k) a b h = inr (App (Arr (r l)) (placed r y z b), refl, inr ((r l, refl), placed r y z b, refl, h))
 
 pub reached_placed : (r : ℕ → ℕ) (y : Name) (z : ℕ) (R S : Rel) → ((a b : Term) → R a b → S (placed r y z a) (placed r y z b)) → (m t : Term) → Reached R m t
     → Reached S (placed r y z m) (placed r y z t)
@@ -136,6 +140,11 @@ pub value_placed : (r : ℕ → ℕ) (y : Name) (z : ℕ) (v : Term) → IsValue
 value_placed r y z v (inl e) = ap (placed r y z) e ∙ sym e
 value_placed r y z v (inr (k, w, e)) = ap (placed r y z) e ∙ sym e
 
+-- what stands for a number does so at the new name
+locates_placed : (r : ℕ → ℕ) (y : Name) (z : ℕ) (m : Term) (l i : ℕ) → Locates m l i → Locates (placed r y z m) (r l) i
+locates_placed r y z m l i (inl (e, zero')) = inl (ap (placed r y z) e, zero')
+locates_placed r y z m l i (inr (w, e)) = inr (w, ap (placed r y z) e)
+
 -- computation
 pub placed_row : (r : ℕ → ℕ) (y : Name) (z : ℕ) (f : Store) → IsInjective r → IsFreeOf r f → (s s' : Store) (a b : Term) → Computes s s' a b
     → Computes (beside r s f) (beside r s' f) (placed r y z a) (placed r y z b)
@@ -155,19 +164,21 @@ placed_row r y z f inj free s s' (Not m) b (k, w, em, et, es) =
     (k, w, ap (placed r y z) em, ap (placed r y z) et, ap (λ (x : Store). beside r x f) es)
 placed_row r y z f inj free s s' (Assign m n) b (k, w, en, et, es) =
     (k, w, ap (placed r y z) en, ap (placed r y z) et, ap (λ (x : Store). beside r x f) es)
-placed_row r y z f inj free s s' (Put m k) b (e, old, em, here, has, et, es) = (
+placed_row r y z f inj free s s' (Put m k) b (e, j, old, em, here, has, et, es) = (
   record e { place = r e.place },
+  j,
   old,
-  ap (placed r y z) em,
+  locates_placed r y z m e.place j em,
   entry_beside r inj s f e.place (free e.place) ∙ ap (moved r) here,
   has,
   ap (placed r y z) et,
-  ap (λ (x : Store). beside r x f) es ∙ put_beside r inj s f e.place 0 k (free e.place),
+  ap (λ (x : Store). beside r x f) es ∙ put_beside r inj s f e.place j k (free e.place),
 )
-placed_row r y z f inj free s s' (Deref m) b (e, old, em, here, has, et, es) = (
+placed_row r y z f inj free s s' (Deref m) b (e, j, old, em, here, has, et, es) = (
   record e { place = r e.place },
+  j,
   old,
-  ap (placed r y z) em,
+  locates_placed r y z m e.place j em,
   entry_beside r inj s f e.place (free e.place) ∙ ap (moved r) here,
   has,
   ap (placed r y z) et,
@@ -177,6 +188,12 @@ placed_row r y z f inj free s s' (New w m) b (l, absent, et, es) = (
   r l,
   entry_beside r inj s f l (free l) ∙ ap (moved r) absent,
   ap (placed r y z) et ∙ ap (λ (x : Term). Scope (r l) x) (placed_put r y z m 0 (Loc l)),
+  ap (λ (x : Store). beside r x f) es,
+)
+placed_row r y z f inj free s s' (NewArray n w m) b (l, absent, et, es) = (
+  r l,
+  entry_beside r inj s f l (free l) ∙ ap (moved r) absent,
+  ap (placed r y z) et ∙ ap (λ (x : Term). Scope (r l) x) (placed_put r y z m 0 (Arr l)),
   ap (λ (x : Store). beside r x f) es,
 )
 placed_row r y z f inj free s s' (Scope l m) b (is, et, es) = (
@@ -211,10 +228,12 @@ sources_placed r y z i g (Assign m n) t (w, e, h, k) none =
     λ j. Assign (sources_placed r y z i g m (Var w) h none j) (sources_placed r y z i g n (Exp w) k none j)
 sources_placed r y z i g (Deref m) t (w, e, h) none = λ j. Deref (sources_placed r y z i g m (Var w) h none j)
 sources_placed r y z i g (New w m) t (d, k, h) none = λ j. New w (sources_placed r y z i (Var w ∷ g) m t h none j)
+sources_placed r y z i g (NewArray n w m) t (d, l, k, h) none = λ j. NewArray n w (sources_placed r y z i (array_type n w ∷ g) m t h none j)
 sources_placed r y z i g (Not m) t (w, e, h) none = λ j. Not (sources_placed r y z i g m (Exp w) h none j)
 sources_placed r y z i g (Bin op m n) t (w, e, h, k) none =
     λ j. Bin op (sources_placed r y z i g m (Exp w) h none j) (sources_placed r y z i g n (Exp w) k none j)
 sources_placed r y z i g (Loc l) t h none = absurd h
+sources_placed r y z i g (Arr l) t h none = absurd h
 sources_placed r y z i g (Scope l m) t h none = absurd h
 sources_placed r y z i g (Wait x s) t h none = absurd h
 sources_placed r y z i g (Held k op n) t h none = absurd h

@@ -1,14 +1,14 @@
 -- What a term does it does in a context.
 use Rattle.std.specs.Prelude.{◌≡◌, ◌⊎◌, zero, suc, List, [], ◌∷◌}
 use Rattle.std.proofs.Common.{refl, subst, inl, inr}
-use Rattle.gos_model.specs.Terms.{Term, App, Wait, Both}
+use Rattle.gos_model.specs.Terms.{Term, App, Wait, Both, Arr}
 use Rattle.gos_model.specs.Typing.{Imports}
 use Rattle.gos_model.specs.Stores.{Store}
 use Rattle.gos_model.specs.Reach.{Rel, Reached, Below, Rewrites, Under, Aside}
 use Rattle.gos_model.specs.Steps.{Computes}
 use Rattle.gos_model.specs.Labels.{Emits, Takes}
 use Rattle.gos_model.specs.Moves.{Program, Idle, Running, Act, Computing, Showing, Acts, ActsTo, Move}
-use Rattle.gos_programs.specs.contexts.Contexts.{Context, SeqFirst, ParLeft, ParRight, IfTest, BinLeft, HeldRight, NotOf, AssignRight, ScopeBody, ReadIndex, WriteIndex, plug}
+use Rattle.gos_programs.specs.contexts.Contexts.{Context, SeqFirst, ParLeft, ParRight, IfTest, BinLeft, HeldRight, NotOf, AssignRight, ScopeBody, ReadIndex, WriteIndex, plug, ReadAt, WriteAt}
 use Rattle.gos_programs.specs.contexts.Plugged.{AreInner, StepsPlugged, UnfoldingsPlugged, ActsPlugged, MovePlugged, MovesPlugged}
 
 -- of any relation
@@ -22,8 +22,10 @@ below_plugged R (HeldRight k op) m t h = (t, refl, h)
 below_plugged R NotOf m t h = (t, refl, h)
 below_plugged R (AssignRight n) m t h = (t, refl, h)
 below_plugged R (ScopeBody l) m t h = (t, refl, h)
-below_plugged R (ReadIndex x n) m t h = (App (Wait x 0) (Both n t), refl, ((x, refl), t, refl, h))
-below_plugged R (WriteIndex x n k) m t h = (App (Wait x 0) (Both n t), refl, ((x, refl), t, refl, h))
+below_plugged R (ReadIndex x n) m t h = (App (Wait x 0) (Both n t), refl, inl ((x, refl), t, refl, h))
+below_plugged R (WriteIndex x n k) m t h = (App (Wait x 0) (Both n t), refl, inl ((x, refl), t, refl, h))
+below_plugged R (ReadAt l) m t h = (App (Arr l) t, refl, inr ((l, refl), t, refl, h))
+below_plugged R (WriteAt l k) m t h = (App (Arr l) t, refl, inr ((l, refl), t, refl, h))
 
 pub reached_plugged : (R : Rel) (c : Context) (m t : Term) → Reached R m t → Reached R (plug c m) (plug c t)
 reached_plugged R c m t h = inr (below_plugged R c m t h)

@@ -2,12 +2,12 @@
 use Rattle.std.specs.Prelude.{◌≡◌, ℕ, zero, suc, ◌∷◌, Option, Some, None, slice_get, List}
 use Rattle.std.proofs.Common.{arith, refl, sym, ap, subst, inl, inr, ◌∙◌}
 use Rattle.gos_types.specs.Types.{Type'}
-use Rattle.gos_model.specs.Terms.{Name, Term, Skip, Lit, Import, Lam, App, Both, Fst, Snd, Seq, Par, If, While, Assign, Deref, New, Not, Bin, Loc, Scope, Wait, Held, Put, result_of, result_width, complement}
+use Rattle.gos_model.specs.Terms.{Name, Term, Skip, Lit, Import, Lam, App, Both, Fst, Snd, Seq, Par, If, While, Assign, Deref, New, Not, Bin, Loc, Scope, Wait, Held, Put, result_of, result_width, complement, NewArray, Arr}
 use Rattle.gos_model.specs.Substitution.{instantiate}
 use Rattle.gos_model.specs.Typing.{Imports}
-use Rattle.gos_model.specs.Stores.{Entry, variable_at, Store, entry_at, store_put, without}
+use Rattle.gos_model.specs.Stores.{Entry, variable_at, Store, entry_at, store_put, without, array_at}
 use Rattle.gos_model.specs.Reach.{Rel, Reached, Below, InIndex, Rewrites, Under, Aside}
-use Rattle.gos_model.specs.Steps.{Computes, IsValue, Steps}
+use Rattle.gos_model.specs.Steps.{Computes, IsValue, Steps, Locates}
 use Rattle.gos_model.specs.Labels.{Label}
 use Rattle.gos_model.specs.Moves.{Unfoldings}
 use Rattle.gos_model.proofs.AccessMapLemmas.{ComesFrom, puts_back, reads_back, writes_back}
@@ -44,6 +44,10 @@ is_app r m f n h = absurd cc
 is_loc : (r : ℕ → ℕ) (m : Term) (l : ℕ) → renamed r m ≡ Loc l → (k : ℕ) × (m ≡ Loc k) × (r k ≡ l)
 is_loc r (Loc k) l h = (k, refl, cc)
 is_loc r m l h = absurd cc
+
+is_arr : (r : ℕ → ℕ) (m : Term) (l : ℕ) → renamed r m ≡ Arr l → (k : ℕ) × (m ≡ Arr k) × (r k ≡ l)
+is_arr r (Arr k) l h = (k, refl, cc)
+is_arr r m l h = absurd cc
 
 is_lam : (r : ℕ → ℕ) (m : Term) (a : Type') (b : Term) → renamed r m ≡ Lam a b → (n : Term) × (m ≡ Lam a n) × (renamed r n ≡ b)
 is_lam r (Lam c n) a b h = let same : c ≡ a = cc in (n, ap (λ (x : Type'). Lam x n) same, cc)
@@ -97,12 +101,21 @@ mutual
 
   index_back : (r : ℕ → ℕ) (R S : Rel) → ((a v : Term) → S (renamed r a) v → Back r R a v) → (m v : Term) → InIndex S (renamed r m) v
       → Back r (InIndex R) m v
-  index_back r R S g (App h (Both b n)) v ((x, head), n', e, inl k) =
+  index_back r R S g (App h n) v (inr ((l, place), n', e, inl k)) =
       let y = g n n' k in
-      (App h (Both b y.0), e ∙ ap (λ (u : Term). App (renamed r h) (Both (renamed r b) u)) y.1, ((x, is_wait r h x 0 head), y.0, refl, inl y.2))
-  index_back r R S g (App h (Both b n)) v ((x, head), n', e, inr k) =
+      let (j, arr, same) = is_arr r h l place in
+      (App h y.0, e ∙ ap (λ (u : Term). App (renamed r h) u) y.1, inr ((j, arr), y.0, refl, inl y.2))
+  index_back r R S g (App h n) v (inr ((l, place), n', e, inr k)) =
       let y = below_back r R S g n n' k in
-      (App h (Both b y.0), e ∙ ap (λ (u : Term). App (renamed r h) (Both (renamed r b) u)) y.1, ((x, is_wait r h x 0 head), y.0, refl, inr y.2))
+      let (j, arr, same) = is_arr r h l place in
+      (App h y.0, e ∙ ap (λ (u : Term). App (renamed r h) u) y.1, inr ((j, arr), y.0, refl, inr y.2))
+  index_back r R S g (App h (Both b n)) v (inl ((x, head), n', e, inl k)) =
+      let y = g n n' k in
+      (App h (Both b y.0), e ∙ ap (λ (u : Term). App (renamed r h) (Both (renamed r b) u)) y.1, inl ((x, is_wait r h x 0 head), y.0, refl, inl y.2))
+  index_back r R S g (App h (Both b n)) v (inl ((x, head), n', e, inr k)) =
+      let y = below_back r R S g n n' k in
+      (App h (Both b y.0), e ∙ ap (λ (u : Term). App (renamed r h) (Both (renamed r b) u)) y.1, inl ((x, is_wait r h x 0 head), y.0, refl, inr y.2))
+  index_back r R S g (App h n) v (inl k) = absurd k
   index_back r R S g m v h = absurd h
 
 pub reached_back : (r : ℕ → ℕ) (R S : Rel) → ((a v : Term) → S (renamed r a) v → Back r R a v) → (m v : Term) → Reached S (renamed r m) v
@@ -138,10 +151,15 @@ mutual
 
   index_some : (r : ℕ → ℕ) (R S : Rel) → ((a v : Term) → S (renamed r a) v → (t : Term) × R a t) → (m v : Term) → InIndex S (renamed r m) v
       → (t : Term) × InIndex R m t
-  index_some r R S g (App h (Both b n)) v ((x, head), n', e, inl k) =
-      let y = g n n' k in (App h (Both b y.0), ((x, is_wait r h x 0 head), y.0, refl, inl y.1))
-  index_some r R S g (App h (Both b n)) v ((x, head), n', e, inr k) =
-      let y = below_some r R S g n n' k in (App h (Both b y.0), ((x, is_wait r h x 0 head), y.0, refl, inr y.1))
+  index_some r R S g (App h n) v (inr ((l, place), n', e, inl k)) =
+      let y = g n n' k in let (j, arr, same) = is_arr r h l place in (App h y.0, inr ((j, arr), y.0, refl, inl y.1))
+  index_some r R S g (App h n) v (inr ((l, place), n', e, inr k)) =
+      let y = below_some r R S g n n' k in let (j, arr, same) = is_arr r h l place in (App h y.0, inr ((j, arr), y.0, refl, inr y.1))
+  index_some r R S g (App h (Both b n)) v (inl ((x, head), n', e, inl k)) =
+      let y = g n n' k in (App h (Both b y.0), inl ((x, is_wait r h x 0 head), y.0, refl, inl y.1))
+  index_some r R S g (App h (Both b n)) v (inl ((x, head), n', e, inr k)) =
+      let y = below_some r R S g n n' k in (App h (Both b y.0), inl ((x, is_wait r h x 0 head), y.0, refl, inr y.1))
+  index_some r R S g (App h n) v (inl k) = absurd k
   index_some r R S g m v h = absurd h
 
 pub reached_some : (r : ℕ → ℕ) (R S : Rel) → ((a v : Term) → S (renamed r a) v → (t : Term) × R a t) → (m v : Term) → Reached S (renamed r m) v
@@ -224,23 +242,31 @@ label_some r i o a v (inr h) = absurd h
 abbrev pub Somehow : Store → Rel
 Somehow s a t = (s' : Store) × Computes s s' a t
 
+-- what stands for a number under a new name does so
+located_back : (r : ℕ → ℕ) (m : Term) (l i : ℕ) → Locates (renamed r m) l i → (k : ℕ) × Locates m k i × (r k ≡ l)
+located_back r m l i (inl (e, z)) = let (k, is, same) = is_loc r m l e in (k, inl (is, z), same)
+located_back r m l i (inr (w, e)) =
+    let (h, n, whole, eh, en) = is_app r m (Arr l) (Lit i w) e in
+    let (k, arr, same) = is_arr r h l eh in
+    (k, inr (w, whole ∙ (ap (λ (v : Term). App v n) arr ∙ ap (λ (v : Term). App (Arr k) v) (is_lit r n i w en))), same)
+
 -- the entry, with the same numbers, of a location whose renamed one has an entry
-entry_back : (r : ℕ → ℕ) (f : Store) → IsInjective r → IsFreeOf r f → (s : Store) (m : Term) (e : Entry)
-    → renamed r m ≡ Loc e.place → entry_at (beside r s f) e.place ≡ Some e
-    → (d : Entry) × (m ≡ Loc d.place) × (entry_at s d.place ≡ Some d) × (d.numbers ≡ e.numbers)
-entry_back r f inj free s m e em here =
-    let b = is_loc r m e.place em in
+entry_back : (r : ℕ → ℕ) (f : Store) → IsInjective r → IsFreeOf r f → (s : Store) (m : Term) (i : ℕ) (e : Entry)
+    → Locates (renamed r m) e.place i → entry_at (beside r s f) e.place ≡ Some e
+    → (d : Entry) × Locates m d.place i × (entry_at s d.place ≡ Some d) × (d.numbers ≡ e.numbers)
+entry_back r f inj free s m i e em here =
+    let b = located_back r m e.place i em in
     found b.0 b.1 (subst (λ (x : ℕ). entry_at (beside r s f) x ≡ Some e) (sym b.2) here) (entry_at s b.0) refl
   where
-    found : (k : ℕ) → m ≡ Loc k → entry_at (beside r s f) (r k) ≡ Some e → (o : Option Entry) → entry_at s k ≡ o
-        → (d : Entry) × (m ≡ Loc d.place) × (entry_at s d.place ≡ Some d) × (d.numbers ≡ e.numbers)
+    found : (k : ℕ) → Locates m k i → entry_at (beside r s f) (r k) ≡ Some e → (o : Option Entry) → entry_at s k ≡ o
+        → (d : Entry) × Locates m d.place i × (entry_at s d.place ≡ Some d) × (d.numbers ≡ e.numbers)
     found k is there None q =
         let bad : None ≡ Some e = sym (entry_beside r inj s f k (free k) ∙ ap (moved r) q) ∙ there in absurd cc
     found k is there (Some d) q =
         let place = entry_place s k d q in
         let renamed_one : record d { place = r d.place } ≡ e =
         same_Some (record d { place = r d.place }) e (sym (entry_beside r inj s f k (free k) ∙ ap (moved r) q) ∙ there) in
-        (d, is ∙ ap (λ (x : ℕ). Loc x) (sym place), ap (entry_at s) place ∙ q, ap (λ (x : Entry). x.numbers) renamed_one)
+        (d, subst (λ (x : ℕ). Locates m x i) (sym place) is, ap (entry_at s) place ∙ q, ap (λ (x : Entry). x.numbers) renamed_one)
 
 row_some : (r : ℕ → ℕ) (f : Store) → IsInjective r → IsFreeOf r f → (s u : Store) (a v : Term) → Computes (beside r s f) u (renamed r a) v
     → (t : Term) × Somehow s a t
@@ -253,14 +279,16 @@ row_some r f inj free s u (Bin op m n) v (k, w, em, et, es) = (Held k op n, (s, 
 row_some r f inj free s u (Held k op n) v (j, w, en, et, es) = (Lit (result_of op w k j) (result_width op w), (s, (j, w, is_lit r n j w en, refl, refl)))
 row_some r f inj free s u (Not m) v (k, w, em, et, es) = (Lit (complement w k) w, (s, (k, w, is_lit r m k w em, refl, refl)))
 row_some r f inj free s u (Assign m n) v (k, w, en, et, es) = (Put m k, (s, (k, w, is_lit r n k w en, refl, refl)))
-row_some r f inj free s u (Put m k) v (e, old, em, here, has, et, es) =
-    let g = entry_back r f inj free s m e em here in
-    (Skip, (store_put s g.0.place 0 k, (g.0, old, g.1, g.2, ap (λ (ks : List ℕ). slice_get ks 0) g.3 ∙ has, refl, refl)))
-row_some r f inj free s u (Deref m) v (e, old, em, here, has, et, es) =
-    let g = entry_back r f inj free s m e em here in
-    (Lit old g.0.width, (s, (g.0, old, g.1, g.2, ap (λ (ks : List ℕ). slice_get ks 0) g.3 ∙ has, refl, refl)))
+row_some r f inj free s u (Put m k) v (e, j, old, em, here, has, et, es) =
+    let g = entry_back r f inj free s m j e em here in
+    (Skip, (store_put s g.0.place j k, (g.0, j, old, g.1, g.2, ap (λ (ks : List ℕ). slice_get ks j) g.3 ∙ has, refl, refl)))
+row_some r f inj free s u (Deref m) v (e, j, old, em, here, has, et, es) =
+    let g = entry_back r f inj free s m j e em here in
+    (Lit old g.0.width, (s, (g.0, j, old, g.1, g.2, ap (λ (ks : List ℕ). slice_get ks j) g.3 ∙ has, refl, refl)))
 row_some r f inj free s u (New w m) v h =
     let l = above s in (Scope l (instantiate m (Loc l)), (variable_at l w 0 ∷ s, (l, above_absent s l (omega arith), refl, refl)))
+row_some r f inj free s u (NewArray n w m) v h =
+    let l = above s in (Scope l (instantiate m (Arr l)), (array_at l w n ∷ s, (l, above_absent s l (omega arith), refl, refl)))
 row_some r f inj free s u (Scope l m) v (is, et, es) = (m, (without s l, (is_value r m is, refl, refl)))
 row_some r f inj free s u m v h = absurd h
 

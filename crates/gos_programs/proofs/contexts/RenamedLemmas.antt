@@ -2,16 +2,16 @@
 use Rattle.std.specs.Prelude.{◌≡◌, ℕ, zero, suc, Bool, true, false, List, ◌∷◌, Option, Some, nat_eq, if◌then◌else◌}
 use Rattle.std.proofs.Common.{refl, sym, ap, subst, inl, inr, ◌∙◌}
 use Rattle.gos_types.specs.Types.{Type', Com, Exp, Var, Pair, Fun}
-use Rattle.gos_model.specs.Terms.{Term, Skip, Lit, Bound, Import, Lam, App, Both, Fst, Snd, Seq, Par, If, While, Assign, Deref, New, Not, Bin, Loc, Scope, Wait, Held, Put}
+use Rattle.gos_model.specs.Terms.{Term, Skip, Lit, Bound, Import, Lam, App, Both, Fst, Snd, Seq, Par, If, While, Assign, Deref, New, Not, Bin, Loc, Scope, Wait, Held, Put, NewArray, Arr}
 use Rattle.gos_model.specs.Substitution.{put_at}
-use Rattle.gos_model.specs.Typing.{Imports, Typed, import_type}
+use Rattle.gos_model.specs.Typing.{Imports, Typed, import_type, array_type}
 use Rattle.gos_model.specs.Stores.{Store}
 use Rattle.gos_model.specs.Reach.{Rel, Reached, Rewrites, Under, Aside}
-use Rattle.gos_model.specs.Steps.{Computes, IsValue}
+use Rattle.gos_model.specs.Steps.{Computes, IsValue, Locates}
 use Rattle.gos_model.specs.Labels.{Label, IsAnswer}
 use Rattle.gos_model.specs.Moves.{Act, Computing, Showing, Acts, Unfoldings}
 use Rattle.gos_model.proofs.AccessMapLemmas.{puts_mapped, reads_mapped, writes_mapped}
-use Rattle.gos_programs.specs.contexts.Contexts.{Context, SeqFirst, ParLeft, ParRight, IfTest, BinLeft, HeldRight, NotOf, AssignRight, ScopeBody, ReadIndex, WriteIndex, plug}
+use Rattle.gos_programs.specs.contexts.Contexts.{Context, SeqFirst, ParLeft, ParRight, IfTest, BinLeft, HeldRight, NotOf, AssignRight, ScopeBody, ReadIndex, WriteIndex, plug, ReadAt, WriteAt}
 use Rattle.gos_programs.specs.contexts.Renaming.{renamed, IsInjective, IsFreeOf, beside}
 use Rattle.gos_programs.proofs.contexts.BackwardLemmas.{OneHead, OneLabel}
 use Rattle.gos_programs.proofs.contexts.ReachedLemmas.{reached_lifted}
@@ -39,9 +39,11 @@ renamed_put r (While m n) d q = λ i. While (renamed_put r m d q i) (renamed_put
 renamed_put r (Assign m n) d q = λ i. Assign (renamed_put r m d q i) (renamed_put r n d q i)
 renamed_put r (Deref m) d q = λ i. Deref (renamed_put r m d q i)
 renamed_put r (New w m) d q = λ i. New w (renamed_put r m (suc d) q i)
+renamed_put r (NewArray n w m) d q = λ i. NewArray n w (renamed_put r m (suc d) q i)
 renamed_put r (Not m) d q = λ i. Not (renamed_put r m d q i)
 renamed_put r (Bin op m n) d q = λ i. Bin op (renamed_put r m d q i) (renamed_put r n d q i)
 renamed_put r (Loc l) d q = refl
+renamed_put r (Arr l) d q = refl
 renamed_put r (Scope l m) d q = λ i. Scope (r l) (renamed_put r m d q i)
 renamed_put r (Wait x s) d q = refl
 renamed_put r (Held k op n) d q = λ i. Held k op (renamed_put r n d q i)
@@ -65,9 +67,11 @@ sources_renamed r i g (While m n) t (e, h, k) = λ j. While (sources_renamed r i
 sources_renamed r i g (Assign m n) t (w, e, h, k) = λ j. Assign (sources_renamed r i g m (Var w) h j) (sources_renamed r i g n (Exp w) k j)
 sources_renamed r i g (Deref m) t (w, e, h) = λ j. Deref (sources_renamed r i g m (Var w) h j)
 sources_renamed r i g (New w m) t (d, k, h) = λ j. New w (sources_renamed r i (Var w ∷ g) m t h j)
+sources_renamed r i g (NewArray n w m) t (d, l, k, h) = λ j. NewArray n w (sources_renamed r i (array_type n w ∷ g) m t h j)
 sources_renamed r i g (Not m) t (w, e, h) = λ j. Not (sources_renamed r i g m (Exp w) h j)
 sources_renamed r i g (Bin op m n) t (w, e, h, k) = λ j. Bin op (sources_renamed r i g m (Exp w) h j) (sources_renamed r i g n (Exp w) k j)
 sources_renamed r i g (Loc l) t h = absurd h
+sources_renamed r i g (Arr l) t h = absurd h
 sources_renamed r i g (Scope l m) t h = absurd h
 sources_renamed r i g (Wait x s) t h = absurd h
 sources_renamed r i g (Held k op n) t h = absurd h
@@ -87,8 +91,10 @@ renamed_in r R (HeldRight k op) a b h = inr (renamed r b, refl, h)
 renamed_in r R NotOf a b h = inr (renamed r b, refl, h)
 renamed_in r R (AssignRight n) a b h = inr (renamed r b, refl, h)
 renamed_in r R (ScopeBody l) a b h = inr (renamed r b, refl, h)
-renamed_in r R (ReadIndex x n) a b h = inr (App (Wait x 0) (Both (renamed r n) (renamed r b)), refl, ((x, refl), renamed r b, refl, h))
-renamed_in r R (WriteIndex x n k) a b h = inr (App (Wait x 0) (Both (renamed r n) (renamed r b)), refl, ((x, refl), renamed r b, refl, h))
+renamed_in r R (ReadIndex x n) a b h = inr (App (Wait x 0) (Both (renamed r n) (renamed r b)), refl, inl ((x, refl), renamed r b, refl, h))
+renamed_in r R (WriteIndex x n k) a b h = inr (App (Wait x 0) (Both (renamed r n) (renamed r b)), refl, inl ((x, refl), renamed r b, refl, h))
+renamed_in r R (ReadAt l) a b h = inr (App (Arr (r l)) (renamed r b), refl, inr ((r l, refl), renamed r b, refl, h))
+renamed_in r R (WriteAt l k) a b h = inr (App (Arr (r l)) (renamed r b), refl, inr ((r l, refl), renamed r b, refl, h))
 
 pub reached_renamed : (r : ℕ → ℕ) (R S : Rel) → ((a b : Term) → R a b → S (renamed r a) (renamed r b)) → (m t : Term) → Reached R m t
     → Reached S (renamed r m) (renamed r t)
@@ -157,6 +163,11 @@ pub value_renamed : (r : ℕ → ℕ) (v : Term) → IsValue v → renamed r v �
 value_renamed r v (inl e) = ap (renamed r) e ∙ sym e
 value_renamed r v (inr (k, w, e)) = ap (renamed r) e ∙ sym e
 
+-- what stands for a number does so at the new name
+pub locates_renamed : (r : ℕ → ℕ) (m : Term) (l i : ℕ) → Locates m l i → Locates (renamed r m) (r l) i
+locates_renamed r m l i (inl (e, z)) = inl (ap (renamed r) e, z)
+locates_renamed r m l i (inr (w, e)) = inr (w, ap (renamed r) e)
+
 -- computation
 row_beside : (r : ℕ → ℕ) (f : Store) → IsInjective r → IsFreeOf r f → (s s' : Store) (a b : Term) → Computes s s' a b
     → Computes (beside r s f) (beside r s' f) (renamed r a) (renamed r b)
@@ -176,19 +187,21 @@ row_beside r f inj free s s' (Not m) b (k, w, em, et, es) =
     (k, w, ap (renamed r) em, ap (renamed r) et, ap (λ (x : Store). beside r x f) es)
 row_beside r f inj free s s' (Assign m n) b (k, w, en, et, es) =
     (k, w, ap (renamed r) en, ap (renamed r) et, ap (λ (x : Store). beside r x f) es)
-row_beside r f inj free s s' (Put m k) b (e, old, em, here, has, et, es) = (
+row_beside r f inj free s s' (Put m k) b (e, j, old, em, here, has, et, es) = (
   record e { place = r e.place },
+  j,
   old,
-  ap (renamed r) em,
+  locates_renamed r m e.place j em,
   entry_beside r inj s f e.place (free e.place) ∙ ap (moved r) here,
   has,
   ap (renamed r) et,
-  ap (λ (x : Store). beside r x f) es ∙ put_beside r inj s f e.place 0 k (free e.place),
+  ap (λ (x : Store). beside r x f) es ∙ put_beside r inj s f e.place j k (free e.place),
 )
-row_beside r f inj free s s' (Deref m) b (e, old, em, here, has, et, es) = (
+row_beside r f inj free s s' (Deref m) b (e, j, old, em, here, has, et, es) = (
   record e { place = r e.place },
+  j,
   old,
-  ap (renamed r) em,
+  locates_renamed r m e.place j em,
   entry_beside r inj s f e.place (free e.place) ∙ ap (moved r) here,
   has,
   ap (renamed r) et,
@@ -198,6 +211,12 @@ row_beside r f inj free s s' (New w m) b (l, absent, et, es) = (
   r l,
   entry_beside r inj s f l (free l) ∙ ap (moved r) absent,
   ap (renamed r) et ∙ ap (λ (x : Term). Scope (r l) x) (renamed_put r m 0 (Loc l)),
+  ap (λ (x : Store). beside r x f) es,
+)
+row_beside r f inj free s s' (NewArray n w m) b (l, absent, et, es) = (
+  r l,
+  entry_beside r inj s f l (free l) ∙ ap (moved r) absent,
+  ap (renamed r) et ∙ ap (λ (x : Term). Scope (r l) x) (renamed_put r m 0 (Arr l)),
   ap (λ (x : Store). beside r x f) es,
 )
 row_beside r f inj free s s' (Scope l m) b (is, et, es) = (

@@ -1,8 +1,8 @@
 -- A program does the same on stores that have the same at each location.
 use Rattle.std.specs.Prelude.{◌≡◌, ◌⊎◌, ℕ, IsTrue, [], ◌∷◌, ◌++◌, Option, Some, None, nat_eq, if◌then◌else◌}
 use Rattle.std.proofs.Common.{refl, sym, ap, subst, inl, inr, ◌∙◌}
-use Rattle.gos_model.specs.Terms.{Term, Seq, Par, If, While, Assign, Deref, New, Not, Bin, Scope, Held, Put}
-use Rattle.gos_model.specs.Stores.{Entry, variable_at, Store, entry_at, store_put, without}
+use Rattle.gos_model.specs.Terms.{Term, Seq, Par, If, While, Assign, Deref, New, Not, Bin, Scope, Held, Put, NewArray}
+use Rattle.gos_model.specs.Stores.{Entry, variable_at, Store, entry_at, store_put, without, array_at}
 use Rattle.gos_model.specs.Reach.{Rel}
 use Rattle.gos_model.specs.Steps.{Computes, Steps}
 use Rattle.gos_model.specs.Labels.{Label, is_output}
@@ -74,15 +74,18 @@ same_row s s' t h (Bin op m n) b (k, w, em, et, es) = from_row s' t t (Bin op m 
 same_row s s' t h (Held k op n) b (j, w, en, et, es) = from_row s' t t (Held k op n) b (after s s' t t es h) (j, w, en, et, refl)
 same_row s s' t h (Not m) b (k, w, em, et, es) = from_row s' t t (Not m) b (after s s' t t es h) (k, w, em, et, refl)
 same_row s s' t h (Assign m n) b (k, w, en, et, es) = from_row s' t t (Assign m n) b (after s s' t t es h) (k, w, en, et, refl)
-same_row s s' t h (Put m k) b (e, old, em, here, has, et, es) =
+same_row s s' t h (Put m k) b (e, j, old, em, here, has, et, es) =
     let l : ℕ = e.place in
-    from_row s' t (store_put t l 0 k) (Put m k) b (after (store_put s l 0 k) s' t (store_put t l 0 k) es (same_put s t l 0 k h))
-    (e, old, em, sym (h l) ∙ here, has, et, refl)
-same_row s s' t h (Deref m) b (e, old, em, here, has, et, es) =
-    from_row s' t t (Deref m) b (after s s' t t es h) (e, old, em, sym (h e.place) ∙ here, has, et, refl)
+    from_row s' t (store_put t l j k) (Put m k) b (after (store_put s l j k) s' t (store_put t l j k) es (same_put s t l j k h))
+    (e, j, old, em, sym (h l) ∙ here, has, et, refl)
+same_row s s' t h (Deref m) b (e, j, old, em, here, has, et, es) =
+    from_row s' t t (Deref m) b (after s s' t t es h) (e, j, old, em, sym (h e.place) ∙ here, has, et, refl)
 same_row s s' t h (New w m) b (l, absent, et, es) =
     let e : Entry = variable_at l w 0 in
     from_row s' t (e ∷ t) (New w m) b (after (e ∷ s) s' t (e ∷ t) es (same_more e s t h)) (l, sym (h l) ∙ absent, et, refl)
+same_row s s' t h (NewArray n w m) b (l, absent, et, es) =
+    let e : Entry = array_at l w n in
+    from_row s' t (e ∷ t) (NewArray n w m) b (after (e ∷ s) s' t (e ∷ t) es (same_more e s t h)) (l, sym (h l) ∙ absent, et, refl)
 same_row s s' t h (Scope l m) b (is, et, es) =
     from_row s' t (without t l) (Scope l m) b (after (without s l) s' t (without t l) es (same_without s t l h)) (is, et, refl)
 same_row s s' t h a b g = absurd g

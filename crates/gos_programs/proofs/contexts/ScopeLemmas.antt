@@ -2,18 +2,18 @@
 use Rattle.std.specs.Prelude.{◌≡◌, ◌⊎◌, ℕ, zero, suc, List, [], ◌∷◌, Option, Some, None}
 use Rattle.std.proofs.Common.{arith, refl, sym, ap, subst, inl, inr, ◌∙◌}
 use Rattle.gos_types.specs.Types.{Type', Com, Exp, Var}
-use Rattle.gos_model.specs.Terms.{Name, Term, Lit, Import, App, Fst, Snd, Seq, Par, If, While, Assign, Deref, New, Not, Bin, Loc, Scope, Wait, Held, Put, Both}
+use Rattle.gos_model.specs.Terms.{Name, Term, Lit, Import, App, Fst, Snd, Seq, Par, If, While, Assign, Deref, New, Not, Bin, Loc, Scope, Wait, Held, Put, Both, NewArray, Arr}
 use Rattle.gos_model.specs.Substitution.{instantiate}
 use Rattle.gos_model.specs.Typing.{Imports, import_type}
-use Rattle.gos_model.specs.Stores.{Entry, variable_at, Store, entry_at, without}
+use Rattle.gos_model.specs.Stores.{Entry, variable_at, Store, entry_at, without, array_at}
 use Rattle.gos_model.specs.Reach.{Rel, InIndex}
-use Rattle.gos_model.specs.Steps.{Computes, IsValue}
+use Rattle.gos_model.specs.Steps.{Computes, IsValue, Locates}
 use Rattle.gos_model.specs.Labels.{Label, IsAnswer}
 use Rattle.gos_model.specs.Moves.{Program, Config, Idle, Running, Act, Computing, Showing, Acts, Unfoldings, Move, Moves}
 use Rattle.gos_model.proofs.NumberLemmas.{number_cases}
 use Rattle.gos_model.proofs.HeadLemmas.{Lower, lower_no_index}
-use Rattle.gos_programs.specs.contexts.Contexts.{Context, SeqFirst, ParLeft, ParRight, IfTest, BinLeft, HeldRight, NotOf, AssignRight, ScopeBody, ReadIndex, WriteIndex, plug}
-use Rattle.gos_programs.specs.contexts.Scopes.{IsShut, OpensInPlace, OpensInIndex, IsOpen, IsOpenInIndex, KeepsScopes, MovesKeepScopes, RunsKeepScopes, EndsEmpty}
+use Rattle.gos_programs.specs.contexts.Contexts.{Context, SeqFirst, ParLeft, ParRight, IfTest, BinLeft, HeldRight, NotOf, AssignRight, ScopeBody, ReadIndex, WriteIndex, plug, ReadAt, WriteAt}
+use Rattle.gos_programs.specs.contexts.Scopes.{IsShut, OpensInPlace, OpensInIndex, IsOpen, IsOpenInIndex, KeepsScopes, MovesKeepScopes, RunsKeepScopes, EndsEmpty, OpensInPortIndex, IsOpenInPortIndex}
 use Rattle.gos_programs.proofs.contexts.StoreLemmas.{not_both, first_at, later_at, without_same, without_absent, put_absent}
 use Rattle.gos_programs.proofs.contexts.ReachedLemmas.{reached_lifted}
 use Rattle.gos_programs.proofs.contexts.ShutLemmas.{shut_put, shut_in_place, shut_head}
@@ -37,14 +37,45 @@ Keeps s s' a b = OpensInPlace a → Kept s s' a b
 -- the index of an access
 pub in_index : (x : Name) (n a : Term) → IsShut (App (Wait x 0) (Both n a)) ⊎ OpensInIndex (App (Wait x 0) (Both n a)) → IsShut n × OpensInPlace a
 in_index x n a (inl (w, (f, g))) = (f, shut_in_place a g)
-in_index x n a (inr (head, f, g)) = (f, g)
+in_index x n a (inr (inl (head, f, g))) = (f, g)
+in_index x n a (inr (inr ((l, e), g))) = absurd (cc e)
+
+-- where the index of an access at a port has an open block
+pub open_in_port : (l : ℕ) (x : Name) (n a : Term) → IsOpenInIndex l (App (Wait x 0) (Both n a)) → IsOpen l a
+open_in_port l x n a (inl (head, o)) = o
+open_in_port l x n a (inr ((k, e), o)) = absurd (cc e)
+
+-- the index of an access of an array of the program's own
+no_port_opens : (x : ℕ) (a : Term) → OpensInPortIndex (Arr x) a → ⊥
+no_port_opens x (Both n m) ((y, e), f, g) = cc e
+no_port_opens x a h = absurd h
+
+no_port_open : (l x : ℕ) (a : Term) → IsOpenInPortIndex l (Arr x) a → ⊥
+no_port_open l x (Both n m) ((y, e), o) = cc e
+no_port_open l x a h = absurd h
+
+pub at_array : (x : ℕ) (a : Term) → IsShut (App (Arr x) a) ⊎ OpensInIndex (App (Arr x) a) → OpensInPlace a
+at_array x a (inl (w, g)) = shut_in_place a g
+at_array x a (inr (inl h)) = absurd (no_port_opens x a h)
+at_array x a (inr (inr (place, g))) = g
+
+pub open_at_array : (l x : ℕ) (a : Term) → IsOpenInIndex l (App (Arr x) a) → IsOpen l a
+open_at_array l x a (inl h) = absurd (no_port_open l x a h)
+open_at_array l x a (inr (place, o)) = o
+
+kept_at_array : (s s' : Store) (x : ℕ) (a b : Term) → Keeps s s' a b → OpensInPlace a
+    → (IsShut (App (Arr x) b) ⊎ OpensInIndex (App (Arr x) b))
+    × ((l : ℕ) → Present s' l → IsOpenInIndex l (App (Arr x) a) ⊎ Absent s l → IsOpenInIndex l (App (Arr x) b))
+kept_at_array s s' x a b q i =
+    let k = q i in
+    (inr (inr ((x, refl), k.0)), λ l p h. inr ((x, refl), k.1 l p (elim h [ inl o ↦ inl (open_at_array l x a o) | inr g ↦ inr g ])))
 
 kept_in_index : (s s' : Store) (x : Name) (n a b : Term) → Keeps s s' a b → IsShut n × OpensInPlace a
     → (IsShut (App (Wait x 0) (Both n b)) ⊎ OpensInIndex (App (Wait x 0) (Both n b)))
     × ((l : ℕ) → Present s' l → IsOpenInIndex l (App (Wait x 0) (Both n a)) ⊎ Absent s l → IsOpenInIndex l (App (Wait x 0) (Both n b)))
 kept_in_index s s' x n a b q (f, i) =
     let k = q i in
-    (inr ((x, refl), f, k.0), λ l p h. ((x, refl), k.1 l p (elim h [ inl o ↦ inl o.1 | inr g ↦ inr g ])))
+    (inr (inl ((x, refl), f, k.0)), λ l p h. inl ((x, refl), k.1 l p (elim h [ inl o ↦ inl (open_in_port l x n a o) | inr g ↦ inr g ])))
 
 kept_in : (s s' : Store) (c : Context) (a b : Term) → Keeps s s' a b → Keeps s s' (plug c a) (plug c b)
 kept_in s s' (SeqFirst n) a b q (i, j) = let k = q i in ((k.0, j), k.1)
@@ -70,6 +101,8 @@ kept_in s s' (ScopeBody x) a b q i =
     )
 kept_in s s' (ReadIndex x n) a b q i = kept_in_index s s' x n a b q (in_index x n a i)
 kept_in s s' (WriteIndex x n k) a b q i = kept_in_index s s' x n a b q (in_index x n a i)
+kept_in s s' (ReadAt x) a b q i = kept_at_array s s' x a b q (at_array x a i)
+kept_in s s' (WriteAt x k) a b q i = kept_at_array s s' x a b q (at_array x a i)
 
 -- where the store stays and nothing was open, nothing has to be
 stays : (s s' : Store) (a b : Term) → s' ≡ s → ((l : ℕ) → IsOpen l a → ⊥) → OpensInPlace b → Kept s s' a b
@@ -94,17 +127,17 @@ shrinks s s' a b less shut i = (i, λ l p h. elim h [ inl o ↦ absurd (shut l p
     both l (d, h) g = not_both (entry_at s' l) d (less l g) h
 
 -- a block that opens
-opens : (s s' : Store) (w : ℕ) (m b : Term) (x : ℕ) → IsShut m → b ≡ Scope x (instantiate m (Loc x))
-    → s' ≡ variable_at x w 0 ∷ s → Kept s s' (New w m) b
-opens s s' w m b x shut eb es =
-    subst (λ (y : Term). Kept s s' (New w m) y) (sym eb) (
-      shut_in_place (instantiate m (Loc x)) (shut_put m 0 (Loc x) tt shut),
-      λ l p h. elim h [ inl o ↦ absurd o | inr g ↦ number_cases x l (λ e t. inl e) (λ other f. absurd (new l p g other)) ],
+opens : (s s' : Store) (a m q b : Term) (first : Entry) → ((l : ℕ) → IsOpen l a → ⊥) → IsShut m → IsShut q
+    → b ≡ Scope first.place (instantiate m q) → s' ≡ first ∷ s → Kept s s' a b
+opens s s' a m q b first none shut closed eb es =
+    let x : ℕ = first.place in
+    subst (λ (y : Term). Kept s s' a y) (sym eb) (
+      shut_in_place (instantiate m q) (shut_put m 0 q closed shut),
+      λ l p h. elim h [ inl o ↦ absurd (none l o) | inr g ↦ number_cases x l (λ e t. inl e) (λ other f. absurd (new l p g other)) ],
     )
   where
-    new : (l : ℕ) → Present s' l → Absent s l → (x ≡ l → ⊥) → ⊥
+    new : (l : ℕ) → Present s' l → Absent s l → (first.place ≡ l → ⊥) → ⊥
     new l (d, h) g other =
-        let first : Entry = variable_at x w 0 in
         not_both (entry_at s' l) d (ap (λ (y : Store). entry_at y l) es ∙ (later_at first s l other ∙ g)) h
 
 -- a block that closes
@@ -124,15 +157,20 @@ abbrev Anything : Rel
 Anything a b = Unit {0}
 
 opens_index : (m : Term) → OpensInIndex m → InIndex Anything m m
-opens_index (App h (Both b n)) (head, f, i) = (head, n, refl, inl tt)
+opens_index (App h n) (inr (place, i)) = inr (place, n, refl, inl tt)
+opens_index (App h (Both b n)) (inl (head, f, i)) = inl (head, n, refl, inl tt)
+opens_index (App h n) (inl i) = absurd i
 opens_index m i = absurd i
 
 open_index : (l : ℕ) (m : Term) → IsOpenInIndex l m → InIndex Anything m m
-open_index l (App h (Both b n)) (head, o) = (head, n, refl, inl tt)
+open_index l (App h n) (inr (place, o)) = inr (place, n, refl, inl tt)
+open_index l (App h (Both b n)) (inl (head, o)) = inl (head, n, refl, inl tt)
+open_index l (App h n) (inl o) = absurd o
 open_index l m o = absurd o
 
-loc_not_open : (m : Term) (x : ℕ) → m ≡ Loc x → (l : ℕ) → IsOpenInIndex l m → ⊥
-loc_not_open m x e l o = subst (IsOpenInIndex l) e o
+located_not_open : (m : Term) (x i : ℕ) → Locates m x i → (l : ℕ) → IsOpenInIndex l m → ⊥
+located_not_open m x i (inl (e, z)) l o = subst (IsOpenInIndex l) e o
+located_not_open m x i (inr (w, e)) l o = open_at_array l x (Lit i w) (subst (IsOpenInIndex l) e o)
 
 import_not_open : (m : Term) (x : Name) → m ≡ Import x → (l : ℕ) → IsOpenInIndex l m → ⊥
 import_not_open m x e l o = subst (IsOpenInIndex l) e o
@@ -144,23 +182,25 @@ pub shut_head_aside : (m t : Term) → Lower m t → IsShut m ⊎ OpensInIndex m
 shut_head_aside m t lower (inl h) = h
 shut_head_aside m t lower (inr i) = absurd (lower_no_index Anything m t m lower (opens_index m i))
 
--- an index that is not asked for
+-- an index that is not asked for: of a port that doesn't wait for it
 abbrev pub IsUnasked : Term → Type 0
-IsUnasked h = (x : Name) → h ≡ Wait x 0 → ⊥
+IsUnasked h = ((x : Name) → h ≡ Wait x 0 → ⊥) × ((l : ℕ) → h ≡ Arr l → ⊥)
 
 pub import_unasked : (x : Name) → IsUnasked (Import x)
-import_unasked x y e = cc e
+import_unasked x = (λ y e. cc e, λ l e. cc e)
 
 pub request_unasked : (x : Name) → IsUnasked (Wait x 1)
-request_unasked x y e = let bad : ◌≡◌ {A = ℕ} 1 0 = cc e in omega (arith, bad)
+request_unasked x = (λ y e. let bad : ◌≡◌ {A = ℕ} 1 0 = cc e in omega (arith, bad), λ l e. cc e)
 
 unasked_index : (h a : Term) → IsUnasked h → OpensInIndex (App h a) → ⊥
-unasked_index h (Both n m) other i = other i.0.0 i.0.1
-unasked_index h a other i = absurd i
+unasked_index h a other (inr ((l, e), i)) = other.1 l e
+unasked_index h (Both n m) other (inl i) = other.0 i.0.0 i.0.1
+unasked_index h a other (inl i) = absurd i
 
 unasked_open : (l : ℕ) (h a : Term) → IsUnasked h → IsOpenInIndex l (App h a) → ⊥
-unasked_open l h (Both n m) other o = other o.0.0 o.0.1
-unasked_open l h a other o = absurd o
+unasked_open l h a other (inr ((k, e), o)) = other.1 k e
+unasked_open l h (Both n m) other (inl o) = other.0 o.0.0 o.0.1
+unasked_open l h a other (inl o) = absurd o
 
 pub unasked_shut : (m h a : Term) → m ≡ App h a → IsUnasked h → IsShut m ⊎ OpensInIndex m → IsShut a
 unasked_shut m h a em other i = by (subst (λ (v : Term). IsShut v ⊎ OpensInIndex v) em i)
@@ -176,7 +216,7 @@ pub asked_shut : (m : Term) (x : Name) (n j : Term) (k w : ℕ) → m ≡ App (W
 asked_shut m x n j k w em ej i = ((in_index x n j (subst (λ (v : Term). IsShut v ⊎ OpensInIndex v) em i)).0, subst IsShut (sym ej) tt)
 
 asked_not_open : (m : Term) (x : Name) (n j : Term) (k w : ℕ) → m ≡ App (Wait x 0) (Both n j) → j ≡ Lit k w → (l : ℕ) → IsOpenInIndex l m → ⊥
-asked_not_open m x n j k w em ej l o = let g = subst (IsOpenInIndex l) em o in subst (IsOpen l) ej g.1
+asked_not_open m x n j k w em ej l o = subst (IsOpen l) ej (open_in_port l x n j (subst (IsOpenInIndex l) em o))
 
 rows_keep : (s s' : Store) (a b : Term) → Computes s s' a b → Keeps s s' a b
 rows_keep s s' (Seq m n) b (em, et, es) (i, j) =
@@ -198,11 +238,12 @@ rows_keep s s' (Not m) b (k, w, em, et, es) i =
     stays s s' (Not m) b es (lit_shut k w m em) (subst OpensInPlace (sym et) tt)
 rows_keep s s' (Assign m n) b (k, w, en, et, es) (i, j) =
     stays s s' (Assign m n) b es (lit_shut k w n en) (subst OpensInPlace (sym et) (inl i))
-rows_keep s s' (Put m k) b (e, old, em, here, has, et, es) i =
-    shrinks s s' (Put m k) b (λ x g. ap (λ (y : Store). entry_at y x) es ∙ put_absent s e.place 0 k x g) (λ x p o. loc_not_open m e.place em x o) (subst OpensInPlace (sym et) tt)
-rows_keep s s' (Deref m) b (e, old, em, at, has, et, es) i =
-    stays s s' (Deref m) b es (loc_not_open m e.place em) (subst OpensInPlace (sym et) tt)
-rows_keep s s' (New w m) b (l, absent, et, es) i = opens s s' w m b l i et es
+rows_keep s s' (Put m k) b (e, j, old, em, here, has, et, es) i =
+    shrinks s s' (Put m k) b (λ x g. ap (λ (y : Store). entry_at y x) es ∙ put_absent s e.place j k x g) (λ x p o. located_not_open m e.place j em x o) (subst OpensInPlace (sym et) tt)
+rows_keep s s' (Deref m) b (e, j, old, em, at, has, et, es) i =
+    stays s s' (Deref m) b es (located_not_open m e.place j em) (subst OpensInPlace (sym et) tt)
+rows_keep s s' (New w m) b (l, absent, et, es) i = opens s s' (New w m) m (Loc l) b (variable_at l w 0) (λ x o. o) i tt et es
+rows_keep s s' (NewArray n w m) b (l, absent, et, es) i = opens s s' (NewArray n w m) m (Arr l) b (array_at l w n) (λ x o. o) i tt et es
 rows_keep s s' (Scope k m) b (is, et, es) i = closes s s' k m b i is et es
 rows_keep s s' m b h i = absurd h
 

@@ -1,8 +1,9 @@
 -- Sources have no open block, and substitution opens none.
+use Rattle.gos_model.specs.Typing.{array_type}
 use Rattle.std.specs.Prelude.{ℕ, suc, Bool, true, false, ◌∷◌, nat_eq, if◌then◌else◌}
 use Rattle.std.proofs.Common.{sym, subst, inl, inr}
 use Rattle.gos_types.specs.Types.{Exp, Var, Pair, Fun, Com}
-use Rattle.gos_model.specs.Terms.{Term, Skip, Lit, Bound, Import, Lam, App, Both, Fst, Snd, Seq, Par, If, While, Assign, Deref, New, Not, Bin, Loc, Scope, Wait, Held, Put}
+use Rattle.gos_model.specs.Terms.{Term, Skip, Lit, Bound, Import, Lam, App, Both, Fst, Snd, Seq, Par, If, While, Assign, Deref, New, Not, Bin, Loc, Scope, Wait, Held, Put, NewArray, Arr}
 use Rattle.gos_model.specs.Substitution.{put_at}
 use Rattle.gos_model.specs.Reach.{Rewrites, Under, Aside}
 use Rattle.gos_programs.specs.contexts.Scopes.{IsShut, OpensInPlace, SourcesAreShut}
@@ -25,9 +26,11 @@ sources_are_shut i g (While m n) t (e, h, k) = (sources_are_shut i g m (Exp 1) h
 sources_are_shut i g (Assign m n) t (w, e, h, k) = (sources_are_shut i g m (Var w) h, sources_are_shut i g n (Exp w) k)
 sources_are_shut i g (Deref m) t (w, e, h) = sources_are_shut i g m (Var w) h
 sources_are_shut i g (New w m) t (d, k, h) = sources_are_shut i (Var w ∷ g) m t h
+sources_are_shut i g (NewArray n w m) t (d, l, k, h) = sources_are_shut i (array_type n w ∷ g) m t h
 sources_are_shut i g (Not m) t (w, e, h) = sources_are_shut i g m (Exp w) h
 sources_are_shut i g (Bin op m n) t (w, e, h, k) = (sources_are_shut i g m (Exp w) h, sources_are_shut i g n (Exp w) k)
 sources_are_shut i g (Loc l) t h = tt
+sources_are_shut i g (Arr l) t h = tt
 sources_are_shut i g (Scope l m) t h = absurd h
 sources_are_shut i g (Wait x s) t h = tt
 sources_are_shut i g (Held k op n) t h = absurd h
@@ -55,9 +58,11 @@ shut_put (While m p) d n s h = (shut_put m d n s h.0, shut_put p d n s h.1)
 shut_put (Assign m p) d n s h = (shut_put m d n s h.0, shut_put p d n s h.1)
 shut_put (Deref m) d n s h = shut_put m d n s h
 shut_put (New w m) d n s h = shut_put m (suc d) n s h
+shut_put (NewArray c w m) d n s h = shut_put m (suc d) n s h
 shut_put (Not m) d n s h = shut_put m d n s h
 shut_put (Bin op m p) d n s h = (shut_put m d n s h.0, shut_put p d n s h.1)
 shut_put (Loc l) d n s h = tt
+shut_put (Arr l) d n s h = tt
 shut_put (Scope l m) d n s h = absurd h
 shut_put (Wait x j) d n s h = tt
 shut_put (Held k op m) d n s h = shut_put m d n s h
@@ -81,9 +86,11 @@ shut_in_place (While m p) h = h
 shut_in_place (Assign m p) h = (h.0, shut_in_place p h.1)
 shut_in_place (Deref m) h = inl h
 shut_in_place (New w m) h = h
+shut_in_place (NewArray n w m) h = h
 shut_in_place (Not m) h = shut_in_place m h
 shut_in_place (Bin op m p) h = (shut_in_place m h.0, h.1)
 shut_in_place (Loc l) h = h
+shut_in_place (Arr l) h = h
 shut_in_place (Scope l m) h = absurd h
 shut_in_place (Wait x s) h = h
 shut_in_place (Held k op m) h = shut_in_place m h

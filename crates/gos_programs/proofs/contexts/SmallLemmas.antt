@@ -6,7 +6,7 @@ use Rattle.std.proofs.lemmas.Option.{none-some}
 use Rattle.gos_types.specs.Types.{Com, Var}
 use Rattle.gos_types.proofs.BytesLemmas.{same_bytes_eq}
 use Rattle.gos_model.specs.Stores.{Entry, variable_at, entry_at}
-use Rattle.gos_model.specs.Terms.{Name}
+use Rattle.gos_model.specs.Terms.{Name, Arr, Wait}
 use Rattle.gos_model.specs.Typing.{import_type}
 use Rattle.gos_model.specs.Labels.{Port, Given, Taken}
 use Rattle.gos_model.specs.SmallPrograms.{c}
@@ -32,10 +32,20 @@ one_not_zero : ◌≡◌ {A = ℕ} 1 0 → ⊥
 one_not_zero e = omega (arith, e)
 
 pub blocks_open_in_index : BlocksOpenInIndex
-blocks_open_in_index = (inr ((c, refl), tt, inl tt), λ h. elim h [ inl g ↦ g.1.1 | inr g ↦ one_not_zero (cc g.0.1) ])
+blocks_open_in_index = (
+  inr (inl ((c, refl), tt, inl tt)),
+  λ h. elim h [
+    | inl g ↦ g.1.1
+    | inr g ↦ elim g [ inl k ↦ one_not_zero (cc k.0.1) | inr k ↦ no_array k.0.0 k.0.1 ]
+  ],
+  inr (inr ((0, refl), inl tt)),
+)
+  where
+    no_array : (l : ℕ) → Wait c 1 ≡ Arr l → ⊥
+    no_array l e = cc e
 
 pub index_is_not_alone : IndexIsNotAlone
-index_is_not_alone h = h
+index_is_not_alone = (λ h. h, tt)
 
 -- what a store of one entry has
 only_at : (k l : ℕ) → (k ≡ l → ⊥) → entry_at (one_at k) l ≡ None

@@ -2,24 +2,24 @@
 use Rattle.std.specs.Prelude.{◌≡◌, ◌⊎◌, ℕ, zero, suc, List, [], ◌∷◌, Option, Some, None, set}
 use Rattle.std.proofs.Common.{refl, sym, ap, subst, inl, inr, ◌∙◌}
 use Rattle.gos_types.specs.Types.{Type', Com, Exp, Var}
-use Rattle.gos_model.specs.Terms.{Name, Term, Skip, Lit, Bound, Import, Lam, App, Both, Fst, Snd, Seq, Par, If, While, Assign, Deref, New, Not, Bin, Loc, Scope, Wait, Held, Put}
+use Rattle.gos_model.specs.Terms.{Name, Term, Skip, Lit, Bound, Import, Lam, App, Both, Fst, Snd, Seq, Par, If, While, Assign, Deref, New, Not, Bin, Loc, Scope, Wait, Held, Put, NewArray, Arr}
 use Rattle.gos_model.specs.Substitution.{instantiate}
 use Rattle.gos_model.specs.Typing.{Imports, import_type}
-use Rattle.gos_model.specs.Stores.{Entry, variable_at, Store, entry_at, store_put}
+use Rattle.gos_model.specs.Stores.{Entry, variable_at, Store, entry_at, store_put, array_at}
 use Rattle.gos_model.specs.Reach.{Rel}
 use Rattle.gos_model.specs.Steps.{Computes, IsValue}
 use Rattle.gos_model.specs.Labels.{Label, IsAnswer}
 use Rattle.gos_model.specs.Moves.{Program, Config, Idle, Running, Act, Computing, Showing, Acts, Unfoldings, Move, Moves}
 use Rattle.gos_model.proofs.NumberLemmas.{number_cases}
-use Rattle.gos_programs.specs.contexts.Contexts.{Context, SeqFirst, ParLeft, ParRight, IfTest, BinLeft, HeldRight, NotOf, AssignRight, ScopeBody, ReadIndex, WriteIndex, plug}
+use Rattle.gos_programs.specs.contexts.Contexts.{Context, SeqFirst, ParLeft, ParRight, IfTest, BinLeft, HeldRight, NotOf, AssignRight, ScopeBody, ReadIndex, WriteIndex, plug, ReadAt, WriteAt}
 use Rattle.gos_programs.specs.contexts.Scopes.{IsShut, OpensInPlace, OpensInIndex, IsOpen, IsOpenInIndex}
-use Rattle.gos_programs.specs.contexts.Standing.{Present, StandsIn, Has, InScope, OpensDiffer, DifferInIndex, RunsStay}
+use Rattle.gos_programs.specs.contexts.Standing.{Present, StandsIn, Has, InScope, OpensDiffer, DifferInIndex, RunsStay, DifferInPortIndex}
 use Rattle.gos_programs.proofs.contexts.BackwardLemmas.{OneHead, OneLabel}
 use Rattle.gos_programs.proofs.contexts.PluggedLemmas.{acts_of}
 use Rattle.gos_programs.proofs.contexts.ReachedLemmas.{reached_lifted}
 use Rattle.gos_programs.proofs.contexts.StoreLemmas.{not_both, first_at, later_at, without_other, put_same, put_other, numbered}
 use Rattle.gos_programs.proofs.contexts.ShutLemmas.{sources_are_shut, shut_put, shut_in_place, shut_head}
-use Rattle.gos_programs.proofs.contexts.ScopeLemmas.{in_index, shut_head_aside, import_unasked, request_unasked, unasked_shut, asked_shut, acts_keep_place, unfoldings_keep_place}
+use Rattle.gos_programs.proofs.contexts.ScopeLemmas.{in_index, shut_head_aside, import_unasked, request_unasked, unasked_shut, asked_shut, acts_keep_place, unfoldings_keep_place, open_in_port, at_array, open_at_array}
 use Rattle.gos_programs.proofs.contexts.InScopeLemmas.{sources_scoped, unfoldings_scoped, acts_scoped}
 
 abbrev Absent : Store → ℕ → Type 0
@@ -42,7 +42,9 @@ mutual
   shut_not_open m l h o = absurd o
 
   index_not_open : (m : Term) (l : ℕ) → IsShut m → IsOpenInIndex l m → ⊥
-  index_not_open (App g (Both b n)) l h (head, o) = shut_not_open n l h.1.1 o
+  index_not_open (App g n) l h (inr (place, o)) = shut_not_open n l h.1 o
+  index_not_open (App g (Both b n)) l h (inl (head, o)) = shut_not_open n l h.1.1 o
+  index_not_open (App g n) l h (inl o) = absurd o
   index_not_open m l h o = absurd o
 
 mutual
@@ -60,8 +62,12 @@ mutual
   shut_differ m h = tt
 
   index_differs : (m : Term) → IsShut m → DifferInIndex m
-  index_differs (App g (Both b n)) h = λ head. shut_differ n h.1.1
+  index_differs (App g n) h = (port_differs g n h.1, λ place. shut_differ n h.1)
   index_differs m h = tt
+
+  port_differs : (g n : Term) → IsShut n → DifferInPortIndex g n
+  port_differs g (Both b n) h = λ head. shut_differ n h.1
+  port_differs g n h = tt
 
 -- Of a change of a with store s to b with store s': open blocks differ and are in the store; what is open was open,
 -- or was not in the store; and what was in the store and not open is there still.
@@ -82,12 +88,28 @@ stay_in_index : (s s' : Store) (x : Name) (n a b : Term) → Stay s s' a b → O
     → ((l : ℕ) → IsOpenInIndex l (App (Wait x 0) (Both n a)) → Present s l)
     → Follows s s' (Deref (App (Wait x 0) (Both n a))) (Deref (App (Wait x 0) (Both n b)))
 stay_in_index s s' x n a b q i d t =
-    let k = q i d (λ l o. t l ((x, refl), o)) in
+    let k = q i d (λ l o. t l (inl ((x, refl), o))) in
     record {
-      differ = λ head. k.differ;
-      there = λ l o. k.there l o.1;
-      before = λ l o. elim (k.before l o.1) [ inl y ↦ inl ((x, refl), y) | inr g ↦ inr g ];
-      rest = λ l p not. k.rest l p (λ y. not ((x, refl), y));
+      differ = (λ head. k.differ, λ place. tt);
+      there = λ l o. k.there l (open_in_port l x n b o);
+      before = λ l o. elim (k.before l (open_in_port l x n b o)) [ inl y ↦ inl (inl ((x, refl), y)) | inr g ↦ inr g ];
+      rest = λ l p not. k.rest l p (λ y. not (inl ((x, refl), y)));
+    }
+
+-- in that of an access of an array of the program's own
+no_port_differs : (x : ℕ) (b : Term) → DifferInPortIndex (Arr x) b
+no_port_differs x (Both n m) = λ head. absurd (cc head.1)
+no_port_differs x b = tt
+
+stay_at_array : (s s' : Store) (x : ℕ) (a b : Term) → Stay s s' a b → OpensInPlace a → OpensDiffer a
+    → ((l : ℕ) → IsOpenInIndex l (App (Arr x) a) → Present s l) → Follows s s' (Deref (App (Arr x) a)) (Deref (App (Arr x) b))
+stay_at_array s s' x a b q i d t =
+    let k = q i d (λ l o. t l (inr ((x, refl), o))) in
+    record {
+      differ = (no_port_differs x b, λ place. k.differ);
+      there = λ l o. k.there l (open_at_array l x b o);
+      before = λ l o. elim (k.before l (open_at_array l x b o)) [ inl y ↦ inl (inr ((x, refl), y)) | inr g ↦ inr g ];
+      rest = λ l p not. k.rest l p (λ y. not (inr ((x, refl), y)));
     }
 
 stay_in : (s s' : Store) (c : Context) (a b : Term) → Stay s s' a b → Stay s s' (plug c a) (plug c b)
@@ -121,9 +143,13 @@ stay_in s s' (ScopeBody x) a b q i (new, d) t =
       before = λ l o. elim o [ inl e ↦ inl (inl e) | inr y ↦ elim (k.before l y) [ inl z ↦ inl (inr z) | inr g ↦ inr g ] ];
       rest = λ l p not. k.rest l p (λ y. not (inr y));
     }
-stay_in s s' (ReadIndex x n) a b q i d t = stay_in_index s s' x n a b q (in_index x n a i).1 (d (x, refl)) t
+stay_in s s' (ReadIndex x n) a b q i d t = stay_in_index s s' x n a b q (in_index x n a i).1 (d.0 (x, refl)) t
 stay_in s s' (WriteIndex x n k) a b q i d t =
-    let j = stay_in_index s s' x n a b q (in_index x n a i).1 (d (x, refl)) t in
+    let j = stay_in_index s s' x n a b q (in_index x n a i).1 (d.0 (x, refl)) t in
+    record { differ = j.differ; there = j.there; before = j.before; rest = j.rest }
+stay_in s s' (ReadAt x) a b q i d t = stay_at_array s s' x a b q (at_array x a i) (d.1 (x, refl)) t
+stay_in s s' (WriteAt x k) a b q i d t =
+    let j = stay_at_array s s' x a b q (at_array x a i) (d.1 (x, refl)) t in
     record { differ = j.differ; there = j.there; before = j.before; rest = j.rest }
 
 -- to a term without open blocks, where what isn't open stays
@@ -152,6 +178,22 @@ value_is_shut : (v : Term) → IsValue v → IsShut v
 value_is_shut v (inl e) = subst IsShut (sym e) tt
 value_is_shut v (inr (k, w, e)) = subst IsShut (sym e) tt
 
+-- a block that opens, with the location of its entry put in
+opened_stay : (s s' : Store) (a m q b : Term) (e : Entry) → IsShut m → IsShut q → entry_at s e.place ≡ None
+    → b ≡ Scope e.place (instantiate m q) → s' ≡ e ∷ s → Follows s s' a b
+opened_stay s s' a m q b e i closed absent et es =
+    let x : ℕ = e.place in
+    let body = instantiate m q in
+    let shut : IsShut body = shut_put m 0 q closed i in
+    let opened : Follows s (e ∷ s) a (Scope x body) =
+    record {
+      differ = ((λ o. shut_not_open body x shut o), shut_differ body shut);
+      there = λ l o. elim o [ inl g ↦ (e, first_at e s l g) | inr y ↦ absurd (shut_not_open body l shut y) ];
+      before = λ l o. elim o [ inl g ↦ inr (subst (Absent s) g absent) | inr y ↦ absurd (shut_not_open body l shut y) ];
+      rest = λ l p not. number_cases x l (λ g y. (e, first_at e s l g)) (λ other f. (p.0, later_at e s l other ∙ p.1));
+    } in
+    subst (λ (y : Store). Follows s y a b) (sym es) (subst (λ (y : Term). Follows s (e ∷ s) a y) (sym et) opened)
+
 row_stay : (s s' : Store) (a b : Term) → Computes s s' a b → Stay s s' a b
 row_stay s s' (Seq m n) b (em, et, es) (i, j) d t = same s s' (Seq m n) b es (subst IsShut (sym et) j)
 row_stay s s' (Par m n) b (em, en, et, es) i d t = same s s' (Par m n) b es (subst IsShut (sym et) tt)
@@ -162,22 +204,11 @@ row_stay s s' (Bin op m n) b (k, w, em, et, es) (i, j) d t = same s s' (Bin op m
 row_stay s s' (Held k op n) b (j, w, en, et, es) i d t = same s s' (Held k op n) b es (subst IsShut (sym et) tt)
 row_stay s s' (Not m) b (k, w, em, et, es) i d t = same s s' (Not m) b es (subst IsShut (sym et) tt)
 row_stay s s' (Assign m n) b (k, w, en, et, es) (i, j) d t = same s s' (Assign m n) b es (subst IsShut (sym et) i)
-row_stay s s' (Put m k) b (e, old, em, here, has, et, es) i d t =
-    ends s s' (Put m k) b (subst IsShut (sym et) tt) (λ x p not. subst (λ (y : Store). Present y x) (sym es) (put_present s e.place 0 k x p))
-row_stay s s' (Deref m) b (e, old, em, here, has, et, es) i d t = same s s' (Deref m) b es (subst IsShut (sym et) tt)
-row_stay s s' (New w m) b (x, absent, et, es) i d t =
-    let e : Entry = variable_at x w 0 in
-    let body = instantiate m (Loc x) in
-    let shut : IsShut body = shut_put m 0 (Loc x) tt i in
-    let stores = λ (y : Store) (l : ℕ). Present y l in
-    let opened : Follows s (e ∷ s) (New w m) (Scope x body) =
-    record {
-      differ = ((λ o. shut_not_open body x shut o), shut_differ body shut);
-      there = λ l o. elim o [ inl g ↦ (e, first_at e s l g) | inr y ↦ absurd (shut_not_open body l shut y) ];
-      before = λ l o. elim o [ inl g ↦ inr (subst (Absent s) g absent) | inr y ↦ absurd (shut_not_open body l shut y) ];
-      rest = λ l p not. number_cases x l (λ g y. (e, first_at e s l g)) (λ other f. (p.0, later_at e s l other ∙ p.1));
-    } in
-    subst (λ (y : Store). Follows s y (New w m) b) (sym es) (subst (λ (y : Term). Follows s (e ∷ s) (New w m) y) (sym et) opened)
+row_stay s s' (Put m k) b (e, j, old, em, here, has, et, es) i d t =
+    ends s s' (Put m k) b (subst IsShut (sym et) tt) (λ x p not. subst (λ (y : Store). Present y x) (sym es) (put_present s e.place j k x p))
+row_stay s s' (Deref m) b (e, j, old, em, here, has, et, es) i d t = same s s' (Deref m) b es (subst IsShut (sym et) tt)
+row_stay s s' (New w m) b (x, absent, et, es) i d t = opened_stay s s' (New w m) m (Loc x) b (variable_at x w 0) i tt absent et es
+row_stay s s' (NewArray n w m) b (x, absent, et, es) i d t = opened_stay s s' (NewArray n w m) m (Arr x) b (array_at x w n) i tt absent et es
 row_stay s s' (Scope k m) b (is, et, es) i d t =
     ends s s' (Scope k m) b (subst IsShut (sym et) (value_is_shut m is))
     (λ l p not. subst (λ (y : Store). Present y l) (sym es) (p.0, without_other s k l (λ e. not (inl e)) ∙ p.1))
@@ -288,9 +319,11 @@ stands_shut s ls f (While m n) h i = (stands_shut s ls f m h.0 i.0, stands_shut 
 stands_shut s ls f (Assign m n) h i = (stands_shut s ls f m h.0 i.0, stands_shut s ls f n h.1 i.1)
 stands_shut s ls f (Deref m) h i = stands_shut s ls f m h i
 stands_shut s ls f (New w m) h i = stands_shut s ls f m h i
+stands_shut s ls f (NewArray n w m) h i = stands_shut s ls f m h i
 stands_shut s ls f (Not m) h i = stands_shut s ls f m h i
 stands_shut s ls f (Bin op m n) h i = (stands_shut s ls f m h.0 i.0, stands_shut s ls f n h.1 i.1)
 stands_shut s ls f (Loc l) h i = f l h
+stands_shut s ls f (Arr l) h i = f l h
 stands_shut s ls f (Scope l m) h i = absurd i
 stands_shut s ls f (Wait x n) h i = tt
 stands_shut s ls f (Held k op n) h i = stands_shut s ls f n h i
@@ -319,8 +352,11 @@ mutual
   stands_access : (s : Store) (m : Term) (ls : List ℕ) → ((l : ℕ) → Has l ls → Present s l) → InScope ls m → IsShut m ⊎ OpensInIndex m
       → ((l : ℕ) → IsOpenInIndex l m → Present s l) → StandsIn s m
   stands_access s m ls f h (inl i) t = stands_shut s ls f m h i
-  stands_access s (App g (Both b n)) ls f h (inr ((x, e), shut, i)) t =
-      (subst (StandsIn s) (sym e) tt, (stands_shut s ls f b h.1.0 shut, stands s n ls f h.1.1 i (λ l o. t l ((x, e), o))))
+  stands_access s (App g n) ls f h (inr (inr ((x, e), i))) t =
+      (subst (StandsIn s) (sym e) (f x (subst (InScope ls) e h.0)), stands s n ls f h.1 i (λ l o. t l (inr ((x, e), o))))
+  stands_access s (App g (Both b n)) ls f h (inr (inl ((x, e), shut, i))) t =
+      (subst (StandsIn s) (sym e) tt, (stands_shut s ls f b h.1.0 shut, stands s n ls f h.1.1 i (λ l o. t l (inl ((x, e), o)))))
+  stands_access s (App g n) ls f h (inr (inl i)) t = absurd i
   stands_access s m ls f h (inr i) t = absurd i
 
 pub runs_stay : RunsStay

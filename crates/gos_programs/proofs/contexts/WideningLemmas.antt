@@ -3,16 +3,16 @@ use Rattle.gos_model.specs.Accesses.{IsArrayImport}
 use Rattle.std.specs.Prelude.{◌≡◌, ℕ, zero, suc, Bool, true, false, List, [], ◌∷◌, Option, Some, None, nat_eq, if◌then◌else◌}
 use Rattle.std.proofs.Common.{refl, sym, subst, inl, inr, ◌∙◌}
 use Rattle.gos_types.specs.Types.{Type', Com, Exp, Var, Pair, Fun}
-use Rattle.gos_model.specs.Terms.{Name, Term, Skip, Lit, Bound, Import, Lam, App, Both, Fst, Snd, Seq, Par, If, While, Assign, Deref, New, Not, Bin, Loc, Scope, Wait, Held, Put}
+use Rattle.gos_model.specs.Terms.{Name, Term, Skip, Lit, Bound, Import, Lam, App, Both, Fst, Snd, Seq, Par, If, While, Assign, Deref, New, Not, Bin, Loc, Scope, Wait, Held, Put, NewArray, Arr}
 use Rattle.gos_model.specs.Substitution.{put_at}
-use Rattle.gos_model.specs.Typing.{Imports, Typed, import_type}
+use Rattle.gos_model.specs.Typing.{Imports, Typed, import_type, array_type}
 use Rattle.gos_model.specs.Stores.{Store}
 use Rattle.gos_model.specs.Reach.{Rel, Reached, Rewrites, Under, Aside}
 use Rattle.gos_model.specs.Steps.{Computes}
 use Rattle.gos_model.specs.Labels.{Label, IsAnswer}
 use Rattle.gos_model.specs.Moves.{Program, Config, Idle, Running, Act, Computing, Showing, Acts, ActsTo, Unfoldings, Move, Moves}
 use Rattle.gos_model.proofs.AccessMapLemmas.{puts_keep, reads_keep, writes_keep, puts_as, reads_as, writes_as}
-use Rattle.gos_programs.specs.contexts.Contexts.{Context, SeqFirst, ParLeft, ParRight, IfTest, BinLeft, HeldRight, NotOf, AssignRight, ScopeBody, ReadIndex, WriteIndex, plug}
+use Rattle.gos_programs.specs.contexts.Contexts.{Context, SeqFirst, ParLeft, ParRight, IfTest, BinLeft, HeldRight, NotOf, AssignRight, ScopeBody, ReadIndex, WriteIndex, plug, ReadAt, WriteAt}
 use Rattle.gos_programs.specs.contexts.Widening.{AreAmong, Knows, SourcesAreKnown, RunsAreKnown, MoveWidens, MovesWiden, MoveNarrows, WaitsWidely}
 use Rattle.gos_programs.proofs.contexts.BackwardLemmas.{OneHead, OneLabel}
 use Rattle.gos_programs.proofs.contexts.PluggedLemmas.{acts_of, reached_plugged, stays_running, inner_rest}
@@ -36,9 +36,11 @@ typed_more i j all g (While m n) t (e, h, k) = (e, typed_more i j all g m (Exp 1
 typed_more i j all g (Assign m n) t (w, e, h, k) = (w, e, typed_more i j all g m (Var w) h, typed_more i j all g n (Exp w) k)
 typed_more i j all g (Deref m) t (w, e, h) = (w, e, typed_more i j all g m (Var w) h)
 typed_more i j all g (New w m) t (d, width, h) = (d, width, typed_more i j all (Var w ∷ g) m t h)
+typed_more i j all g (NewArray n w m) t (d, l, width, h) = (d, l, width, typed_more i j all (array_type n w ∷ g) m t h)
 typed_more i j all g (Not m) t (w, e, h) = (w, e, typed_more i j all g m (Exp w) h)
 typed_more i j all g (Bin op m n) t (w, e, h, k) = (w, e, typed_more i j all g m (Exp w) h, typed_more i j all g n (Exp w) k)
 typed_more i j all g (Loc l) t h = h
+typed_more i j all g (Arr l) t h = h
 typed_more i j all g (Scope l m) t h = h
 typed_more i j all g (Wait x s) t h = h
 typed_more i j all g (Held k op n) t h = h
@@ -61,9 +63,11 @@ sources_known i g (While m n) t (e, h, k) = (sources_known i g m (Exp 1) h, sour
 sources_known i g (Assign m n) t (w, e, h, k) = (sources_known i g m (Var w) h, sources_known i g n (Exp w) k)
 sources_known i g (Deref m) t (w, e, h) = sources_known i g m (Var w) h
 sources_known i g (New w m) t (d, k, h) = sources_known i (Var w ∷ g) m t h
+sources_known i g (NewArray n w m) t (d, l, k, h) = sources_known i (array_type n w ∷ g) m t h
 sources_known i g (Not m) t (w, e, h) = sources_known i g m (Exp w) h
 sources_known i g (Bin op m n) t (w, e, h, k) = (sources_known i g m (Exp w) h, sources_known i g n (Exp w) k)
 sources_known i g (Loc l) t h = absurd h
+sources_known i g (Arr l) t h = absurd h
 sources_known i g (Scope l m) t h = absurd h
 sources_known i g (Wait x s) t h = absurd h
 sources_known i g (Held k op n) t h = absurd h
@@ -91,9 +95,11 @@ known_put i (While m n) d q k h = (known_put i m d q k h.0, known_put i n d q k 
 known_put i (Assign m n) d q k h = (known_put i m d q k h.0, known_put i n d q k h.1)
 known_put i (Deref m) d q k h = known_put i m d q k h
 known_put i (New w m) d q k h = known_put i m (suc d) q k h
+known_put i (NewArray n w m) d q k h = known_put i m (suc d) q k h
 known_put i (Not m) d q k h = known_put i m d q k h
 known_put i (Bin op m n) d q k h = (known_put i m d q k h.0, known_put i n d q k h.1)
 known_put i (Loc l) d q k h = tt
+known_put i (Arr l) d q k h = tt
 known_put i (Scope l m) d q k h = known_put i m d q k h
 known_put i (Wait x s) d q k h = h
 known_put i (Held j op n) d q k h = known_put i n d q k h
@@ -163,9 +169,10 @@ known_row i s s' (Bin op m n) b (j, w, em, et, es) (h, k) = subst (Knows i) (sym
 known_row i s s' (Held k op n) b (j, w, en, et, es) h = subst (Knows i) (sym et) tt
 known_row i s s' (Not m) b (k, w, em, et, es) h = subst (Knows i) (sym et) tt
 known_row i s s' (Assign m n) b (j, w, en, et, es) (h, k) = subst (Knows i) (sym et) h
-known_row i s s' (Put m k) b (e, old, em, here, has, et, es) h = subst (Knows i) (sym et) tt
-known_row i s s' (Deref m) b (e, old, em, here, has, et, es) h = subst (Knows i) (sym et) tt
+known_row i s s' (Put m k) b (e, j, old, em, here, has, et, es) h = subst (Knows i) (sym et) tt
+known_row i s s' (Deref m) b (e, j, old, em, here, has, et, es) h = subst (Knows i) (sym et) tt
 known_row i s s' (New w m) b (l, absent, et, es) h = subst (Knows i) (sym et) (known_put i m 0 (Loc l) tt h)
+known_row i s s' (NewArray n w m) b (l, absent, et, es) h = subst (Knows i) (sym et) (known_put i m 0 (Arr l) tt h)
 known_row i s s' (Scope l m) b (is, et, es) h = subst (Knows i) (sym et) h
 known_row i s s' m b h k = absurd h
 
@@ -185,6 +192,8 @@ keeps_in i (AssignRight n) a b q (h, k) = (h, q k)
 keeps_in i (ScopeBody l) a b q h = q h
 keeps_in i (ReadIndex x n) a b q (w, (h, k)) = (w, (h, q k))
 keeps_in i (WriteIndex x n j) a b q (w, (h, k)) = (w, (h, q k))
+keeps_in i (ReadAt l) a b q (h, k) = (h, q k)
+keeps_in i (WriteAt l j) a b q (h, k) = (h, q k)
 
 known_inside : (i : Imports) (c : Context) (a : Term) → Knows i (plug c a) → Knows i a
 known_inside i (SeqFirst n) a h = h.0
@@ -198,6 +207,8 @@ known_inside i (AssignRight n) a h = h.1
 known_inside i (ScopeBody l) a h = h
 known_inside i (ReadIndex x n) a h = h.1.1
 known_inside i (WriteIndex x n j) a h = h.1.1
+known_inside i (ReadAt l) a h = h.1
+known_inside i (WriteAt l j) a h = h.1
 
 unfoldings_known : (i : Imports) (n : ℕ) (m t : Term) → Unfoldings n m t → Knows i m → Knows i t
 unfoldings_known i zero m t h k = subst (Knows i) h k

@@ -3,13 +3,13 @@ use Rattle.std.specs.Prelude.{◌≡◌, ◌≢◌, ℕ, zero, suc, List, [], �
 use Rattle.std.proofs.Common.{arith, refl, sym, ap, subst, inl, inr}
 use Rattle.std.proofs.lemmas.Bool.{cond-true, cond-false}
 use Rattle.gos_types.specs.Types.{Type', Com, Exp, Var, Pair, Fun}
-use Rattle.gos_model.specs.Terms.{Term, Skip, Lit, Bound, Import, Lam, App, Both, Fst, Snd, Seq, Par, If, While, Assign, Deref, New, Not, Bin, Loc, Scope, Wait, Held, Put}
+use Rattle.gos_model.specs.Terms.{Term, Skip, Lit, Bound, Import, Lam, App, Both, Fst, Snd, Seq, Par, If, While, Assign, Deref, New, Not, Bin, Loc, Scope, Wait, Held, Put, Arr, NewArray}
 use Rattle.gos_model.specs.Substitution.{put_at, instantiate}
-use Rattle.gos_model.specs.Typing.{Imports}
+use Rattle.gos_model.specs.Typing.{Imports, array_type}
 use Rattle.gos_model.specs.Reach.{Rel, Rewrites, Under, Aside}
 use Rattle.gos_model.specs.Moves.{Unfoldings}
 use Rattle.gos_model.proofs.NumberLemmas.{number_cases}
-use Rattle.gos_programs.specs.contexts.Contexts.{Context, SeqFirst, ParLeft, ParRight, IfTest, BinLeft, HeldRight, NotOf, AssignRight, ScopeBody, ReadIndex, WriteIndex, plug}
+use Rattle.gos_programs.specs.contexts.Contexts.{Context, SeqFirst, ParLeft, ParRight, IfTest, BinLeft, HeldRight, NotOf, AssignRight, ScopeBody, ReadIndex, WriteIndex, plug, ReadAt, WriteAt}
 use Rattle.gos_programs.proofs.contexts.ReachedLemmas.{reached_lifted}
 use Rattle.gos_programs.proofs.contexts.BackwardLemmas.{OneHead}
 use Rattle.gos_programs.specs.results.HasTypes.{Widths, HasType}
@@ -37,7 +37,7 @@ put_bound ws i d h g a q n t p k e =
     number_cases n d
     (λ same yes.
     subst (λ (x : Term). HasType ws i g x t) (sym (cond-true (nat_eq n d) q (Bound n) yes))
-    (subst (λ (x : Type'). HasType ws i g q x) (sym (p.here n t same e)) (widened ws ws i (λ l w x. x) q [] g a (λ j u x. absurd (none_some u x)) k)))
+    (subst (λ (x : Type'). HasType ws i g q x) (sym (p.here n t same e)) (widened ws ws i (λ l n w x. x) q [] g a (λ j u x. absurd (none_some u x)) k)))
     (λ other no. subst (λ (x : Term). HasType ws i g x t) (sym (cond-false (nat_eq n d) q (Bound n) no)) (p.other n t other e))
   where
     none_some : (u : Type') → None ≡ Some u → ⊥
@@ -66,10 +66,13 @@ put_typed ws i (Assign m n) d h g a q t p k (w, e, l, o) =
 put_typed ws i (Deref m) d h g a q t p k (w, e, l) = (w, e, put_typed ws i m d h g a q (Var w) p k l)
 put_typed ws i (New w m) d h g a q t p k (e, l) =
     (e, put_typed ws i m (suc d) (Var w ∷ h) (Var w ∷ g) a q t (puts_under d h g a (Var w) p) k l)
+put_typed ws i (NewArray n w m) d h g a q t p k (e, some, l) =
+    (e, some, put_typed ws i m (suc d) (array_type n w ∷ h) (array_type n w ∷ g) a q t (puts_under d h g a (array_type n w) p) k l)
 put_typed ws i (Not m) d h g a q t p k (w, e, l) = (w, e, put_typed ws i m d h g a q (Exp w) p k l)
 put_typed ws i (Bin op m n) d h g a q t p k (w, e, l, o) =
     (w, e, put_typed ws i m d h g a q (Exp w) p k l, put_typed ws i n d h g a q (Exp w) p k o)
 put_typed ws i (Loc x) d h g a q t p k l = l
+put_typed ws i (Arr x) d h g a q t p k l = l
 put_typed ws i (Scope x m) d h g a q t p k (e, l) = (e, put_typed ws i m d h g a q t p k l)
 put_typed ws i (Wait x s) d h g a q t p k l = l
 put_typed ws i (Held j op n) d h g a q t p k (w, e, fits, l) = (w, e, fits, put_typed ws i n d h g a q (Exp w) p k l)
@@ -107,6 +110,8 @@ keeps_in ws i (AssignRight n) a b q t (w, e, h, k) = (w, e, h, q (Exp w) k)
 keeps_in ws i (ScopeBody l) a b q t (d, h) = (d, q t h)
 keeps_in ws i (ReadIndex x n) a b q t (w, e, (c, h, (u, v, pair, k, l))) = (w, e, (c, h, (u, v, pair, k, q v l)))
 keeps_in ws i (WriteIndex x n j) a b q t (w, e, f, (c, h, (u, v, pair, k, l))) = (w, e, f, (c, h, (u, v, pair, k, q v l)))
+keeps_in ws i (ReadAt x) a b q t (w, e, (c, h, k)) = (w, e, (c, h, q c k))
+keeps_in ws i (WriteAt x j) a b q t (w, e, f, (c, h, k)) = (w, e, f, (c, h, q c k))
 
 -- heads
 function_sides : (a b c d : Type') → Fun a b ≡ Fun c d → (a ≡ c) × (b ≡ d)

@@ -42,7 +42,7 @@ one_move p ty before a (Running m s) (Running b u) typed hs (n, v, us, h) k =
     let r = acts_keep p.imports a s u v b (acts_of p.imports a s u v b h) ty (unfoldings_typed (widths_of s) p.imports n m v us ty k.0) k.1 in
     let all : Moves p (before ++ a ∷ []) Idle (Running b u) =
     moves_then p before (a ∷ []) Idle (Running m s) (Running b u) hs (Running b u, (n, v, us, h), refl) in (
-      settled (either s u) (widths_of u) p.imports u (λ l w x here. elim x [ inl y ↦ r.2 l w y here | inr y ↦ y ]) b [] ty
+      settled (either s u) (widths_of u) p.imports u (λ l n w x here. elim x [ inl y ↦ r.2 l n w y here | inr y ↦ y ]) b [] ty
           (runs_stay p (before ++ a ∷ []) b u ty typed all).2 r.0,
       r.1,
     )

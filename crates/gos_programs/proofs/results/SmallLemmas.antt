@@ -4,14 +4,14 @@ use Rattle.std.proofs.Common.{arith, refl, sym, ap, subst, inl, inr, ◌∙◌}
 use Rattle.std.proofs.lemmas.Option.{none-some, same_Some}
 use Rattle.gos_types.specs.Types.{Com, Exp, Var, Fun, Type', Pair}
 use Rattle.gos_types.proofs.TypeLemmas.{same_expression_width, same_variable_width}
-use Rattle.gos_model.specs.Terms.{Skip, Lit}
-use Rattle.gos_model.specs.Typing.{Named}
+use Rattle.gos_model.specs.Terms.{Skip, Lit, Deref, Arr}
+use Rattle.gos_model.specs.Typing.{Named, index_width}
 use Rattle.gos_model.specs.Stores.{Entry, variable_at, entry_at}
 use Rattle.gos_model.specs.SmallPrograms.{c}
 use Rattle.gos_model.proofs.NumberLemmas.{number_cases}
 use Rattle.gos_programs.proofs.contexts.StoreLemmas.{later_at}
-use Rattle.gos_programs.specs.results.SmallResults.{one_entry, WritesFit, NoLocation, WaitsHaveTypes, AccessesHaveTypes, SharingIsNotAsked, OneBitFits, SomeResults}
-use Rattle.gos_programs.specs.results.HasTypes.{EntryFits}
+use Rattle.gos_programs.specs.results.SmallResults.{one_entry, two_numbers, WritesFit, NoLocation, WaitsHaveTypes, AccessesHaveTypes, SharingIsNotAsked, OneBitFits, SomeResults}
+use Rattle.gos_programs.specs.results.HasTypes.{EntryFits, HasType, widths_of}
 use Rattle.gos_programs.proofs.results.StepLemmas.{variable_fits}
 
 pub writes_fit : WritesFit
@@ -45,7 +45,12 @@ pub accesses_have_types : AccessesHaveTypes
 accesses_have_types = (
   (8, refl, (Pair (Exp 1) (Exp 1), refl, (Exp 1, Exp 1, refl, (refl, omega arith), (refl, omega arith)))),
   λ t h. no_variable (Pair (Exp 1) (Exp 1)) 8 h.0 h.2,
+  (8, refl, (Exp 1, (2, 8, refl, inl refl, (record { place = 0; width = 8; numbers = 1 ∷ 2 ∷ [] }, refl, refl, refl)), (refl, omega arith))),
+  alone,
 )
+  where
+    alone : (t : Type') → HasType (widths_of (two_numbers 8 1 2)) [] [] (Deref (Arr 0)) t → ⊥
+    alone t (w, e, (n, v, array, long, at)) = no_variable (Exp (index_width n)) v w array
 
 pub sharing_is_not_asked : SharingIsNotAsked
 sharing_is_not_asked = ((refl, refl, refl), λ h. h.3 (Named c) (0, omega arith, refl) (0, omega arith, refl))

@@ -1,26 +1,26 @@
 -- Steps and labels keep types, and a step keeps the widths of the locations that stay.
 use Rattle.gos_model.specs.Accesses.{IsArrayImport}
-use Rattle.std.specs.Prelude.{◌≡◌, ℕ, zero, suc, ◌+◌, ◌-◌, ◌^◌, ◌<◌, List, [], ◌∷◌, set, ◌⊎◌, Bool, true, false, Option, Some, None, nat_eq, nat_lt, if◌then◌else◌}
+use Rattle.std.specs.Prelude.{◌≡◌, ℕ, zero, suc, ◌+◌, ◌-◌, ◌^◌, ◌<◌, List, [], ◌∷◌, replicate, set, ◌⊎◌, Bool, true, false, Option, Some, None, nat_eq, nat_lt, if◌then◌else◌}
 use Rattle.std.proofs.Common.{arith, refl, sym, ap, subst, inl, inr, ◌∙◌}
 use Rattle.std.proofs.lemmas.Nat.{pow_pos, mod_below, and_le_l, or_lt, xor_lt}
-use Rattle.std.proofs.lemmas.List.{length-set}
+use Rattle.std.proofs.lemmas.List.{length-set, length-replicate}
 use Rattle.std.proofs.lemmas.Option.{none-some, same_Some}
 use Rattle.gos_types.specs.Types.{Type', Com, Exp, Var, Fun, Pair}
 use Rattle.gos_types.proofs.TypeLemmas.{same_expression_width, same_variable_width}
-use Rattle.gos_model.specs.Terms.{Op, Add, Sub, And, Or, Xor, Eq, Less, Term, Skip, Lit, Import, Seq, Par, If, While, Assign, Deref, New, Not, Bin, Loc, Scope, Wait, Held, Put, result_of, result_width, complement, Name, App, Both}
+use Rattle.gos_model.specs.Terms.{Op, Add, Sub, And, Or, Xor, Eq, Less, Term, Skip, Lit, Import, Seq, Par, If, While, Assign, Deref, New, Not, Bin, Loc, Scope, Wait, Held, Put, result_of, result_width, complement, Name, App, Both, NewArray, Arr}
 use Rattle.gos_model.specs.Substitution.{instantiate}
-use Rattle.gos_model.specs.Typing.{Imports, import_type}
-use Rattle.gos_model.specs.Stores.{Entry, variable_at, Store, entry_at, store_put, without}
+use Rattle.gos_model.specs.Typing.{Imports, import_type, index_width, array_type}
+use Rattle.gos_model.specs.Stores.{Entry, variable_at, Store, entry_at, store_put, without, array_at}
 use Rattle.gos_model.specs.Reach.{Rel}
-use Rattle.gos_model.specs.Steps.{Computes}
+use Rattle.gos_model.specs.Steps.{Computes, Locates}
 use Rattle.gos_model.specs.Labels.{Label, IsAnswer}
 use Rattle.gos_model.proofs.NumberLemmas.{number_cases}
-use Rattle.gos_programs.specs.contexts.Contexts.{Context, SeqFirst, ParLeft, ParRight, IfTest, BinLeft, HeldRight, NotOf, AssignRight, ScopeBody, ReadIndex, WriteIndex, plug}
+use Rattle.gos_programs.specs.contexts.Contexts.{Context, SeqFirst, ParLeft, ParRight, IfTest, BinLeft, HeldRight, NotOf, AssignRight, ScopeBody, ReadIndex, WriteIndex, plug, ReadAt, WriteAt}
 use Rattle.gos_programs.specs.contexts.Standing.{Present}
 use Rattle.gos_programs.proofs.contexts.StoreLemmas.{not_both, first_at, later_at, without_same, without_other, numbered, put_same, put_other}
 use Rattle.gos_programs.proofs.contexts.BackwardLemmas.{OneLabel}
 use Rattle.gos_programs.specs.results.HasTypes.{Widths, widths_of, FitIn, EntryFits, NumbersFit, AnswersWith, HasType}
-use Rattle.gos_programs.proofs.results.TypeLemmas.{widened}
+use Rattle.gos_programs.proofs.results.TypeLemmas.{some_numbers, widened}
 use Rattle.gos_programs.proofs.results.PutLemmas.{instantiate_typed, KeepsType}
 
 -- what an operator computes has its bits
@@ -46,11 +46,11 @@ complement_fits w a = omega (arith, pow_pos w)
 
 -- the widths of either store
 abbrev pub either : Store → Store → Widths
-either s u l w = widths_of s l w ⊎ widths_of u l w
+either s u l n w = widths_of s l n w ⊎ widths_of u l n w
 
--- the locations that stay keep their widths
+-- the locations that stay keep their widths, and how many numbers they have
 abbrev pub WidthsStay : Store → Store → Type 0
-WidthsStay s u = (l w : ℕ) → widths_of s l w → Present u l → widths_of u l w
+WidthsStay s u = (l n w : ℕ) → widths_of s l n w → Present u l → widths_of u l n w
 
 -- a step keeps types, over the widths of both stores, and what is known of the store
 abbrev pub Kept : Imports → Store → Store → Rel
@@ -58,7 +58,7 @@ Kept i s u a b =
     (t : Type') → HasType (widths_of s) i [] a t → NumbersFit s → HasType (either s u) i [] b t × NumbersFit u × WidthsStay s u
 
 pub over_both : (i : Imports) (s u : Store) (m : Term) (g : List Type') (t : Type') → HasType (widths_of s) i g m t → HasType (either s u) i g m t
-over_both i s u m g t h = widened (widths_of s) (either s u) i (λ l w x. inl x) m g g t (λ n a x. x) h
+over_both i s u m g t h = widened (widths_of s) (either s u) i (λ l n w x. inl x) m g g t (λ n a x. x) h
 
 pub kept_in : (i : Imports) (s u : Store) (c : Context) (a b : Term) → Kept i s u a b → Kept i s u (plug c a) (plug c b)
 kept_in i s u (SeqFirst n) a b q t (d, h, k) f = let r = q Com h f in ((d, r.0, over_both i s u n [] t k), r.1, r.2)
@@ -75,6 +75,9 @@ kept_in i s u (ReadIndex x n) a b q t (w, e, (c, h, (d, v, pair, k, l))) f =
     let r = q v l f in ((w, e, (c, h, (d, v, pair, over_both i s u n [] d k, r.0))), r.1, r.2)
 kept_in i s u (WriteIndex x n j) a b q t (w, e, fits, (c, h, (d, v, pair, k, l))) f =
     let r = q v l f in ((w, e, fits, (c, h, (d, v, pair, over_both i s u n [] d k, r.0))), r.1, r.2)
+kept_in i s u (ReadAt x) a b q t (w, e, (c, h, k)) f = let r = q c k f in ((w, e, (c, over_both i s u (Arr x) [] (Fun c (Var w)) h, r.0)), r.1, r.2)
+kept_in i s u (WriteAt x j) a b q t (w, e, fits, (c, h, k)) f =
+    let r = q c k f in ((w, e, fits, (c, over_both i s u (Arr x) [] (Fun c (Var w)) h, r.0)), r.1, r.2)
 
 -- a step that leaves the store as it is
 pub same_store : (i : Imports) (s u : Store) (b : Term) (t : Type') → u ≡ s → NumbersFit s → HasType (widths_of s) i [] b t
@@ -82,7 +85,7 @@ pub same_store : (i : Imports) (s u : Store) (b : Term) (t : Type') → u ≡ s 
 same_store i s u b t e f h = (
   over_both i s u b [] t h,
   subst NumbersFit (sym e) f,
-  λ l w x here. subst (λ (y : Store). widths_of y l w) (sym e) x,
+  λ l n w x here. subst (λ (y : Store). widths_of y l n w) (sym e) x,
 )
 
 to_term : (ws : Widths) (i : Imports) (t : Type') (a b : Term) → b ≡ a → HasType ws i [] a t → HasType ws i [] b t
@@ -94,10 +97,20 @@ literal ws i m k v w e h =
     let here : HasType ws i [] (Lit k v) (Exp w) = subst (λ (x : Term). HasType ws i [] x (Exp w)) e h in
     (same_expression_width w v here.0, here.1)
 
-location : (i : Imports) (s : Store) (m : Term) (l w : ℕ) (e : Entry) → m ≡ Loc l → entry_at s l ≡ Some e → HasType (widths_of s) i [] m (Var w) → w ≡ e.width
-location i s m l w e is here h =
+wide_as : (s : Store) (l n v w : ℕ) (e : Entry) → w ≡ v → entry_at s l ≡ Some e → widths_of s l n v → w ≡ e.width
+wide_as s l n v w e is here (d, at, wide, long) = is ∙ (sym wide ∙ ap (λ x. x.width) (same_Some d e (sym at ∙ here)))
+
+outcome_width : (a b : Type') (v w : ℕ) → Fun a (Var v) ≡ Fun b (Var w) → v ≡ w
+outcome_width a b v w e = let outcome : Var v ≡ Var w = cc e in same_variable_width v w outcome
+
+location : (i : Imports) (s : Store) (m : Term) (l j w : ℕ) (e : Entry) → Locates m l j → entry_at s l ≡ Some e → HasType (widths_of s) i [] m (Var w)
+    → w ≡ e.width
+location i s m l j w e (inl (is, first)) here h =
     let at : HasType (widths_of s) i [] (Loc l) (Var w) = subst (λ (x : Term). HasType (widths_of s) i [] x (Var w)) is h in
-    same_variable_width w at.0 at.1 ∙ (sym at.2.2 ∙ ap (λ x. x.width) (same_Some at.2.0 e (sym at.2.1 ∙ here)))
+    wide_as s l 1 at.0 w e (same_variable_width w at.0 at.1) here at.2
+location i s m l j w e (inr (u, is)) here h =
+    let (a, (n, v, array, long, at), index) = subst (λ (x : Term). HasType (widths_of s) i [] x (Var w)) is h in
+    wide_as s l n v w e (outcome_width a (Exp (index_width n)) w v array) here at
 
 -- a write
 set_fits : (w : ℕ) (ks : List ℕ) (j k : ℕ) → k < 2 ^ w → FitIn w ks → FitIn w (set ks j k)
@@ -120,7 +133,7 @@ put_fits s x j k e here fits f l d at =
     (λ other no. f l d (sym (put_other s x j k l other) ∙ at))
 
 put_stays : (s : Store) (x j k : ℕ) → WidthsStay s (store_put s x j k)
-put_stays s x j k l w (e, at, wide, one) here =
+put_stays s x j k l n w (e, at, wide, one) here =
     number_cases x l
     (λ same yes.
     let o : Entry = record e { numbers = set e.numbers j k } in (
@@ -140,16 +153,24 @@ alone_fits w k fits (suc i) n at = absurd (none-some n at)
 pub variable_fits : (l w k : ℕ) → k < 2 ^ w → EntryFits (variable_at l w k)
 variable_fits l w k fits = (omega arith, alone_fits w k fits)
 
-new_fits : (s : Store) (x w : ℕ) → NumbersFit s → NumbersFit (variable_at x w 0 ∷ s)
-new_fits s x w f l d at =
-    let e : Entry = variable_at x w 0 in
+zeros_fit : (n w : ℕ) → FitIn w (replicate n 0)
+zeros_fit zero w j k at = absurd (none-some k at)
+zeros_fit (suc n) w zero k at = subst (λ (x : ℕ). x < 2 ^ w) (same_Some 0 k at) (pow_pos w)
+zeros_fit (suc n) w (suc j) k at = zeros_fit n w j k at
+
+array_fits : (l n w : ℕ) → 0 < n → EntryFits (array_at l w n)
+array_fits l n w some = (subst (λ (x : ℕ). 0 < x) (sym (length-replicate n 0)) some, zeros_fit n w)
+
+new_fits : (s : Store) (e : Entry) → EntryFits e → NumbersFit s → NumbersFit (e ∷ s)
+new_fits s e fits f l d at =
+    let x : ℕ = e.place in
     number_cases x l
-    (λ same yes. subst EntryFits (same_Some e d (sym (first_at e s l same) ∙ at)) (variable_fits x w 0 (pow_pos w)))
+    (λ same yes. subst EntryFits (same_Some e d (sym (first_at e s l same) ∙ at)) fits)
     (λ other no. f l d (sym (later_at e s l other) ∙ at))
 
-new_stays : (s : Store) (x w : ℕ) → entry_at s x ≡ None → WidthsStay s (variable_at x w 0 ∷ s)
-new_stays s x w absent l v (e, at, wide, one) here =
-    let o : Entry = variable_at x w 0 in
+new_stays : (s : Store) (o : Entry) → entry_at s o.place ≡ None → WidthsStay s (o ∷ s)
+new_stays s o absent l n v (e, at, wide, one) here =
+    let x : ℕ = o.place in
     number_cases x l
     (λ same yes. absurd (not_both (entry_at s l) e (subst (λ (y : ℕ). entry_at s y ≡ None) same absent) at))
     (λ other no. (e, later_at o s l other ∙ at, wide, one))
@@ -162,7 +183,7 @@ end_fits s x f l d at =
     (λ other no. f l d (sym (without_other s x l other) ∙ at))
 
 end_stays : (s : Store) (x : ℕ) → WidthsStay s (without s x)
-end_stays s x l w (e, at, wide, one) (d, here) =
+end_stays s x l n w (e, at, wide, one) (d, here) =
     number_cases x l
     (λ same yes. absurd (not_both (entry_at (without s x) l) d (subst (λ (y : ℕ). entry_at (without s x) y ≡ None) same (without_same s x)) here))
     (λ other no. (e, without_other s x l other ∙ at, wide, one))
@@ -196,23 +217,32 @@ row_kept i s u (Not m) b (k, v, em, et, es) t (w, e, h) f =
 row_kept i s u (Assign m n) b (k, v, en, et, es) t (w, e, h, l) f =
     let fits = literal (widths_of s) i n k v w en l in
     same_store i s u b t es f (to_term (widths_of s) i t (Put m k) b et (w, e, subst (λ (x : ℕ). k < 2 ^ x) (sym fits.0) fits.1, h))
-row_kept i s u (Put m k) b (d, old, em, here, has, et, es) t (w, e, small, h) f =
-    let wide = location i s m d.place w d em here h in
-    after i s u (store_put s d.place 0 k) b t es (
-      to_term (either s (store_put s d.place 0 k)) i t Skip b et e,
-      put_fits s d.place 0 k d here (subst (λ (x : ℕ). k < 2 ^ x) wide small) f,
-      put_stays s d.place 0 k,
+row_kept i s u (Put m k) b (d, j, old, em, here, has, et, es) t (w, e, small, h) f =
+    let wide = location i s m d.place j w d em here h in
+    after i s u (store_put s d.place j k) b t es (
+      to_term (either s (store_put s d.place j k)) i t Skip b et e,
+      put_fits s d.place j k d here (subst (λ (x : ℕ). k < 2 ^ x) wide small) f,
+      put_stays s d.place j k,
     )
-row_kept i s u (Deref m) b (d, old, em, here, has, et, es) t (w, e, h) f =
-    let wide = location i s m d.place w d em here h in
-    same_store i s u b t es f (to_term (widths_of s) i t (Lit old d.width) b et (e ∙ ap (λ x. Exp x) wide, (f d.place d here).1 0 old has))
+row_kept i s u (Deref m) b (d, j, old, em, here, has, et, es) t (w, e, h) f =
+    let wide = location i s m d.place j w d em here h in
+    same_store i s u b t es f (to_term (widths_of s) i t (Lit old d.width) b et (e ∙ ap (λ x. Exp x) wide, (f d.place d here).1 j old has))
 row_kept i s u (New w m) b (l, absent, et, es) t (d, h) f =
     let o : Entry = variable_at l w 0 in
     after i s u (o ∷ s) b t es (
       to_term (either s (o ∷ s)) i t (Scope l (instantiate m (Loc l))) b et
           (d, instantiate_typed (either s (o ∷ s)) i m (Loc l) (Var w) t (over_both i s (o ∷ s) m (Var w ∷ []) t h) (w, refl, inr (o, first_at o s l refl, refl, refl))),
-      new_fits s l w f,
-      new_stays s l w absent,
+      new_fits s o (variable_fits l w 0 (pow_pos w)) f,
+      new_stays s o absent,
+    )
+row_kept i s u (NewArray n w m) b (l, absent, et, es) t (d, some, h) f =
+    let o : Entry = array_at l w n in
+    let a : Type' = array_type n w in
+    after i s u (o ∷ s) b t es (
+      to_term (either s (o ∷ s)) i t (Scope l (instantiate m (Arr l))) b et
+          (d, instantiate_typed (either s (o ∷ s)) i m (Arr l) a t (over_both i s (o ∷ s) m (a ∷ []) t h) (n, w, refl, some, inr (o, first_at o s l refl, refl, length-replicate n 0))),
+      new_fits s o (array_fits l n w (some_numbers n some)) f,
+      new_stays s o absent,
     )
 row_kept i s u (Scope l m) b (is, et, es) t (d, h) f =
     after i s u (without s l) b t es
@@ -231,19 +261,16 @@ answers_as : (o p : Option Type') (n : ℕ) (t : Type') → o ≡ p → AnswersW
 answers_as o p n t e h = subst (λ (x : Option Type'). AnswersWith x n t) (sym e) h
 
 -- the port of an access that waits takes a pair
-array_type : (i : Imports) (x : Name) (c w n : ℕ) (a : Type') (v : ℕ) → IsArrayImport i x c w → n < 2 → AnswersWith (import_type i x) n (Fun a (Var v))
+port_type : (i : Imports) (x : Name) (c w n : ℕ) (a : Type') (v : ℕ) → IsArrayImport i x c w → n < 2 → AnswersWith (import_type i x) n (Fun a (Var v))
     → Fun a (Var v) ≡ Fun (Pair (Exp c) (Exp c)) (Var w)
-array_type i x c w zero a v array small h = subst (λ (o : Option Type'). AnswersWith o 0 (Fun a (Var v))) array h
-array_type i x c w (suc zero) a v array small h = subst (λ (o : Option Type'). AnswersWith o 1 (Fun a (Var v))) array h
-array_type i x c w (suc (suc n)) a v array small h = absurd (omega (arith, small))
+port_type i x c w zero a v array small h = subst (λ (o : Option Type'). AnswersWith o 0 (Fun a (Var v))) array h
+port_type i x c w (suc zero) a v array small h = subst (λ (o : Option Type'). AnswersWith o 1 (Fun a (Var v))) array h
+port_type i x c w (suc (suc n)) a v array small h = absurd (omega (arith, small))
 
 waits_as : (i : Imports) (x : Name) (c w n : ℕ) → n < 2 → IsArrayImport i x c w → AnswersWith (import_type i x) n (Fun (Pair (Exp c) (Exp c)) (Var w))
 waits_as i x c w zero small array = answers_as (import_type i x) (Some (Fun (Exp c) (Var w))) 0 (Fun (Pair (Exp c) (Exp c)) (Var w)) array refl
 waits_as i x c w (suc zero) small array = answers_as (import_type i x) (Some (Fun (Exp c) (Var w))) 1 (Fun (Pair (Exp c) (Exp c)) (Var w)) array refl
 waits_as i x c w (suc (suc n)) small array = absurd (omega (arith, small))
-
-outcome_width : (a b : Type') (v w : ℕ) → Fun a (Var v) ≡ Fun b (Var w) → v ≡ w
-outcome_width a b v w e = let outcome : Var v ≡ Var w = cc e in same_variable_width v w outcome
 
 argument_type : (a b : Type') (v w : ℕ) → Fun a (Var v) ≡ Fun b (Var w) → a ≡ b
 argument_type a b v w e = cc e
@@ -270,7 +297,7 @@ waiting_index : (ws : Widths) (i : Imports) (x : Name) (c w v s : ℕ) (m n j : 
     → HasType ws i [] m (Var v) → (v ≡ w) × HasType ws i [] n (Exp c) × HasType ws i [] j (Exp c)
 waiting_index ws i x c w v s m n j small array em h =
     let (a, here, (b, d, pair, k, l)) = subst (λ (y : Term). HasType ws i [] y (Var v)) em h in
-    let same = array_type i x c w s a v array small here in
+    let same = port_type i x c w s a v array small here in
     let sides = pair_sides b d (Exp c) (Exp c) (sym pair ∙ argument_type a (Pair (Exp c) (Exp c)) v w same) in (
       outcome_width a (Pair (Exp c) (Exp c)) v w same,
       subst (λ (t : Type'). HasType ws i [] n t) sides.0 k,

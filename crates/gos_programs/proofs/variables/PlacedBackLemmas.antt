@@ -3,10 +3,10 @@ use Rattle.std.specs.Prelude.{◌≡◌, ◌⊎◌, ℕ, zero, suc, Bool, true, 
 use Rattle.std.proofs.Common.{refl, sym, ap, subst, inl, inr, ◌∙◌}
 use Rattle.std.specs.Str.{bytes_eq}
 use Rattle.gos_types.specs.Types.{Type'}
-use Rattle.gos_model.specs.Terms.{Name, Term, Skip, Lit, Import, Lam, App, Both, Fst, Snd, Seq, Par, If, Assign, Deref, Not, Bin, Loc, Scope, Wait, Held, Put}
+use Rattle.gos_model.specs.Terms.{Name, Term, Skip, Lit, Import, Lam, App, Both, Fst, Snd, Seq, Par, If, Assign, Deref, Not, Bin, Loc, Scope, Wait, Held, Put, Arr}
 use Rattle.gos_model.specs.Substitution.{instantiate}
-use Rattle.gos_model.specs.Reach.{Rel, Reached, Below, InIndex, Rewrites, Under, Aside}
-use Rattle.gos_model.specs.Steps.{IsValue}
+use Rattle.gos_model.specs.Reach.{Rel, Reached, Below, InIndex, Rewrites, Under, Aside, InPortIndex}
+use Rattle.gos_model.specs.Steps.{IsValue, Locates}
 use Rattle.gos_model.specs.Moves.{Unfoldings}
 use Rattle.gos_programs.specs.contexts.LocalVariable.{wait_for, placed}
 use Rattle.gos_programs.proofs.contexts.BackwardLemmas.{OneHead}
@@ -39,7 +39,7 @@ no_in_index : (S : Rel) (z : ℕ) (x : Name) (b : Bool) (v : Term) → InIndex S
 no_in_index S z x true v h = h
 no_in_index S z x false v h = h
 
-no_import_index : (S : Rel) (h : Term) (z : ℕ) (x : Name) (b : Bool) (v : Term) → InIndex S (App h (if b then Loc z else Import x)) v → ⊥
+no_import_index : (S : Rel) (h : Term) (z : ℕ) (x : Name) (b : Bool) (v : Term) → InPortIndex S h (if b then Loc z else Import x) v → ⊥
 no_import_index S h z x true v k = k
 no_import_index S h z x false v k = k
 
@@ -50,6 +50,10 @@ no_app z x false a c h = cc h
 no_wait : (z : ℕ) (x : Name) (b : Bool) (a : Name) (s : ℕ) → (if b then Loc z else Import x) ≡ Wait a s → ⊥
 no_wait z x true a s h = cc h
 no_wait z x false a s h = cc h
+
+no_arr : (z : ℕ) (x : Name) (b : Bool) (l : ℕ) → (if b then Loc z else Import x) ≡ Arr l → ⊥
+no_arr z x true l h = cc h
+no_arr z x false l h = cc h
 
 no_rewrite : (z : ℕ) (x : Name) (b : Bool) (v : Term) → Rewrites (if b then Loc z else Import x) v → ⊥
 no_rewrite z x true v h = h
@@ -127,6 +131,22 @@ module _ (r : ℕ → ℕ) (y : Name) (z : ℕ) where
   is_loc (Wait x n) l f h = let bad : Wait x n ≡ Loc l = sym (wait_at x n f) ∙ h in absurd (cc bad)
   is_loc m l f h = absurd (cc h)
 
+  is_arr : (m : Term) (l : ℕ) → HasNoWaitAt y m → at m ≡ Arr l → (k : ℕ) × (m ≡ Arr k) × (r k ≡ l)
+  is_arr (Arr k) l f h = let same : r k ≡ l = cc h in (k, refl, same)
+  is_arr (Import x) l f h = absurd (no_arr z x (bytes_eq x y) l h)
+  is_arr (Wait x n) l f h = let bad : Wait x n ≡ Arr l = sym (wait_at x n f) ∙ h in absurd (cc bad)
+  is_arr m l f h = absurd (cc h)
+
+  -- what stands for a number: at a location of the term, or at the one in the place of the import
+  pub located_back : (m : Term) (l i : ℕ) → HasNoWaitAt y m → Locates (at m) l i
+      → ((k : ℕ) × Locates m k i × (r k ≡ l)) ⊎ ((m ≡ Import y) × (z ≡ l) × (i ≡ 0))
+  located_back m l i f (inl (e, first)) =
+      elim (is_loc m l f e) [ inl k ↦ inl (k.0, inl (k.1, first), k.2) | inr k ↦ inr (k.0, k.1, first) ]
+  located_back m l i f (inr (w, e)) =
+      let (h, p, whole, eh, ep, fh, fp) = is_app m (Arr l) (Lit i w) f e in
+      let (k, arr, same) = is_arr h l fh eh in
+      inl (k, inr (w, whole ∙ (ap (λ (v : Term). App v p) arr ∙ ap (λ (v : Term). App (Arr k) v) (is_lit p i w fp ep))), same)
+
   is_lam : (m : Term) (a : Type') (b : Term) → HasNoWaitAt y m → at m ≡ Lam a b → (n : Term) × (m ≡ Lam a n) × (at n ≡ b)
   is_lam (Lam c n) a b f h =
       let same : c ≡ a = cc h in
@@ -200,14 +220,23 @@ module _ (r : ℕ → ℕ) (y : Name) (z : ℕ) where
 
     index_back : (R S : Rel) → ((a v : Term) → HasNoWaitAt y a → S (at a) v → Back R a v) → (m v : Term) → HasNoWaitAt y m → InIndex S (at m) v
         → Back (InIndex R) m v
-    index_back R S g (App h (Both b n)) v f ((x, head), n', e, inl k) =
+    index_back R S g (App h n) v f (inr ((l, place), n', e, inl k)) =
+        let u = g n n' f.1 k in
+        let arr = is_arr h l f.0 place in
+        (App h u.0, e ∙ ap (λ (t : Term). App (at h) t) u.1, inr ((arr.0, arr.1), u.0, refl, inl u.2))
+    index_back R S g (App h n) v f (inr ((l, place), n', e, inr k)) =
+        let u = below_back R S g n n' f.1 k in
+        let arr = is_arr h l f.0 place in
+        (App h u.0, e ∙ ap (λ (t : Term). App (at h) t) u.1, inr ((arr.0, arr.1), u.0, refl, inr u.2))
+    index_back R S g (App h (Both b n)) v f (inl ((x, head), n', e, inl k)) =
         let u = g n n' f.1.1 k in
-        (App h (Both b u.0), e ∙ ap (λ (t : Term). App (at h) (Both (at b) t)) u.1, ((x, (is_wait h x 0 f.0 head).0), u.0, refl, inl u.2))
-    index_back R S g (App h (Both b n)) v f ((x, head), n', e, inr k) =
+        (App h (Both b u.0), e ∙ ap (λ (t : Term). App (at h) (Both (at b) t)) u.1, inl ((x, (is_wait h x 0 f.0 head).0), u.0, refl, inl u.2))
+    index_back R S g (App h (Both b n)) v f (inl ((x, head), n', e, inr k)) =
         let u = below_back R S g n n' f.1.1 k in
-        (App h (Both b u.0), e ∙ ap (λ (t : Term). App (at h) (Both (at b) t)) u.1, ((x, (is_wait h x 0 f.0 head).0), u.0, refl, inr u.2))
-    index_back R S g (App h (Import y')) v f k = absurd (no_import_index S (at h) z y' (bytes_eq y' y) v k)
-    index_back R S g (App h (Wait y' s)) v f k = absurd (subst (λ (t : Term). InIndex S (App (at h) t) v) (wait_at y' s f.1) k)
+        (App h (Both b u.0), e ∙ ap (λ (t : Term). App (at h) (Both (at b) t)) u.1, inl ((x, (is_wait h x 0 f.0 head).0), u.0, refl, inr u.2))
+    index_back R S g (App h (Import y')) v f (inl k) = absurd (no_import_index S (at h) z y' (bytes_eq y' y) v k)
+    index_back R S g (App h (Wait y' s)) v f (inl k) = absurd (subst (λ (t : Term). InPortIndex S (at h) t v) (wait_at y' s f.1) k)
+    index_back R S g (App h n) v f (inl k) = absurd k
     index_back R S g (Import x) v f h = absurd (no_in_index S z x (bytes_eq x y) v h)
     index_back R S g (Wait x n) v f h = absurd (subst (λ (t : Term). InIndex S t v) (wait_at x n f) h)
     index_back R S g m v f h = absurd h
@@ -247,12 +276,17 @@ module _ (r : ℕ → ℕ) (y : Name) (z : ℕ) where
 
     index_some : (R S : Rel) → ((a v : Term) → HasNoWaitAt y a → S (at a) v → (t : Term) × R a t) → (m v : Term) → HasNoWaitAt y m
         → InIndex S (at m) v → (t : Term) × InIndex R m t
-    index_some R S g (App h (Both b n)) v f ((x, head), n', e, inl k) =
-        let u = g n n' f.1.1 k in (App h (Both b u.0), ((x, (is_wait h x 0 f.0 head).0), u.0, refl, inl u.1))
-    index_some R S g (App h (Both b n)) v f ((x, head), n', e, inr k) =
-        let u = below_some R S g n n' f.1.1 k in (App h (Both b u.0), ((x, (is_wait h x 0 f.0 head).0), u.0, refl, inr u.1))
-    index_some R S g (App h (Import y')) v f k = absurd (no_import_index S (at h) z y' (bytes_eq y' y) v k)
-    index_some R S g (App h (Wait y' s)) v f k = absurd (subst (λ (t : Term). InIndex S (App (at h) t) v) (wait_at y' s f.1) k)
+    index_some R S g (App h n) v f (inr ((l, place), n', e, inl k)) =
+        let u = g n n' f.1 k in let arr = is_arr h l f.0 place in (App h u.0, inr ((arr.0, arr.1), u.0, refl, inl u.1))
+    index_some R S g (App h n) v f (inr ((l, place), n', e, inr k)) =
+        let u = below_some R S g n n' f.1 k in let arr = is_arr h l f.0 place in (App h u.0, inr ((arr.0, arr.1), u.0, refl, inr u.1))
+    index_some R S g (App h (Both b n)) v f (inl ((x, head), n', e, inl k)) =
+        let u = g n n' f.1.1 k in (App h (Both b u.0), inl ((x, (is_wait h x 0 f.0 head).0), u.0, refl, inl u.1))
+    index_some R S g (App h (Both b n)) v f (inl ((x, head), n', e, inr k)) =
+        let u = below_some R S g n n' f.1.1 k in (App h (Both b u.0), inl ((x, (is_wait h x 0 f.0 head).0), u.0, refl, inr u.1))
+    index_some R S g (App h (Import y')) v f (inl k) = absurd (no_import_index S (at h) z y' (bytes_eq y' y) v k)
+    index_some R S g (App h (Wait y' s)) v f (inl k) = absurd (subst (λ (t : Term). InPortIndex S (at h) t v) (wait_at y' s f.1) k)
+    index_some R S g (App h n) v f (inl k) = absurd k
     index_some R S g (Import x) v f h = absurd (no_in_index S z x (bytes_eq x y) v h)
     index_some R S g (Wait x n) v f h = absurd (subst (λ (t : Term). InIndex S t v) (wait_at x n f) h)
     index_some R S g m v f h = absurd h

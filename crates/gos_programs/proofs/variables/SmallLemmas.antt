@@ -1,4 +1,5 @@
 -- Small terms, and how many waits stand in them.
+use Rattle.gos_model.specs.Terms.{Arr, Wait}
 use Rattle.std.specs.Prelude.{◌≡◌, ◌+◌, ℕ, true, false}
 use Rattle.std.proofs.Common.{arith, refl, sym, inl, inr}
 use Rattle.gos_model.specs.SmallPrograms.{c}
@@ -20,7 +21,13 @@ zero_not_one : ◌≡◌ {A = ℕ} 1 0 → ⊥
 zero_not_one e = omega (arith, e)
 
 pub index_waits_too : IndexWaitsToo
-index_waits_too = (inr ((c, refl), refl, tt, refl), λ h. elim h [ inl g ↦ zero_not_one g.0 | inr g ↦ zero_not_one (cc g.0.1) ])
+index_waits_too = (
+  inr (inl ((c, refl), refl, tt, refl)),
+  λ h. elim h [ inl g ↦ zero_not_one g.0 | inr g ↦ elim g [ inl k ↦ zero_not_one (cc k.0.1) | inr k ↦ no_array k.0.0 k.0.1 ] ],
+)
+  where
+    no_array : (l : ℕ) → Wait c 1 ≡ Arr l → ⊥
+    no_array l e = cc e
 
 pub labels_are_counted : LabelsAreCounted
 labels_are_counted = (refl, refl, refl)

@@ -2,15 +2,16 @@
 use Rattle.std.specs.Prelude.{◌≡◌, ◌⊎◌, ℕ, zero, suc}
 use Rattle.std.proofs.Common.{arith, refl, sym, ap, subst, inl, inr, ◌∙◌}
 use Rattle.gos_types.specs.Types.{Type'}
-use Rattle.gos_model.specs.Terms.{Name, Term, Skip, Lit, Import, Lam, App, Fst, Snd, Seq, Par, If, Assign, Deref, Not, Bin, Loc, Scope, Wait, Held, Put, Both}
+use Rattle.gos_model.specs.Terms.{Name, Term, Skip, Lit, Import, Lam, App, Fst, Snd, Seq, Par, If, Assign, Deref, Not, Bin, Loc, Scope, Wait, Held, Put, Both, Arr}
 use Rattle.gos_model.specs.Typing.{Imports}
 use Rattle.gos_model.specs.Stores.{Store}
 use Rattle.gos_model.specs.Reach.{Rel, Reached, Below, InIndex, Unfolds}
-use Rattle.gos_model.specs.Steps.{Computes, IsValue}
+use Rattle.gos_model.specs.Steps.{Computes, IsValue, Locates}
 use Rattle.gos_model.specs.Labels.{Label}
 use Rattle.gos_model.specs.Moves.{Program, Config, Idle, Running, Act, Computing, Showing, ActsTo, Answers, Unfoldings, Move, Stalled}
 use Rattle.gos_model.proofs.HeadLemmas.{Lower, lower_one, lower_no_index}
-use Rattle.gos_programs.specs.contexts.Contexts.{Context, SeqFirst, ParLeft, ParRight, IfTest, BinLeft, HeldRight, NotOf, AssignRight, ScopeBody, ReadIndex, WriteIndex, plug}
+use Rattle.gos_programs.specs.contexts.Contexts.{Context, SeqFirst, ParLeft, ParRight, IfTest, BinLeft, HeldRight, NotOf, AssignRight, ScopeBody, ReadIndex, WriteIndex, plug, ReadAt, WriteAt}
+use Rattle.gos_programs.proofs.contexts.ScopeLemmas.{IsUnasked, import_unasked, request_unasked}
 use Rattle.gos_programs.proofs.contexts.BackwardLemmas.{OneHead, OneLabel}
 use Rattle.gos_programs.proofs.contexts.PluggedLemmas.{acts_of, acts_to, reached_plugged}
 use Rattle.gos_programs.specs.variables.Unfolded.{ActsStay, WaitsBefore}
@@ -58,6 +59,15 @@ meet_in c a b x y ex ey (inr (v, h, g)) = inr (
   subst (λ (t : Term). Unfolds t (plug c v)) (sym ey) (reached_plugged OneHead c b v g),
 )
 
+-- a port is no array of the program's own
+no_wait_array : (x : Name) (l : ℕ) → Wait x 0 ≡ Arr l → ⊥
+no_wait_array x l e = cc e
+
+-- an access is its context, with the index in it
+pub of_access : (w a : Term → Term) (c : Context) (h k n m t : Term) → h ≡ k → m ≡ App h (a n) → t ≡ w m
+    → ((v : Term) → plug c v ≡ w (App k (a v))) → t ≡ plug c n
+of_access w a c h k n m t eh e et at = et ∙ (ap w e ∙ (ap (λ (v : Term). w (App v (a n))) eh ∙ sym (at n)))
+
 mutual
   pub unfoldings_meet : (m a b : Term) → Unfolds m a → Unfolds m b → Meet a b
   unfoldings_meet m a b (inl h) (inl g) = inl (head_one m a b h g)
@@ -83,18 +93,28 @@ mutual
     subst (λ (t : Term). Unfolds t (Par d c)) (sym f) (reached_plugged OneHead (ParRight d) n c h),
   )
   unfoldings_meet (Deref m) a b (inr (c, e, h)) (inr (d, f, g)) =
-      let (x, u, p, q, ep, eq, both) = index_meet m c d h g in
-      meet_in (ReadIndex x u) p q a b (e ∙ ap (λ (v : Term). Deref v) ep) (f ∙ ap (λ (v : Term). Deref v) eq) both
+      index_meet (λ (v : Term). Deref v) (λ (x : Name) (u : Term). ReadIndex x u) (λ (l : ℕ). ReadAt l) (λ x u v. refl) (λ l v. refl) m c d a b e f h g
   unfoldings_meet (Put m k) a b (inr (c, e, h)) (inr (d, f, g)) =
-      let (x, u, p, q, ep, eq, both) = index_meet m c d h g in
-      meet_in (WriteIndex x u k) p q a b (e ∙ ap (λ (v : Term). Put v k) ep) (f ∙ ap (λ (v : Term). Put v k) eq) both
+      index_meet (λ (v : Term). Put v k) (λ (x : Name) (u : Term). WriteIndex x u k) (λ (l : ℕ). WriteAt l k) (λ x u v. refl) (λ l v. refl) m c d a b e f h g
   unfoldings_meet m a b (inr h) (inr g) = absurd h
 
-  index_meet : (m c d : Term) → InIndex OneHead m c → InIndex OneHead m d
-      → (x : Name) × (u : Term) × (p : Term) × (q : Term) × (c ≡ App (Wait x 0) (Both u p)) × (d ≡ App (Wait x 0) (Both u q)) × Meet p q
-  index_meet (App h (Both u n)) c d ((x, head), p, e, k) ((y, other), q, f, l) =
-      (x, u, p, q, e ∙ ap (λ (v : Term). App v (Both u p)) head, f ∙ ap (λ (v : Term). App v (Both u q)) head, unfoldings_meet n p q k l)
-  index_meet m c d h g = absurd h
+  -- in the index of an access, which w makes of it
+  index_meet : (w : Term → Term) (port : Name → Term → Context) (own : ℕ → Context)
+      → ((x : Name) (u v : Term) → plug (port x u) v ≡ w (App (Wait x 0) (Both u v))) → ((l : ℕ) (v : Term) → plug (own l) v ≡ w (App (Arr l) v))
+      → (m c d a b : Term) → a ≡ w c → b ≡ w d → InIndex OneHead m c → InIndex OneHead m d → Meet a b
+  index_meet w port own at_port at_own (App h n) c d a b ea eb (inr ((l, place), p, e, k)) (inr ((j, other), q, f, g)) =
+      meet_in (own l) p q a b (of_access w (λ (v : Term). v) (own l) h (Arr l) p c a place e ea (at_own l))
+      (of_access w (λ (v : Term). v) (own l) h (Arr l) q d b place f eb (at_own l)) (unfoldings_meet n p q k g)
+  index_meet w port own at_port at_own (App h (Both u n)) c d a b ea eb (inl ((x, head), p, e, k)) (inl ((y, other), q, f, g)) =
+      meet_in (port x u) p q a b (of_access w (λ (v : Term). Both u v) (port x u) h (Wait x 0) p c a head e ea (at_port x u))
+      (of_access w (λ (v : Term). Both u v) (port x u) h (Wait x 0) q d b head f eb (at_port x u)) (unfoldings_meet n p q k g)
+  index_meet w port own at_port at_own (App h (Both u n)) c d a b ea eb (inl ((x, head), p, e, k)) (inr ((l, place), q, f, g)) =
+      absurd (no_wait_array x l (sym head ∙ place))
+  index_meet w port own at_port at_own (App h (Both u n)) c d a b ea eb (inr ((l, place), q, f, g)) (inl ((x, head), p, e, k)) =
+      absurd (no_wait_array x l (sym head ∙ place))
+  index_meet w port own at_port at_own (App h n) c d a b ea eb (inl k) g = absurd k
+  index_meet w port own at_port at_own (App h n) c d a b ea eb k (inl g) = absurd g
+  index_meet w port own at_port at_own m c d a b ea eb h g = absurd h
 
 -- where R changes a place, nothing unfolds there
 abbrev IsFinal : Rel → Type 0
@@ -128,19 +148,28 @@ mutual
   reached_stays R final (Par m n) v t (inr (inl (c, e, h))) (inr (inr (d, f, g))) = stay_in R (ParRight c) n v d e g
   reached_stays R final (Par m n) v t (inr (inr (c, e, h))) (inr (inl (d, f, g))) = stay_in R (ParLeft c) m v d e g
   reached_stays R final (Deref m) v t (inr (c, e, h)) (inr (d, f, g)) =
-      let (x, b, p, ep, (u, stays)) = index_stays R final m c d h g in
-      stay_in R (ReadIndex x b) p v u (e ∙ ap (λ (y : Term). Deref y) ep) stays
+      index_stays R final (λ (y : Term). Deref y) (λ (x : Name) (b : Term). ReadIndex x b) (λ (l : ℕ). ReadAt l) (λ x b y. refl) (λ l y. refl) m c d v e h g
   reached_stays R final (Put m k) v t (inr (c, e, h)) (inr (d, f, g)) =
-      let (x, b, p, ep, (u, stays)) = index_stays R final m c d h g in
-      stay_in R (WriteIndex x b k) p v u (e ∙ ap (λ (y : Term). Put y k) ep) stays
+      index_stays R final (λ (y : Term). Put y k) (λ (x : Name) (b : Term). WriteIndex x b k) (λ (l : ℕ). WriteAt l k) (λ x b y. refl) (λ l y. refl) m c d v e h g
   reached_stays R final m v t (inl h) (inr g) = absurd (head_below R m v t h g)
   reached_stays R final m v t (inr h) (inr g) = absurd h
 
-  index_stays : (R : Rel) → IsFinal R → (m c d : Term) → InIndex OneHead m c → InIndex R m d
-      → (x : Name) × (b : Term) × (p : Term) × (c ≡ App (Wait x 0) (Both b p)) × ((u : Term) × Reached R p u)
-  index_stays R final (App h (Both b n)) c d ((x, head), p, e, k) ((y, other), q, f, l) =
-      (x, b, p, e ∙ ap (λ (v : Term). App v (Both b p)) head, reached_stays R final n p q k l)
-  index_stays R final m c d h g = absurd h
+  index_stays : (R : Rel) → IsFinal R → (w : Term → Term) (port : Name → Term → Context) (own : ℕ → Context)
+      → ((x : Name) (b v : Term) → plug (port x b) v ≡ w (App (Wait x 0) (Both b v))) → ((l : ℕ) (v : Term) → plug (own l) v ≡ w (App (Arr l) v))
+      → (m c d v : Term) → v ≡ w c → InIndex OneHead m c → InIndex R m d → (t : Term) × Reached R v t
+  index_stays R final w port own at_port at_own (App h n) c d v ev (inr ((l, place), p, e, k)) (inr ((j, other), q, f, g)) =
+      let (u, stays) = reached_stays R final n p q k g in
+      stay_in R (own l) p v u (of_access w (λ (x : Term). x) (own l) h (Arr l) p c v place e ev (at_own l)) stays
+  index_stays R final w port own at_port at_own (App h (Both b n)) c d v ev (inl ((x, head), p, e, k)) (inl ((y, other), q, f, g)) =
+      let (u, stays) = reached_stays R final n p q k g in
+      stay_in R (port x b) p v u (of_access w (λ (x : Term). Both b x) (port x b) h (Wait x 0) p c v head e ev (at_port x b)) stays
+  index_stays R final w port own at_port at_own (App h (Both b n)) c d v ev (inl ((x, head), p, e, k)) (inr ((l, place), q, f, g)) =
+      absurd (no_wait_array x l (sym head ∙ place))
+  index_stays R final w port own at_port at_own (App h (Both b n)) c d v ev (inr ((l, place), p, e, k)) (inl ((x, head), q, f, g)) =
+      absurd (no_wait_array x l (sym head ∙ place))
+  index_stays R final w port own at_port at_own (App h n) c d v ev (inl k) g = absurd k
+  index_stays R final w port own at_port at_own (App h n) c d v ev k (inl g) = absurd g
+  index_stays R final w port own at_port at_own m c d v ev h g = absurd h
 
 -- a row of computation, and a label, are final
 value_rests : (m v : Term) → IsValue m → Unfolds m v → ⊥
@@ -167,6 +196,24 @@ no_lower_import m x v e h = none (subst (λ (t : Term). Lower t v) e h)
     none (inl g) = g
     none (inr g) = g
 
+-- nor in what stands for a number
+no_lower_array : (l : ℕ) (n v : Term) → Lower (App (Arr l) n) v → ⊥
+no_lower_array l n v (inl (a, b, e, et)) = cc e
+no_lower_array l n v (inr (h, e, inl k)) = k
+no_lower_array l n v (inr (h, e, inr k)) = k
+
+no_lower_located : (m : Term) (l i : ℕ) (v : Term) → Locates m l i → Lower m v → ⊥
+no_lower_located m l i v (inl (e, first)) h = no_lower_loc m l v e h
+no_lower_located m l i v (inr (w, e)) h = no_lower_array l (Lit i w) v (subst (λ (x : Term). Lower x v) e h)
+
+located_rests : (m : Term) (l i : ℕ) (v : Term) → Locates m l i → InIndex OneHead m v → ⊥
+located_rests m l i v (inl (e, first)) h = absurd (subst (λ (x : Term). InIndex OneHead x v) e h)
+located_rests m l i v (inr (w, e)) h = none (subst (λ (x : Term). InIndex OneHead x v) e h)
+  where
+    none : InIndex OneHead (App (Arr l) (Lit i w)) v → ⊥
+    none (inl g) = g
+    none (inr (place, n, f, g)) = value_rests (Lit i w) n (inr (i, w, refl)) g
+
 row_final : (s s' : Store) → IsFinal (Computes s s')
 row_final s s' (Seq m n) t v (em, et, es) (inr (c, e, h)) = value_rests m c (inl em) h
 row_final s s' (Par m n) t v (em, en, et, es) (inr (inl (c, e, h))) = value_rests m c (inl em) h
@@ -178,10 +225,10 @@ row_final s s' (Held k op n) t v (j, w, en, et, es) (inr (c, e, h)) = value_rest
 row_final s s' (Not m) t v (k, w, em, et, es) (inr (c, e, h)) = value_rests m c (inr (k, w, em)) h
 row_final s s' (Assign m n) t v (k, w, en, et, es) (inr (c, e, h)) = value_rests n c (inr (k, w, en)) h
 row_final s s' (Scope l m) t v (is, et, es) (inr (c, e, h)) = value_rests m c is h
-row_final s s' (Put m k) t v (d, old, em, here, has, et, es) (inl (inr (c, e, h))) = no_lower_loc m d.place c em h
-row_final s s' (Deref m) t v (d, old, em, here, has, et, es) (inl (inr (c, e, h))) = no_lower_loc m d.place c em h
-row_final s s' (Put m k) t v (d, old, em, here, has, et, es) (inr (c, e, h)) = absurd (subst (λ (u : Term). InIndex OneHead u c) em h)
-row_final s s' (Deref m) t v (d, old, em, here, has, et, es) (inr (c, e, h)) = absurd (subst (λ (u : Term). InIndex OneHead u c) em h)
+row_final s s' (Put m k) t v (d, j, old, em, here, has, et, es) (inl (inr (c, e, h))) = no_lower_located m d.place j c em h
+row_final s s' (Deref m) t v (d, j, old, em, here, has, et, es) (inl (inr (c, e, h))) = no_lower_located m d.place j c em h
+row_final s s' (Put m k) t v (d, j, old, em, here, has, et, es) (inr (c, e, h)) = located_rests m d.place j c em h
+row_final s s' (Deref m) t v (d, j, old, em, here, has, et, es) (inr (c, e, h)) = located_rests m d.place j c em h
 row_final s s' (App m n) t v g h = absurd g
 row_final s s' (Fst m) t v g h = absurd g
 row_final s s' (Snd m) t v g h = absurd g
@@ -213,19 +260,20 @@ no_lower_port m h n c port em g = by (subst (λ (y : Term). Lower y c) em g)
     by (inl (a, b, eh, et)) = port_no_lam h a b port eh
     by (inr (h', e, k)) = port_rests h h' port k
 
-one_not_zero : ◌≡◌ {A = ℕ} 1 0 → ⊥
-one_not_zero e = omega (arith, e)
+no_index_in : (h a c : Term) → IsUnasked h → InIndex OneHead (App h a) c → ⊥
+no_index_in h a c none (inr ((l, e), n, f, g)) = none.1 l e
+no_index_in h (Both n m) c none (inl g) = none.0 g.0.0 g.0.1
+no_index_in h a c none (inl g) = absurd g
 
-no_index_in : (h a c : Term) → ((y : Name) → h ≡ Wait y 0 → ⊥) → InIndex OneHead (App h a) c → ⊥
-no_index_in h (Both n m) c none g = none g.0.0 g.0.1
-no_index_in h a c none g = absurd g
-
-no_index_before : (m h n c : Term) → ((y : Name) → h ≡ Wait y 0 → ⊥) → m ≡ App h n → InIndex OneHead m c → ⊥
+no_index_before : (m h n c : Term) → IsUnasked h → m ≡ App h n → InIndex OneHead m c → ⊥
 no_index_before m h n c none em g = no_index_in h n c none (subst (λ (y : Term). InIndex OneHead y c) em g)
 
 index_rests : (m : Term) (x : Name) (n j c : Term) (k w : ℕ) → m ≡ App (Wait x 0) (Both n j) → j ≡ Lit k w → InIndex OneHead m c → ⊥
-index_rests m x n j c k w em ej g =
-    let (head, p, e, h) = subst (λ (y : Term). InIndex OneHead y c) em g in value_rests j p (inr (k, w, ej)) h
+index_rests m x n j c k w em ej g = none (subst (λ (y : Term). InIndex OneHead y c) em g)
+  where
+    none : InIndex OneHead (App (Wait x 0) (Both n j)) c → ⊥
+    none (inl (head, p, e, h)) = value_rests j p (inr (k, w, ej)) h
+    none (inr ((l, e), p, f, h)) = no_wait_array x l e
 
 label_final : (i : Imports) (o : Label) → IsFinal (OneLabel i o)
 label_final i o (Put m k) t v (inl (inl (x, w, em, h, e, et))) (inl (inr (c, f, g))) = no_lower_import m x c em g
@@ -234,16 +282,16 @@ label_final i o (Put m k) t v (inl (inl (x, w, em, h, e, et))) (inr (c, f, g)) =
 label_final i o (Put m k) t v (inl (inr (x, p, (d, w, n, array, inl (em, ee, ek, et))))) (inl (inr (c, f, g))) = no_lower_port m (Import x) n c (inl (x, refl)) em g
 label_final i o (Put m k) t v (inl (inr (x, p, (d, w, n, array, inr (j, em, ej, ee, et))))) (inl (inr (c, f, g))) = no_lower_port m (Wait x 0) (Both n j) c (inr (x, 0, refl)) em g
 label_final i o (Put m k) t v (inr (x, p, (d, w, n, j, array, em, rest))) (inl (inr (c, f, g))) = no_lower_port m (Wait x 1) (Both n j) c (inr (x, 1, refl)) em g
-label_final i o (Put m k) t v (inl (inr (x, p, (d, w, n, array, inl (em, ee, ek, et))))) (inr (c, f, g)) = no_index_before m (Import x) n c (λ y e. cc e) em g
+label_final i o (Put m k) t v (inl (inr (x, p, (d, w, n, array, inl (em, ee, ek, et))))) (inr (c, f, g)) = no_index_before m (Import x) n c (import_unasked x) em g
 label_final i o (Put m k) t v (inl (inr (x, p, (d, w, n, array, inr (j, em, ej, ee, et))))) (inr (c, f, g)) = index_rests m x n j c o.value d em ej g
-label_final i o (Put m k) t v (inr (x, p, (d, w, n, j, array, em, rest))) (inr (c, f, g)) = no_index_before m (Wait x 1) (Both n j) c (λ y e. one_not_zero (cc e)) em g
+label_final i o (Put m k) t v (inr (x, p, (d, w, n, j, array, em, rest))) (inr (c, f, g)) = no_index_before m (Wait x 1) (Both n j) c (request_unasked x) em g
 label_final i o (Deref m) t v (inl (inl (x, w, em, h, e, et))) (inr (c, f, g)) = absurd (subst (λ (u : Term). InIndex OneHead u c) em g)
 label_final i o (Deref m) t v (inl (inr (x, p, (d, w, n, array, inl (em, ee, ek, et))))) (inl (inr (c, f, g))) = no_lower_port m (Import x) n c (inl (x, refl)) em g
 label_final i o (Deref m) t v (inl (inr (x, p, (d, w, n, array, inr (j, em, ej, ee, et))))) (inl (inr (c, f, g))) = no_lower_port m (Wait x 0) (Both n j) c (inr (x, 0, refl)) em g
 label_final i o (Deref m) t v (inr (x, p, (d, w, n, j, array, em, rest))) (inl (inr (c, f, g))) = no_lower_port m (Wait x 1) (Both n j) c (inr (x, 1, refl)) em g
-label_final i o (Deref m) t v (inl (inr (x, p, (d, w, n, array, inl (em, ee, ek, et))))) (inr (c, f, g)) = no_index_before m (Import x) n c (λ y e. cc e) em g
+label_final i o (Deref m) t v (inl (inr (x, p, (d, w, n, array, inl (em, ee, ek, et))))) (inr (c, f, g)) = no_index_before m (Import x) n c (import_unasked x) em g
 label_final i o (Deref m) t v (inl (inr (x, p, (d, w, n, array, inr (j, em, ej, ee, et))))) (inr (c, f, g)) = index_rests m x n j c o.value d em ej g
-label_final i o (Deref m) t v (inr (x, p, (d, w, n, j, array, em, rest))) (inr (c, f, g)) = no_index_before m (Wait x 1) (Both n j) c (λ y e. one_not_zero (cc e)) em g
+label_final i o (Deref m) t v (inr (x, p, (d, w, n, j, array, em, rest))) (inr (c, f, g)) = no_index_before m (Wait x 1) (Both n j) c (request_unasked x) em g
 label_final i o (Import x) t v h (inl (inl (inl g))) = g
 label_final i o (Import x) t v h (inl (inl (inr g))) = g
 label_final i o (Import x) t v h (inl (inr g)) = g

@@ -3,12 +3,12 @@ use Rattle.std.specs.Prelude.{◌≡◌, ◌⊎◌, ℕ, Bool, true, false, if�
 use Rattle.std.proofs.Common.{arith, refl, sym, ap, subst, inl, inr, ◌∙◌}
 use Rattle.std.specs.Str.{bytes_eq}
 use Rattle.gos_types.specs.Types.{Type', Var}
-use Rattle.gos_model.specs.Terms.{Name, Term, Skip, Lit, Import, Seq, Par, If, While, Assign, Deref, New, Not, Bin, Loc, Scope, Wait, Held, Put, result_of, result_width, complement, Both}
+use Rattle.gos_model.specs.Terms.{Name, Term, Skip, Lit, Import, Seq, Par, If, While, Assign, Deref, New, Not, Bin, Loc, Scope, Wait, Held, Put, result_of, result_width, complement, Both, NewArray, Arr}
 use Rattle.gos_model.specs.Substitution.{instantiate}
 use Rattle.gos_model.specs.Typing.{Imports, import_type}
-use Rattle.gos_model.specs.Stores.{Entry, variable_at, Store, entry_at, store_put, without}
+use Rattle.gos_model.specs.Stores.{Entry, variable_at, Store, entry_at, store_put, without, array_at}
 use Rattle.gos_model.specs.Reach.{Rel, Reached}
-use Rattle.gos_model.specs.Steps.{Computes, Steps}
+use Rattle.gos_model.specs.Steps.{Computes, Steps, Locates}
 use Rattle.gos_model.specs.Labels.{Label, taken, is_output, IsAnswer}
 use Rattle.gos_model.specs.Moves.{Program, Config, Idle, Running, Act, Computing, Showing, ActsTo, Unfoldings, Answers, Move}
 use Rattle.gos_model.proofs.AccessMapLemmas.{ComesFrom, puts_back, reads_back, writes_back}
@@ -22,17 +22,17 @@ use Rattle.gos_programs.proofs.contexts.RenamedStoreLemmas.{entry_beside, moved,
 use Rattle.gos_programs.proofs.contexts.PlacedLemmas.{name_cases}
 use Rattle.gos_programs.specs.variables.Waits.{HasNoWaitAt}
 use Rattle.gos_programs.specs.variables.PlacedBack.{IsActive, PlacedMovesBack, PlacedWaits}
-use Rattle.gos_programs.proofs.variables.PlacedBackLemmas.{wait_at, import_at, is_skip, is_lit, is_import, is_wait, is_app, is_pair, is_loc, value_back, reached_some, unfoldings_back}
+use Rattle.gos_programs.proofs.variables.PlacedBackLemmas.{wait_at, import_at, is_skip, is_lit, is_import, is_wait, is_app, is_pair, located_back, value_back, reached_some, unfoldings_back}
 use Rattle.std.proofs.lemmas.Option.{same_Some}
 
 -- a computation step to any store, or an output
-abbrev Active : Imports → Store → Rel
+abbrev pub Active : Imports → Store → Rel
 Active i s a t = ((s' : Store) × Computes s s' a t) ⊎ ((o : Label) × IsTrue (is_output o) × OneLabel i o a t)
 
-abbrev ActiveThere : Imports → Store → Rel
+abbrev pub ActiveThere : Imports → Store → Rel
 ActiveThere i s a t = ((s' : Store) × Steps s s' a t) ⊎ ((o : Label) × IsTrue (is_output o) × Reached (OneLabel i o) a t)
 
-active_there : (i : Imports) (s : Store) (m t : Term) → Reached (Active i s) m t → ActiveThere i s m t
+pub active_there : (i : Imports) (s : Store) (m t : Term) → Reached (Active i s) m t → ActiveThere i s m t
 active_there i s m t h = reached_lifted (Active i s) (ActiveThere i s) here lifted m t h
   where
     here : (a b : Term) → Active i s a b → ActiveThere i s a b
@@ -129,25 +129,28 @@ module _ (y : Name) (r : ℕ → ℕ) (z w k : ℕ) (f s : Store) (i j : Imports
       (Lit (result_of op w k j) (result_width op w), inl (s, (j, w, is_lit r y z n j w free en, refl, refl)))
   row_some u (Not m) v free (k, w, em, et, es) = (Lit (complement w k) w, inl (s, (k, w, is_lit r y z m k w free em, refl, refl)))
   row_some u (Assign m n) v free (k, w, en, et, es) = (Put m k, inl (s, (k, w, is_lit r y z n k w free.1 en, refl, refl)))
-  row_some u (Put m k) v free (e, old, em, here, has, et, es) = by_place (is_loc r y z m e.place free em)
+  row_some u (Put m k) v free (e, j, old, em, here, has, et, es) = by_place (located_back r y z m e.place j free em)
     where
-      by_place : ((l : ℕ) × (m ≡ Loc l) × (r l ≡ e.place)) ⊎ ((m ≡ Import y) × (z ≡ e.place)) → (t : Term) × Active i s (Put m k) t
+      by_place : ((l : ℕ) × Locates m l j × (r l ≡ e.place)) ⊎ ((m ≡ Import y) × (z ≡ e.place) × (j ≡ 0)) → (t : Term) × Active i s (Put m k) t
       by_place (inl (l, is, place)) =
           let d = entry_back l e place here in
-          let number = ap (λ (ks : List ℕ). slice_get ks 0) d.3 ∙ has in
-          (Skip, inl (store_put s d.0.place 0 k, (d.0, old, is ∙ ap (λ (x : ℕ). Loc x) d.1, d.2, number, refl, refl)))
-      by_place (inr (is, place)) = import_there m k is
-  row_some u (Deref m) v free (e, old, em, here, has, et, es) = by_place (is_loc r y z m e.place free em)
+          let number = ap (λ (ks : List ℕ). slice_get ks j) d.3 ∙ has in
+          (Skip, inl (store_put s d.0.place j k, (d.0, j, old, subst (λ (x : ℕ). Locates m x j) d.1 is, d.2, number, refl, refl)))
+      by_place (inr (is, place, first)) = import_there m k is
+  row_some u (Deref m) v free (e, j, old, em, here, has, et, es) = by_place (located_back r y z m e.place j free em)
     where
-      by_place : ((l : ℕ) × (m ≡ Loc l) × (r l ≡ e.place)) ⊎ ((m ≡ Import y) × (z ≡ e.place)) → (t : Term) × Active i s (Deref m) t
+      by_place : ((l : ℕ) × Locates m l j × (r l ≡ e.place)) ⊎ ((m ≡ Import y) × (z ≡ e.place) × (j ≡ 0)) → (t : Term) × Active i s (Deref m) t
       by_place (inl (l, is, place)) =
           let d = entry_back l e place here in
-          let number = ap (λ (ks : List ℕ). slice_get ks 0) d.3 ∙ has in
-          (Lit old d.0.width, inl (s, (d.0, old, is ∙ ap (λ (x : ℕ). Loc x) d.1, d.2, number, refl, refl)))
-      by_place (inr (is, place)) = import_read m is
+          let number = ap (λ (ks : List ℕ). slice_get ks j) d.3 ∙ has in
+          (Lit old d.0.width, inl (s, (d.0, j, old, subst (λ (x : ℕ). Locates m x j) d.1 is, d.2, number, refl, refl)))
+      by_place (inr (is, place, first)) = import_read m is
   row_some u (New n m) v free h =
       let l = above s in
       (Scope l (instantiate m (Loc l)), inl (variable_at l n 0 ∷ s, (l, above_absent s l (omega arith), refl, refl)))
+  row_some u (NewArray c n m) v free h =
+      let l = above s in
+      (Scope l (instantiate m (Arr l)), inl (array_at l n c ∷ s, (l, above_absent s l (omega arith), refl, refl)))
   row_some u (Scope l m) v free (is, et, es) = (m, inl (without s l, (value_back r y z m free is, refl, refl)))
   row_some u (Import x) v free h = absurd (never (bytes_eq x y) h)
     where

@@ -3,22 +3,23 @@ use Rattle.std.specs.Prelude.{◌≡◌, ◌⊎◌, ℕ, zero, suc, ◌+◌, ◌
 use Rattle.std.proofs.Common.{arith, refl, sym, ap, subst, inl, inr, ◌∙◌}
 use Rattle.std.specs.Str.{bytes_eq}
 use Rattle.gos_types.specs.Types.{Type', Com, Exp, Var, Pair, Fun}
-use Rattle.gos_model.specs.Terms.{Name, Term, Skip, Lit, Bound, Import, Lam, App, Both, Fst, Snd, Seq, Par, If, While, Assign, Deref, New, Not, Bin, Loc, Scope, Wait, Held, Put}
+use Rattle.gos_model.specs.Terms.{Name, Term, Skip, Lit, Bound, Import, Lam, App, Both, Fst, Snd, Seq, Par, If, While, Assign, Deref, New, Not, Bin, Loc, Scope, Wait, Held, Put, NewArray, Arr}
 use Rattle.gos_model.specs.Substitution.{put_at}
-use Rattle.gos_model.specs.Typing.{Imports, import_type}
+use Rattle.gos_model.specs.Typing.{Imports, import_type, array_type}
 use Rattle.gos_model.specs.Stores.{Store}
 use Rattle.gos_model.specs.Reach.{Rel, InIndex, Rewrites, Under, Aside, Unfolds}
-use Rattle.gos_model.specs.Steps.{Computes, IsValue}
+use Rattle.gos_model.specs.Steps.{Computes, IsValue, Locates}
 use Rattle.gos_model.specs.Labels.{Port, Taken, Label, taken, is_answer, IsAnswer}
 use Rattle.gos_model.specs.Accesses.{IsArrayImport}
 use Rattle.gos_model.proofs.HeadLemmas.{lower_no_index}
 use Rattle.gos_model.specs.Moves.{Act, Computing, Showing, Acts, Unfoldings}
-use Rattle.gos_programs.specs.contexts.Contexts.{Context, SeqFirst, ParLeft, ParRight, IfTest, BinLeft, HeldRight, NotOf, AssignRight, ScopeBody, ReadIndex, WriteIndex, plug}
+use Rattle.gos_programs.specs.contexts.Contexts.{Context, SeqFirst, ParLeft, ParRight, IfTest, BinLeft, HeldRight, NotOf, AssignRight, ScopeBody, ReadIndex, WriteIndex, plug, ReadAt, WriteAt}
+use Rattle.gos_programs.proofs.contexts.ScopeLemmas.{IsUnasked, import_unasked, request_unasked}
 use Rattle.gos_programs.proofs.contexts.BackwardLemmas.{OneHead, OneLabel}
 use Rattle.gos_programs.proofs.contexts.PluggedLemmas.{acts_of}
 use Rattle.gos_programs.proofs.contexts.ReachedLemmas.{reached_lifted}
 use Rattle.gos_programs.proofs.contexts.PlacedLemmas.{name_cases}
-use Rattle.gos_programs.specs.variables.Waits.{HasNoWaitAt, WaitsAt, WaitsInIndex, request_of, answer_of, requests_at, answers_at, SourcesDoNotWait, NoWaitIsZero, ZeroIsNoWait, UnfoldingsKeepWaits, WaitsAreCounted}
+use Rattle.gos_programs.specs.variables.Waits.{HasNoWaitAt, WaitsAt, WaitsInIndex, request_of, answer_of, requests_at, answers_at, SourcesDoNotWait, NoWaitIsZero, ZeroIsNoWait, UnfoldingsKeepWaits, WaitsAreCounted, WaitsInPortIndex}
 
 pub sources_wait : SourcesDoNotWait
 sources_wait y i g Skip t h = tt
@@ -37,9 +38,11 @@ sources_wait y i g (While m n) t (e, h, k) = (sources_wait y i g m (Exp 1) h, so
 sources_wait y i g (Assign m n) t (w, e, h, k) = (sources_wait y i g m (Var w) h, sources_wait y i g n (Exp w) k)
 sources_wait y i g (Deref m) t (w, e, h) = sources_wait y i g m (Var w) h
 sources_wait y i g (New w m) t (d, k, h) = sources_wait y i (Var w ∷ g) m t h
+sources_wait y i g (NewArray n w m) t (d, l, k, h) = sources_wait y i (array_type n w ∷ g) m t h
 sources_wait y i g (Not m) t (w, e, h) = sources_wait y i g m (Exp w) h
 sources_wait y i g (Bin op m n) t (w, e, h, k) = (sources_wait y i g m (Exp w) h, sources_wait y i g n (Exp w) k)
 sources_wait y i g (Loc l) t h = absurd h
+sources_wait y i g (Arr l) t h = absurd h
 sources_wait y i g (Scope l m) t h = absurd h
 sources_wait y i g (Wait x s) t h = absurd h
 sources_wait y i g (Held k op n) t h = absurd h
@@ -50,7 +53,7 @@ none_choice y true m n h k = h
 none_choice y false m n h k = k
 
 -- after a term was put in
-none_put : (y : Name) (m : Term) (d : ℕ) (q : Term) → HasNoWaitAt y q → HasNoWaitAt y m → HasNoWaitAt y (put_at d q m)
+pub none_put : (y : Name) (m : Term) (d : ℕ) (q : Term) → HasNoWaitAt y q → HasNoWaitAt y m → HasNoWaitAt y (put_at d q m)
 none_put y Skip d q k h = tt
 none_put y (Lit j w) d q k h = tt
 none_put y (Bound n) d q k h = none_choice y (nat_eq n d) q (Bound n) k tt
@@ -67,9 +70,11 @@ none_put y (While m n) d q k h = (none_put y m d q k h.0, none_put y n d q k h.1
 none_put y (Assign m n) d q k h = (none_put y m d q k h.0, none_put y n d q k h.1)
 none_put y (Deref m) d q k h = none_put y m d q k h
 none_put y (New w m) d q k h = none_put y m (suc d) q k h
+none_put y (NewArray n w m) d q k h = none_put y m (suc d) q k h
 none_put y (Not m) d q k h = none_put y m d q k h
 none_put y (Bin op m n) d q k h = (none_put y m d q k h.0, none_put y n d q k h.1)
 none_put y (Loc l) d q k h = tt
+none_put y (Arr l) d q k h = tt
 none_put y (Scope l m) d q k h = none_put y m d q k h
 none_put y (Wait x s) d q k h = h
 none_put y (Held j op n) d q k h = none_put y n d q k h
@@ -98,7 +103,7 @@ none_aside y (Deref m) t (m', e, inl h) s = subst (HasNoWaitAt y) (sym e) (none_
 none_aside y (Deref m) t (m', e, inr h) s = subst (HasNoWaitAt y) (sym e) (none_under y m m' h s)
 none_aside y m t h s = absurd h
 
-none_head : (y : Name) (m t : Term) → OneHead m t → HasNoWaitAt y m → HasNoWaitAt y t
+pub none_head : (y : Name) (m t : Term) → OneHead m t → HasNoWaitAt y m → HasNoWaitAt y t
 none_head y m t (inl (inl h)) s = none_rewrite y m t h s
 none_head y m t (inl (inr h)) s = none_under y m t h s
 none_head y m t (inr h) s = none_aside y m t h s
@@ -140,7 +145,9 @@ mutual
   no_waits y n m e h = h.1
 
   index_free : (y : Name) (n : ℕ) (m : Term) → n ≡ 0 → WaitsInIndex y n m → HasNoWaitAt y m
-  index_free y n (App h (Both b a)) e (head, free, f, g) = (free, (f, no_waits y n a e g))
+  index_free y n (App h a) e (inr ((l, is), w)) = (subst (HasNoWaitAt y) (sym is) tt, no_waits y n a e w)
+  index_free y n (App h (Both b a)) e (inl (head, free, f, g)) = (free, (f, no_waits y n a e g))
+  index_free y n (App h a) e (inl w) = absurd w
   index_free y n m e h = absurd h
 
 pub zero_none : ZeroIsNoWait
@@ -159,7 +166,24 @@ in_index : (y : Name) (n : ℕ) (x : Name) (c a : Term)
     → ((n ≡ 0) × HasNoWaitAt y (App (Wait x 0) (Both c a))) ⊎ WaitsInIndex y n (App (Wait x 0) (Both c a))
     → (bytes_eq x y ≡ false) × HasNoWaitAt y c × WaitsAt y n a
 in_index y n x c a (inl (e, (f, (g, h)))) = (f, g, subst (λ (k : ℕ). WaitsAt y k a) (sym e) (none_waits y a h))
-in_index y n x c a (inr (head, f, g, h)) = (f, g, h)
+in_index y n x c a (inr (inl (head, f, g, h))) = (f, g, h)
+in_index y n x c a (inr (inr ((l, e), h))) = absurd (cc e)
+
+-- in that of an access of an array of the program's own
+no_port_waits : (y : Name) (n l : ℕ) (a : Term) → WaitsInPortIndex y n (Arr l) a → ⊥
+no_port_waits y n l (Both b a) ((x, e), f, g, h) = cc e
+no_port_waits y n l a h = absurd h
+
+at_array : (y : Name) (n l : ℕ) (a : Term) → ((n ≡ 0) × HasNoWaitAt y (App (Arr l) a)) ⊎ WaitsInIndex y n (App (Arr l) a) → WaitsAt y n a
+at_array y n l a (inl (e, (f, h))) = subst (λ (k : ℕ). WaitsAt y k a) (sym e) (none_waits y a h)
+at_array y n l a (inr (inl h)) = absurd (no_port_waits y n l a h)
+at_array y n l a (inr (inr (place, h))) = h
+
+-- nothing waits in what stands for a number
+located_waits : (y : Name) (n : ℕ) (m : Term) (l i : ℕ) → Locates m l i → ((n ≡ 0) × HasNoWaitAt y m) ⊎ WaitsInIndex y n m → n ≡ 0
+located_waits y n m l i is (inl (z, h)) = z
+located_waits y n m l i (inl (e, first)) (inr h) = absurd (subst (WaitsInIndex y n) e h)
+located_waits y n m l i (inr (w, e)) (inr h) = (at_array y n l (Lit i w) (inr (subst (WaitsInIndex y n) e h))).0
 
 counts_in : (y : Name) (d u : ℕ) (c : Context) (a b : Term) → Counts y d u a b → Counts y d u (plug c a) (plug c b)
 counts_in y d u (SeqFirst m) a b q n (h, g) = let x = q n h in (x.0, x.1, (x.2, g))
@@ -180,11 +204,13 @@ counts_in y d u (ScopeBody l) a b q n h = q n h
 counts_in y d u (ReadIndex x c) a b q n h =
     let w = in_index y n x c a h in
     let r = q n w.2 in
-    (r.0, r.1, inr ((x, refl), w.0, w.1, r.2))
+    (r.0, r.1, inr (inl ((x, refl), w.0, w.1, r.2)))
 counts_in y d u (WriteIndex x c k) a b q n h =
     let w = in_index y n x c a h in
     let r = q n w.2 in
-    (r.0, r.1, inr ((x, refl), w.0, w.1, r.2))
+    (r.0, r.1, inr (inl ((x, refl), w.0, w.1, r.2)))
+counts_in y d u (ReadAt l) a b q n h = let r = q n (at_array y n l a h) in (r.0, r.1, inr (inr ((l, refl), r.2)))
+counts_in y d u (WriteAt l k) a b q n h = let r = q n (at_array y n l a h) in (r.0, r.1, inr (inr ((l, refl), r.2)))
 
 -- what becomes nothing that waits, where nothing waited
 to_none : (y : Name) (n : ℕ) (b t : Term) → t ≡ b → n ≡ 0 → HasNoWaitAt y b → (k : ℕ) × (k + 0 ≡ n + 0) × WaitsAt y k t
@@ -194,7 +220,9 @@ abbrev Anything : Rel
 Anything a b = Unit {0}
 
 waits_index : (y : Name) (n : ℕ) (m : Term) → WaitsInIndex y n m → InIndex Anything m m
-waits_index y n (App h (Both b a)) (head, free, f, w) = (head, a, refl, inl tt)
+waits_index y n (App h a) (inr (place, w)) = inr (place, a, refl, inl tt)
+waits_index y n (App h (Both b a)) (inl (head, free, f, w)) = inl (head, a, refl, inl tt)
+waits_index y n (App h a) (inl w) = absurd w
 waits_index y n m w = absurd w
 
 -- heads
@@ -251,11 +279,11 @@ count_row y s s' (Held i op n) b (j, w, en, et, es) k h =
 count_row y s s' (Not m) b (j, w, em, et, es) k h =
     (0, (let e = value_waits y k m (inr (j, w, em)) h in omega (arith, e)), subst (WaitsAt y 0) (sym et) (refl, tt))
 count_row y s s' (Assign m n) b (j, w, en, et, es) k (g, h) = to_none y k (Put m j) b et (value_waits y k n (inr (j, w, en)) h) g
-count_row y s s' (Put m i) b (e, old, em, here, has, et, es) k (inl (z, h)) = to_none y k Skip b et z tt
-count_row y s s' (Put m i) b (e, old, em, here, has, et, es) k (inr h) = absurd (subst (WaitsInIndex y k) em h)
-count_row y s s' (Deref m) b (e, old, em, here, has, et, es) k (inl (z, h)) = (0, omega (arith, z), subst (WaitsAt y 0) (sym et) (refl, tt))
-count_row y s s' (Deref m) b (e, old, em, here, has, et, es) k (inr h) = absurd (subst (WaitsInIndex y k) em h)
+count_row y s s' (Put m i) b (e, j, old, em, here, has, et, es) k w = to_none y k Skip b et (located_waits y k m e.place j em w) tt
+count_row y s s' (Deref m) b (e, j, old, em, here, has, et, es) k w =
+    let z = located_waits y k m e.place j em w in (0, omega (arith, z), subst (WaitsAt y 0) (sym et) (refl, tt))
 count_row y s s' (New w m) b (l, absent, et, es) k (z, h) = to_none y k (Scope l (put_at 0 (Loc l) m)) b et z (none_put y m 0 (Loc l) tt h)
+count_row y s s' (NewArray n w m) b (l, absent, et, es) k (z, h) = to_none y k (Scope l (put_at 0 (Arr l) m)) b et z (none_put y m 0 (Arr l) tt h)
 count_row y s s' (Scope l m) b (is, et, es) k h = (k, refl, subst (WaitsAt y k) (sym et) h)
 count_row y s s' a b h k w = absurd h
 
@@ -310,11 +338,12 @@ elsewhere y x o port other = (
 )
 
 -- an access of another port, whose index is not asked for or has ended, has no wait
-unasked_index : (y : Name) (n : ℕ) (h a : Term) → ((x : Name) → h ≡ Wait x 0 → ⊥) → WaitsInIndex y n (App h a) → ⊥
-unasked_index y n h (Both b c) none w = none w.0.0 w.0.1
-unasked_index y n h a none w = absurd w
+unasked_index : (y : Name) (n : ℕ) (h a : Term) → IsUnasked h → WaitsInIndex y n (App h a) → ⊥
+unasked_index y n h a none (inr ((l, e), w)) = none.1 l e
+unasked_index y n h (Both b c) none (inl w) = none.0 w.0.0 w.0.1
+unasked_index y n h a none (inl w) = absurd w
 
-no_index_yet : (y : Name) (n : ℕ) (m h a : Term) → m ≡ App h a → ((x : Name) → h ≡ Wait x 0 → ⊥)
+no_index_yet : (y : Name) (n : ℕ) (m h a : Term) → m ≡ App h a → IsUnasked h
     → ((n ≡ 0) × HasNoWaitAt y m) ⊎ WaitsInIndex y n m → (n ≡ 0) × HasNoWaitAt y a
 no_index_yet y n m h a em none (inl (z, f)) = (z, (subst (HasNoWaitAt y) em f).1)
 no_index_yet y n m h a em none (inr w) = absurd (unasked_index y n h a none (subst (WaitsInIndex y n) em w))
@@ -341,9 +370,6 @@ other_array : (i : Imports) (y x : Name) (c w : ℕ) → IsNoArray i y → IsArr
 other_array i y x c w none array =
     name_cases x y (λ same t. absurd (none c w (subst (λ (v : Name). IsArrayImport i v c w) same array))) (λ f. f)
 
-request_waits : (x y : Name) → Wait x 1 ≡ Wait y 0 → ⊥
-request_waits x y e = let bad : ◌≡◌ {A = ℕ} 1 0 = cc e in omega (arith, bad)
-
 count_label : (y : Name) (i : Imports) → IsNoArray i y → (o : Label) (a b : Term) → OneLabel i o a b → Counts y (answers_at y (Showing o)) (requests_at y (Showing o)) a b
 count_label y i none o (Import x) b (inl (inl (h, e, et))) n (z, g) = asked_row y x 0 0 1 o b n refl e et z
 count_label y i none o (Import x) b (inl (inr (w, h, e, et))) n (z, g) = asked_row y x 0 0 1 o b n refl e et z
@@ -355,7 +381,7 @@ count_label y i none o (Wait x j) b (inr (p, e, h)) n z =
     answered_row y x o b n p (ap is_answer e ∙ is_an_answer (import_type i x) j o.value b h) (answer_none y (import_type i x) j o.value b h) z
 count_label y i none o (Deref m) b (inl (inr (x, p, (c, w, l, array, inl (em, ee, ek, et))))) n g =
     let other = other_array i y x c w none array in
-    let rest = no_index_yet y n m (Import x) l em (λ v e. cc e) g in
+    let rest = no_index_yet y n m (Import x) l em (import_unasked x) g in
     access_left y x o (Deref (App (Wait x 1) (Both l l))) b n p other rest.0 et (inl (refl, (other, (rest.1, rest.1))))
 count_label y i none o (Deref m) b (inl (inr (x, p, (c, w, l, array, inr (q, em, eq, ee, et))))) n g =
     let other = other_array i y x c w none array in
@@ -363,15 +389,15 @@ count_label y i none o (Deref m) b (inl (inr (x, p, (c, w, l, array, inr (q, em,
     access_left y x o (Deref (App (Wait x 1) (Both l q))) b n p other rest.0 et (inl (refl, (other, rest.1)))
 count_label y i none o (Deref m) b (inr (x, p, (c, w, l, q, array, em, inl (ee, ek, et)))) n g =
     let other = other_array i y x c w none array in
-    let rest = no_index_yet y n m (Wait x 1) (Both l q) em (request_waits x) g in
+    let rest = no_index_yet y n m (Wait x 1) (Both l q) em (request_unasked x) g in
     access_left y x o (Deref (App (Wait x 0) (Both l l))) b n p other rest.0 et (inl (refl, (other, (rest.1.0, rest.1.0))))
 count_label y i none o (Deref m) b (inr (x, p, (c, w, l, q, array, em, inr (ee, ek, et)))) n g =
     let other = other_array i y x c w none array in
-    let rest = no_index_yet y n m (Wait x 1) (Both l q) em (request_waits x) g in
+    let rest = no_index_yet y n m (Wait x 1) (Both l q) em (request_unasked x) g in
     access_left y x o (Lit o.value w) b n p other rest.0 et (refl, tt)
 count_label y i none o (Put m j) b (inl (inr (x, p, (c, w, l, array, inl (em, ee, ek, et))))) n g =
     let other = other_array i y x c w none array in
-    let rest = no_index_yet y n m (Import x) l em (λ v e. cc e) g in
+    let rest = no_index_yet y n m (Import x) l em (import_unasked x) g in
     access_left y x o (Put (App (Wait x 1) (Both l l)) j) b n p other rest.0 et (inl (refl, (other, (rest.1, rest.1))))
 count_label y i none o (Put m j) b (inl (inr (x, p, (c, w, l, array, inr (q, em, eq, ee, et))))) n g =
     let other = other_array i y x c w none array in
@@ -379,11 +405,11 @@ count_label y i none o (Put m j) b (inl (inr (x, p, (c, w, l, array, inr (q, em,
     access_left y x o (Put (App (Wait x 1) (Both l q)) j) b n p other rest.0 et (inl (refl, (other, rest.1)))
 count_label y i none o (Put m j) b (inr (x, p, (c, w, l, q, array, em, inl (ee, ek, et)))) n g =
     let other = other_array i y x c w none array in
-    let rest = no_index_yet y n m (Wait x 1) (Both l q) em (request_waits x) g in
+    let rest = no_index_yet y n m (Wait x 1) (Both l q) em (request_unasked x) g in
     access_left y x o (Put (App (Wait x 0) (Both l l)) j) b n p other rest.0 et (inl (refl, (other, (rest.1.0, rest.1.0))))
 count_label y i none o (Put m j) b (inr (x, p, (c, w, l, q, array, em, inr (ee, ek, et)))) n g =
     let other = other_array i y x c w none array in
-    let rest = no_index_yet y n m (Wait x 1) (Both l q) em (request_waits x) g in
+    let rest = no_index_yet y n m (Wait x 1) (Both l q) em (request_unasked x) g in
     access_left y x o (Skip) b n p other rest.0 et (refl, tt)
 count_label y i none o a b (inl h) n w = absurd h
 count_label y i none o a b (inr h) n w = absurd h

@@ -7,7 +7,7 @@
 use Rattle.std.specs.Prelude.{◌≡◌, ◌≢◌, ℕ, zero, suc, Bool, true, false, [], ◌∷◌, Some, None, if◌then◌else◌}
 use Rattle.std.specs.Str.{bytes_eq}
 use Rattle.gos_types.specs.Types.{Type', Var}
-use Rattle.gos_model.specs.Terms.{Name, Term, Skip, Lit, Bound, Import, Lam, App, Both, Fst, Snd, Seq, Par, If, While, Assign, Deref, New, Not, Bin, Loc, Scope, Wait, Held, Put}
+use Rattle.gos_model.specs.Terms.{Name, Term, Skip, Lit, Bound, Import, Lam, App, Both, Fst, Snd, Seq, Par, If, While, Assign, Deref, New, NewArray, Not, Bin, Loc, Arr, Scope, Wait, Held, Put}
 use Rattle.gos_model.specs.Typing.{Imports, Typed, import_type}
 use Rattle.gos_model.specs.Substitution.{instantiate}
 use Rattle.gos_model.specs.Stores.{variable_at, Store, entry_at, store_put}
@@ -41,9 +41,11 @@ placed r y z (While m n) = While (placed r y z m) (placed r y z n)
 placed r y z (Assign m n) = Assign (placed r y z m) (placed r y z n)
 placed r y z (Deref m) = Deref (placed r y z m)
 placed r y z (New w m) = New w (placed r y z m)
+placed r y z (NewArray n w m) = NewArray n w (placed r y z m)
 placed r y z (Not m) = Not (placed r y z m)
 placed r y z (Bin op m n) = Bin op (placed r y z m) (placed r y z n)
 placed r y z (Loc l) = Loc (r l)
+placed r y z (Arr l) = Arr (r l)
 placed r y z (Scope l m) = Scope (r l) (placed r y z m)
 placed r y z (Wait x n) = wait_for (bytes_eq x y) z x n
 placed r y z (Held k op n) = Held k op (placed r y z n)

@@ -2,7 +2,7 @@
 --
 -- Read first: Stores of gos_model. Which numbers stand for the variables of a program doesn't matter.
 use Rattle.std.specs.Prelude.{◌≡◌, ℕ, [], ◌∷◌, ◌++◌, None}
-use Rattle.gos_model.specs.Terms.{Term, Skip, Lit, Bound, Import, Lam, App, Both, Fst, Snd, Seq, Par, If, While, Assign, Deref, New, Not, Bin, Loc, Scope, Wait, Held, Put}
+use Rattle.gos_model.specs.Terms.{Term, Skip, Lit, Bound, Import, Lam, App, Both, Fst, Snd, Seq, Par, If, While, Assign, Deref, New, NewArray, Not, Bin, Loc, Arr, Scope, Wait, Held, Put}
 use Rattle.gos_model.specs.Stores.{Store, entry_at}
 
 -- the term with each location renamed
@@ -23,9 +23,11 @@ renamed r (While m n) = While (renamed r m) (renamed r n)
 renamed r (Assign m n) = Assign (renamed r m) (renamed r n)
 renamed r (Deref m) = Deref (renamed r m)
 renamed r (New w m) = New w (renamed r m)
+renamed r (NewArray n w m) = NewArray n w (renamed r m)
 renamed r (Not m) = Not (renamed r m)
 renamed r (Bin op m n) = Bin op (renamed r m) (renamed r n)
 renamed r (Loc l) = Loc (r l)
+renamed r (Arr l) = Arr (r l)
 renamed r (Scope l m) = Scope (r l) (renamed r m)
 renamed r (Wait x s) = Wait x s
 renamed r (Held k op n) = Held k op (renamed r n)

@@ -4,8 +4,8 @@
 -- else. So each location of the store is that of an open block, and at the end of a run the store is empty.
 use Rattle.std.specs.Prelude.{◌≡◌, ◌⊎◌, ℕ, List, [], Some}
 use Rattle.gos_types.specs.Types.{Type'}
-use Rattle.gos_model.specs.Terms.{Term, Skip, Lit, Bound, Import, Lam, App, Both, Fst, Snd, Seq, Par, If, While, Assign, Deref, New, Not, Bin, Loc, Scope, Wait, Held, Put}
-use Rattle.gos_model.specs.Reach.{IsArrayHead}
+use Rattle.gos_model.specs.Terms.{Term, Skip, Lit, Bound, Import, Lam, App, Both, Fst, Snd, Seq, Par, If, While, Assign, Deref, New, NewArray, Not, Bin, Loc, Arr, Scope, Wait, Held, Put}
+use Rattle.gos_model.specs.Reach.{IsArrayHead, IsArrayPlace}
 use Rattle.gos_model.specs.Typing.{Imports, Typed}
 use Rattle.gos_model.specs.Stores.{Entry, Store, entry_at}
 use Rattle.gos_model.specs.Steps.{IsValue}
@@ -29,9 +29,11 @@ IsShut (While m n) = IsShut m × IsShut n
 IsShut (Assign m n) = IsShut m × IsShut n
 IsShut (Deref m) = IsShut m
 IsShut (New w m) = IsShut m
+IsShut (NewArray n w m) = IsShut m
 IsShut (Not m) = IsShut m
 IsShut (Bin op m n) = IsShut m × IsShut n
 IsShut (Loc l) = Unit {0}
+IsShut (Arr l) = Unit {0}
 IsShut (Scope l m) = ⊥
 IsShut (Wait x s) = Unit {0}
 IsShut (Held k op n) = IsShut n
@@ -54,8 +56,12 @@ abbrev mutual
 
   -- nor in an access but in its index
   pub OpensInIndex : Term → Type 0
-  OpensInIndex (App h (Both n m)) = IsArrayHead h × IsShut n × OpensInPlace m
+  OpensInIndex (App h n) = OpensInPortIndex h n ⊎ (IsArrayPlace h × OpensInPlace n)
   OpensInIndex m = ⊥
+
+  pub OpensInPortIndex : Term → Term → Type 0
+  OpensInPortIndex h (Both n m) = IsArrayHead h × IsShut n × OpensInPlace m
+  OpensInPortIndex h m = ⊥
 
 abbrev mutual
   -- the location of a block that is open at a reached place
@@ -73,8 +79,12 @@ abbrev mutual
   IsOpen l m = ⊥
 
   pub IsOpenInIndex : ℕ → Term → Type 0
-  IsOpenInIndex l (App h (Both n m)) = IsArrayHead h × IsOpen l m
+  IsOpenInIndex l (App h n) = IsOpenInPortIndex l h n ⊎ (IsArrayPlace h × IsOpen l n)
   IsOpenInIndex l m = ⊥
+
+  pub IsOpenInPortIndex : ℕ → Term → Term → Type 0
+  IsOpenInPortIndex l h (Both n m) = IsArrayHead h × IsOpen l m
+  IsOpenInPortIndex l h m = ⊥
 
 -- each location of the store is that of an open block
 abbrev pub KeepsScopes : Term → Store → Type 0

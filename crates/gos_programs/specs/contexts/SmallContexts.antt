@@ -3,13 +3,13 @@
 -- Read first: Together, LocalVariable, Standing.
 use Rattle.std.specs.Prelude.{◌≡◌, ℕ, suc, [], ◌∷◌}
 use Rattle.gos_types.specs.Types.{Com, Var}
-use Rattle.gos_model.specs.Terms.{Term, Skip, Lit, Import, App, Seq, Par, Assign, Deref, Loc, Scope, Wait, Put, Both}
+use Rattle.gos_model.specs.Terms.{Term, Skip, Lit, Import, App, Seq, Par, Assign, Deref, Loc, Scope, Wait, Put, Both, Arr}
 use Rattle.gos_model.specs.Typing.{Imports}
 use Rattle.gos_model.specs.Stores.{variable_at, Store}
 use Rattle.gos_model.specs.Labels.{given, taken}
 use Rattle.gos_model.specs.Moves.{Computing, Showing}
 use Rattle.gos_model.specs.SmallPrograms.{c}
-use Rattle.gos_programs.specs.contexts.Contexts.{SeqFirst, ParLeft, ReadIndex, IsAlone}
+use Rattle.gos_programs.specs.contexts.Contexts.{SeqFirst, ParLeft, ReadIndex, IsAlone, ReadAt}
 use Rattle.gos_programs.specs.contexts.Plugged.{AreInner}
 use Rattle.gos_programs.specs.contexts.Scopes.{IsShut, OpensInPlace, KeepsScopes}
 use Rattle.gos_programs.specs.contexts.Standing.{StandsIn, InScope, OpensDiffer}
@@ -44,13 +44,15 @@ RequestsAreNotInner = AreInner (Computing ∷ Showing (taken c 0 0) ∷ []) × (
 abbrev pub BlocksOpenInPlace : Type 0
 BlocksOpenInPlace = OpensInPlace (Seq block Skip) × (OpensInPlace (Seq Skip block) → ⊥) × (IsShut block → ⊥)
 
--- and in the index of an access that was asked for, but not in one that was not
+-- and in the index of an access that was asked for, but not in one that was not; and in that of an array of the program's own
 abbrev pub BlocksOpenInIndex : Type 0
-BlocksOpenInIndex = OpensInPlace (Deref (App (Wait c 0) (Both Skip block))) × (OpensInPlace (Deref (App (Wait c 1) (Both Skip block))) → ⊥)
+BlocksOpenInIndex =
+    OpensInPlace (Deref (App (Wait c 0) (Both Skip block))) × (OpensInPlace (Deref (App (Wait c 1) (Both Skip block))) → ⊥)
+    × OpensInPlace (Deref (App (Arr 0) block))
 
--- of an index no context is alone, since its number is a label
+-- of an index at a port no context is alone, since its number is a label; at an array of the program's own it is
 abbrev pub IndexIsNotAlone : Type 0
-IndexIsNotAlone = IsAlone (ReadIndex c Skip) → ⊥
+IndexIsNotAlone = (IsAlone (ReadIndex c Skip) → ⊥) × IsAlone (ReadAt 0)
 
 -- a store keeps to the block, and doesn't outlast it
 abbrev pub StoresKeepScopes : Type 0

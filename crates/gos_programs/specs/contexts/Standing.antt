@@ -4,8 +4,8 @@
 -- is in the store as long as it is in the term.
 use Rattle.std.specs.Prelude.{◌≡◌, ◌⊎◌, ℕ, List, [], ◌∷◌, Some}
 use Rattle.gos_types.specs.Types.{Type'}
-use Rattle.gos_model.specs.Terms.{Term, Skip, Lit, Bound, Import, Lam, App, Both, Fst, Snd, Seq, Par, If, While, Assign, Deref, New, Not, Bin, Loc, Scope, Wait, Held, Put}
-use Rattle.gos_model.specs.Reach.{IsArrayHead}
+use Rattle.gos_model.specs.Terms.{Term, Skip, Lit, Bound, Import, Lam, App, Both, Fst, Snd, Seq, Par, If, While, Assign, Deref, New, NewArray, Not, Bin, Loc, Arr, Scope, Wait, Held, Put}
+use Rattle.gos_model.specs.Reach.{IsArrayHead, IsArrayPlace}
 use Rattle.gos_model.specs.Typing.{Typed}
 use Rattle.gos_model.specs.Stores.{Entry, Store, entry_at}
 use Rattle.gos_model.specs.Moves.{Program, Idle, Running, Act, Moves}
@@ -33,9 +33,11 @@ StandsIn s (While m n) = StandsIn s m × StandsIn s n
 StandsIn s (Assign m n) = StandsIn s m × StandsIn s n
 StandsIn s (Deref m) = StandsIn s m
 StandsIn s (New w m) = StandsIn s m
+StandsIn s (NewArray n w m) = StandsIn s m
 StandsIn s (Not m) = StandsIn s m
 StandsIn s (Bin op m n) = StandsIn s m × StandsIn s n
 StandsIn s (Loc l) = Present s l
+StandsIn s (Arr l) = Present s l
 StandsIn s (Scope l m) = Present s l × StandsIn s m
 StandsIn s (Wait x n) = Unit {0}
 StandsIn s (Held k op n) = StandsIn s n
@@ -64,9 +66,11 @@ InScope ls (While m n) = InScope ls m × InScope ls n
 InScope ls (Assign m n) = InScope ls m × InScope ls n
 InScope ls (Deref m) = InScope ls m
 InScope ls (New w m) = InScope ls m
+InScope ls (NewArray n w m) = InScope ls m
 InScope ls (Not m) = InScope ls m
 InScope ls (Bin op m n) = InScope ls m × InScope ls n
 InScope ls (Loc l) = Has l ls
+InScope ls (Arr l) = Has l ls
 InScope ls (Scope l m) = InScope (l ∷ ls) m
 InScope ls (Wait x s) = Unit {0}
 InScope ls (Held k op n) = InScope ls n
@@ -88,8 +92,12 @@ abbrev mutual
   OpensDiffer m = Unit {0}
 
   pub DifferInIndex : Term → Type 0
-  DifferInIndex (App h (Both n m)) = IsArrayHead h → OpensDiffer m
+  DifferInIndex (App h n) = DifferInPortIndex h n × (IsArrayPlace h → OpensDiffer n)
   DifferInIndex m = Unit {0}
+
+  pub DifferInPortIndex : Term → Term → Type 0
+  DifferInPortIndex h (Both n m) = IsArrayHead h → OpensDiffer m
+  DifferInPortIndex h m = Unit {0}
 
 -- in a run of a source
 abbrev pub RunsStay : Type 0

@@ -4,7 +4,7 @@
 -- itself, and where it knows all the names of its term it does nothing more.
 use Rattle.std.specs.Prelude.{◌≡◌, List, Some}
 use Rattle.gos_types.specs.Types.{Type'}
-use Rattle.gos_model.specs.Terms.{Name, Term, Skip, Lit, Bound, Import, Lam, App, Both, Fst, Snd, Seq, Par, If, While, Assign, Deref, New, Not, Bin, Loc, Scope, Wait, Held, Put}
+use Rattle.gos_model.specs.Terms.{Name, Term, Skip, Lit, Bound, Import, Lam, App, Both, Fst, Snd, Seq, Par, If, While, Assign, Deref, New, NewArray, Not, Bin, Loc, Arr, Scope, Wait, Held, Put}
 use Rattle.gos_model.specs.Typing.{Imports, Typed, import_type}
 use Rattle.gos_model.specs.Stores.{Store}
 use Rattle.gos_model.specs.Moves.{Program, Config, Idle, Running, Act, Move, Moves, Stalled}
@@ -32,9 +32,11 @@ Knows i (While m n) = Knows i m × Knows i n
 Knows i (Assign m n) = Knows i m × Knows i n
 Knows i (Deref m) = Knows i m
 Knows i (New w m) = Knows i m
+Knows i (NewArray n w m) = Knows i m
 Knows i (Not m) = Knows i m
 Knows i (Bin op m n) = Knows i m × Knows i n
 Knows i (Loc l) = Unit {0}
+Knows i (Arr l) = Unit {0}
 Knows i (Scope l m) = Knows i m
 Knows i (Wait x s) = (t : Type') × (import_type i x ≡ Some t)
 Knows i (Held k op n) = Knows i n

@@ -5,17 +5,17 @@
 -- on the type of a result.
 use Rattle.std.specs.Prelude.{◌≡◌, ℕ, zero, suc, ◌^◌, ◌<◌, List, [], ◌∷◌, length, Option, Some, slice_get}
 use Rattle.gos_types.specs.Types.{Type', Com, Exp, Var, Pair, Fun, IsDone}
-use Rattle.gos_model.specs.Terms.{Term, Skip, Lit, Bound, Import, Lam, App, Both, Fst, Snd, Seq, Par, If, While, Assign, Deref, New, Not, Bin, Loc, Scope, Wait, Held, Put, result_width}
-use Rattle.gos_model.specs.Typing.{Imports, import_type}
+use Rattle.gos_model.specs.Terms.{Term, Skip, Lit, Bound, Import, Lam, App, Both, Fst, Snd, Seq, Par, If, While, Assign, Deref, New, NewArray, Not, Bin, Loc, Arr, Scope, Wait, Held, Put, result_width}
+use Rattle.gos_model.specs.Typing.{Imports, import_type, IsLength, array_type}
 use Rattle.gos_model.specs.Stores.{Entry, Store, entry_at}
 
--- which width a variable's location has
+-- how many numbers a location has, and of which width
 abbrev pub Widths : Type 1
-Widths = ℕ → ℕ → Type 0
+Widths = ℕ → (n w : ℕ) → Type 0
 
--- the widths of the variables of a store: of the locations with one number
+-- those of a store: a variable has one number
 abbrev pub widths_of : Store → Widths
-widths_of s l w = (e : Entry) × (entry_at s l ≡ Some e) × (e.width ≡ w) × (length e.numbers ≡ 1)
+widths_of s l n w = (e : Entry) × (entry_at s l ≡ Some e) × (e.width ≡ w) × (length e.numbers ≡ n)
 
 -- each of these numbers has at most w bits
 abbrev pub FitIn : ℕ → List ℕ → Type 0
@@ -58,9 +58,11 @@ HasType ws i g (While m n) t = (t ≡ Com) × HasType ws i g m (Exp 1) × HasTyp
 HasType ws i g (Assign m n) t = (w : ℕ) × (t ≡ Com) × HasType ws i g m (Var w) × HasType ws i g n (Exp w)
 HasType ws i g (Deref m) t = (w : ℕ) × (t ≡ Exp w) × HasType ws i g m (Var w)
 HasType ws i g (New w m) t = IsDone t × HasType ws i (Var w ∷ g) m t
+HasType ws i g (NewArray n w m) t = IsDone t × IsLength n × HasType ws i (array_type n w ∷ g) m t
 HasType ws i g (Not m) t = (w : ℕ) × (t ≡ Exp w) × HasType ws i g m (Exp w)
 HasType ws i g (Bin op m n) t = (w : ℕ) × (t ≡ Exp (result_width op w)) × HasType ws i g m (Exp w) × HasType ws i g n (Exp w)
-HasType ws i g (Loc l) t = (w : ℕ) × (t ≡ Var w) × ws l w
+HasType ws i g (Loc l) t = (w : ℕ) × (t ≡ Var w) × ws l 1 w
+HasType ws i g (Arr l) t = (n : ℕ) × (w : ℕ) × (t ≡ array_type n w) × IsLength n × ws l n w
 HasType ws i g (Scope l m) t = IsDone t × HasType ws i g m t
 HasType ws i g (Wait x n) t = AnswersWith (import_type i x) n t
 HasType ws i g (Held k op n) t = (w : ℕ) × (t ≡ Exp (result_width op w)) × (k < 2 ^ w) × HasType ws i g n (Exp w)

@@ -1,7 +1,7 @@
 -- Small running terms and stores that meet the definitions, and others that miss them.
 use Rattle.std.specs.Prelude.{ℕ, [], ◌∷◌}
 use Rattle.gos_types.specs.Types.{Type', Com, Exp}
-use Rattle.gos_model.specs.Terms.{Lit, Import, App, Par, Deref, Loc, Wait, Put, Both}
+use Rattle.gos_model.specs.Terms.{Lit, Import, App, Par, Deref, Loc, Wait, Put, Both, Arr}
 use Rattle.gos_model.specs.Typing.{Imports, Typed}
 use Rattle.gos_model.specs.Stores.{variable_at, Store}
 use Rattle.gos_model.specs.SmallPrograms.{c}
@@ -35,11 +35,14 @@ abbrev pub WaitsHaveTypes : Type 0
 WaitsHaveTypes =
     HasType (widths_of []) one_command [] (Wait c 1) Com × ((t : Type') → HasType (widths_of []) [] [] (Wait c 1) t → ⊥)
 
--- the access of an array that was asked for its index is a number of the array's width, and the array alone is none
+-- The access of an array that was asked for its index is a number of the array's width, and the array alone is none. So it is with
+-- two numbers that a location has.
 abbrev pub AccessesHaveTypes : Type 0
 AccessesHaveTypes =
     HasType (widths_of []) an_array [] (Deref (App (Wait a 0) (Both (Lit 1 1) (Lit 1 1)))) (Exp 8)
     × ((t : Type') → HasType (widths_of []) an_array [] (Deref (Wait a 0)) t → ⊥)
+    × HasType (widths_of (two_numbers 8 1 2)) [] [] (Deref (App (Arr 0) (Lit 1 1))) (Exp 8)
+    × ((t : Type') → HasType (widths_of (two_numbers 8 1 2)) [] [] (Deref (Arr 0)) t → ⊥)
 
 -- `c || c` has a type as a running term, and none as a source
 abbrev pub SharingIsNotAsked : Type 0

@@ -5,10 +5,10 @@
 use Rattle.std.specs.Prelude.{◌≡◌, ◌⊎◌, ℕ, ◌+◌, ◌&&◌, not, false, List, if◌then◌else◌}
 use Rattle.std.specs.Str.{bytes_eq}
 use Rattle.gos_types.specs.Types.{Type'}
-use Rattle.gos_model.specs.Terms.{Name, Term, Skip, Lit, Bound, Import, Lam, App, Both, Fst, Snd, Seq, Par, If, While, Assign, Deref, New, Not, Bin, Loc, Scope, Wait, Held, Put}
+use Rattle.gos_model.specs.Terms.{Name, Term, Skip, Lit, Bound, Import, Lam, App, Both, Fst, Snd, Seq, Par, If, While, Assign, Deref, New, NewArray, Not, Bin, Loc, Arr, Scope, Wait, Held, Put}
 use Rattle.gos_model.specs.Typing.{Imports, Typed}
 use Rattle.gos_model.specs.Stores.{Store}
-use Rattle.gos_model.specs.Reach.{IsArrayHead}
+use Rattle.gos_model.specs.Reach.{IsArrayHead, IsArrayPlace}
 use Rattle.gos_model.specs.Accesses.{IsArrayImport}
 use Rattle.gos_model.specs.Labels.{Port, Given, Taken, is_answer}
 use Rattle.gos_model.specs.Moves.{Program, Running, Act, Computing, Showing, Unfoldings, Move}
@@ -31,9 +31,11 @@ HasNoWaitAt y (While m n) = HasNoWaitAt y m × HasNoWaitAt y n
 HasNoWaitAt y (Assign m n) = HasNoWaitAt y m × HasNoWaitAt y n
 HasNoWaitAt y (Deref m) = HasNoWaitAt y m
 HasNoWaitAt y (New w m) = HasNoWaitAt y m
+HasNoWaitAt y (NewArray n w m) = HasNoWaitAt y m
 HasNoWaitAt y (Not m) = HasNoWaitAt y m
 HasNoWaitAt y (Bin op m n) = HasNoWaitAt y m × HasNoWaitAt y n
 HasNoWaitAt y (Loc l) = Unit {0}
+HasNoWaitAt y (Arr l) = Unit {0}
 HasNoWaitAt y (Scope l m) = HasNoWaitAt y m
 HasNoWaitAt y (Wait x n) = bytes_eq x y ≡ false
 HasNoWaitAt y (Held k op n) = HasNoWaitAt y n
@@ -55,10 +57,14 @@ abbrev mutual
   WaitsAt y n (Put m k) = ((n ≡ 0) × HasNoWaitAt y m) ⊎ WaitsInIndex y n m
   WaitsAt y n m = (n ≡ 0) × HasNoWaitAt y m
 
-  -- the access is one of another port, and its index has n waits
+  -- the access is one of another port or of an array of the program's own, and its index has n waits
   pub WaitsInIndex : Name → ℕ → Term → Type 0
-  WaitsInIndex y n (App h (Both b a)) = IsArrayHead h × HasNoWaitAt y h × HasNoWaitAt y b × WaitsAt y n a
+  WaitsInIndex y n (App h a) = WaitsInPortIndex y n h a ⊎ (IsArrayPlace h × WaitsAt y n a)
   WaitsInIndex y n m = ⊥
+
+  pub WaitsInPortIndex : Name → ℕ → Term → Term → Type 0
+  WaitsInPortIndex y n h (Both b a) = IsArrayHead h × HasNoWaitAt y h × HasNoWaitAt y b × WaitsAt y n a
+  WaitsInPortIndex y n h m = ⊥
 
 -- 1 for a request at this port, and for an answer there; else 0
 abbrev pub request_of : Name → Port → ℕ → ℕ

@@ -7,7 +7,7 @@ use Rattle.std.proofs.Common.{◌≡◌, ℕ, Bool, true, false, List, [], ◌�
 use Rattle.gos_types.specs.declared.shakes.Role.{Role}
 use Rattle.gos_types.specs.declared.shakes.Role.TheVariants.{Serve, Ask}
 use Rattle.gos_types.specs.Events.{Request, Answer}
-use Rattle.gos_plan.specs.Kinds.{Part, Skip, Lit, Seq, Par, If, While, Op, Not, Assign, Deref, Local, Share, Contact, contacts_of}
+use Rattle.gos_plan.specs.Kinds.{Part, Skip, Lit, Seq, Par, If, While, Op, Not, Assign, Deref, Local, Array, Share, Contact, contacts_of}
 use Rattle.gos_plan.specs.Firing.{Slot, firing}
 use Rattle.gos_plan.specs.Plans.{End, PartEnd, Plan, IsRight, contact_at}
 use Rattle.gos_plan.specs.Tokens.{Tokens, Element, Fire, Out, In, IsPortEnd, Passes, places_of, way_taken, way_put, Does}
@@ -120,6 +120,7 @@ law_of p o s right fit alone j k slot r v is lies fires = by_kind k refl
     by_kind (Assign w) e = plain (λ t h. let never : Assign w ≡ Share t = sym e ∙ h in cc never)
     by_kind (Deref w) e = plain (λ t h. let never : Deref w ≡ Share t = sym e ∙ h in cc never)
     by_kind (Local w n) e = plain (λ t h. let never : Local w n ≡ Share t = sym e ∙ h in cc never)
+    by_kind (Array w c n) e = plain (λ t h. let never : Array w c n ≡ Share t = sym e ∙ h in cc never)
 
 pub always_ties : (p : Plan) → IsRight p → AlwaysTies p
 always_ties p right first s xs o idle orderly =

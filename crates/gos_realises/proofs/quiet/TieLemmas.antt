@@ -1,10 +1,10 @@
 -- Which handshake a part will not answer while it waits at another: the table of all kinds but Share.
-use Rattle.std.specs.Prelude.{◌&&◌}
+use Rattle.std.specs.Prelude.{◌&&◌, ◌||◌}
 use Rattle.std.specs.List.{list_any}
 use Rattle.std.proofs.Common.{◌≡◌, ◌⊎◌, ℕ, ◌+◌, ◌*◌, Bool, true, false, List, [], ◌∷◌, length, Some, slice_get, refl, arith, nat_eq, if◌then◌else◌}
 use Rattle.gos_types.specs.declared.shakes.Role.TheVariants.{Serve, Ask}
-use Rattle.gos_plan.specs.Kinds.{Part, Skip, Lit, Seq, Par, If, While, Op, Not, Assign, Deref, Local, Share, Contact, contacts_of}
-use Rattle.gos_plan.specs.Firing.{Phase, Rest, First, Second, Both, LeftOnly, RightOnly, Test, Branch, Body, Left, Right, Waiting, Value, Writing, Active, State, at, Slot, Req, Ans, Token, Row, same_slot, rows, firing}
+use Rattle.gos_plan.specs.Kinds.{Part, Skip, Lit, Seq, Par, If, While, Op, Not, Assign, Deref, Local, Array, Share, Contact, contacts_of}
+use Rattle.gos_plan.specs.Firing.{Phase, Rest, First, Second, Both, LeftOnly, RightOnly, Test, Branch, Body, Left, Right, Waiting, Value, Writing, Active, Cells, Reading, WritingTo, State, at, Slot, Req, Ans, Token, Row, same_slot, rows, firing}
 use Rattle.gos_plan.specs.Turns.{IsUnshared}
 use Rattle.gos_plan.proofs.RowLemmas.{EachRow, row_with}
 
@@ -26,6 +26,9 @@ waits (Assign w) Value n = 0 ∷ []
 waits (Assign w) Writing n = 1 ∷ []
 waits (Deref w) Waiting n = 0 ∷ []
 waits (Local w v) Active n = 0 ∷ []
+waits (Array w k v) (Cells ns) n = 0 ∷ []
+waits (Array w k v) (Reading ns) n = 0 ∷ 1 ∷ []
+waits (Array w k v) (WritingTo ns) n = 0 ∷ 1 ∷ []
 waits k p n = []
 
 -- the handshake by which a part is run
@@ -48,9 +51,18 @@ Passed cs a b =
     × (((c.role ≡ Serve) × (a ≡ j) × ((b ≡ length cs + j) ⊎ (b ≡ length cs + length cs + j)))
     ⊎ ((c.role ≡ Ask) × (b ≡ j) × (x : ℕ) × (a ≡ length cs + x * length cs + j)))
 
+-- which handshake of an array is open, and which is not answered meanwhile: the caller's while the body runs, and an access
+-- while its index is asked
+abbrev pub array_ties : Phase → ℕ → ℕ → Bool
+array_ties (Cells ns) a b = nat_eq a 0 && nat_eq b 4
+array_ties (Reading ns) a b = (nat_eq a 0 && nat_eq b 4) || (nat_eq a 1 && nat_eq b 2)
+array_ties (WritingTo ns) a b = (nat_eq a 0 && nat_eq b 4) || (nat_eq a 1 && nat_eq b 3)
+array_ties p a b = false
+
 -- while a is open, b is not answered
 abbrev pub Tied : Part → State → ℕ → ℕ → Type 0
 Tied (Share t) q a b = Passed (contacts_of t) a b
+Tied (Array w k v) q a b = array_ties q.phase a b ≡ true
 Tied k q a b = (nat_eq b (runs_by k) && list_any (nat_eq a) (waits k q.phase q.number)) ≡ true
 
 -- whether a token is put at this slot
@@ -102,6 +114,10 @@ tie_table (Local w b) Rest n v u = ((λ a d. ((λ p h. grind (arith, p, h)), (λ
 tie_table Par Rest n v u = ((λ a b. ((λ p h. grind (arith, p, h)), (λ y h. grind (arith, y, h)))), tt)
 tie_table Par Both n v u = ((λ a b. ((λ p h. grind (arith, p, h)), (λ y h. grind (arith, y, h)))), ((λ a b. ((λ p h. grind (arith, p, h)), (λ y h. grind (arith, y, h)))), tt))
 tie_table (Local w b) Active n v u = ((λ a d. ((λ p h. grind (arith, p, h)), (λ y h. grind (arith, y, h)))), ((λ a d. ((λ p h. grind (arith, p, h)), (λ y h. grind (arith, y, h)))), ((λ a d. ((λ p h. grind (arith, p, h)), (λ y h. grind (arith, y, h)))), tt)))
+tie_table (Array w c b) Rest n v u = ((λ a d. ((λ p h. grind (arith, p, h)), (λ y h. grind (arith, y, h)))), tt)
+tie_table (Array w c b) (Cells ns) n v u = ((λ a d. ((λ p h. grind (arith, p, h)), (λ y h. grind (arith, y, h)))), ((λ a d. ((λ p h. grind (arith, p, h)), (λ y h. grind (arith, y, h)))), ((λ a d. ((λ p h. grind (arith, p, h)), (λ y h. grind (arith, y, h)))), tt)))
+tie_table (Array w c b) (Reading ns) n v u = ((λ a d. ((λ p h. grind (arith, p, h)), (λ y h. grind (arith, y, h)))), tt)
+tie_table (Array w c b) (WritingTo ns) n v u = ((λ a d. ((λ p h. grind (arith, p, h)), (λ y h. grind (arith, y, h)))), tt)
 tie_table (If w) Test n v u = choosing w n v (nat_eq v 1) refl
 tie_table (If w) Branch n v u = chosen_branch w n v (nat_eq n 1) refl
 tie_table While Test n v u = looping n v (nat_eq v 1) refl

@@ -6,6 +6,7 @@ use Rattle.std.proofs.lemmas.Option.{slice_get_within}
 use Rattle.gos_types.specs.Types.{Type', Com, Exp, Var, Pair, Fun, IsDone}
 use Rattle.gos_plan.specs.Kinds.{Share, contacts_of, other_side, turned_contact, part_contacts, Contact, Part}
 use Rattle.gos_plan.specs.Plans.{turned_if}
+use Rattle.gos_plan.specs.Size.{numbers_of}
 use Rattle.gos_realises.specs.realises.Regular.{count}
 use Rattle.gos_realises.specs.realises.Slim.{all_shakes}
 
@@ -45,3 +46,7 @@ below_count t h c e = by_contact (slice_get (contacts_of t) h) refl e
 pub shakes-append : (ks ls : List Part) → all_shakes (ks ++ ls) ≡ all_shakes ks + all_shakes ls
 shakes-append [] ls = omega arith
 shakes-append (k ∷ ks) ls = let rest = shakes-append ks ls in omega (arith, rest)
+
+pub numbers-append : (ks ls : List Part) → numbers_of (ks ++ ls) ≡ numbers_of ks + numbers_of ls
+numbers-append [] ls = omega arith
+numbers-append (k ∷ ks) ls = let rest = numbers-append ks ls in omega (arith, rest)

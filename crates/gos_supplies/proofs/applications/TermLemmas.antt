@@ -5,8 +5,8 @@ use Rattle.std.proofs.Common.{refl, sym, ◌∙◌, ap}
 use Rattle.std.proofs.lemmas.List.Elements.{Contains-append_right}
 use Rattle.gos_types.specs.Types.{Type', Com, Exp, Var, Fun, Pair}
 use Rattle.gos_types.proofs.BytesLemmas.{bytes_eq_same}
-use Rattle.gos_model.specs.Terms.{Name, Term, Skip, Lit, Bound, Import, Lam, App, Both, Fst, Snd, Seq, Par, If, While, Assign, Deref, New, Not, Bin, Loc, Scope, Wait, Held, Put}
-use Rattle.gos_model.specs.Typing.{Imported, Imports, import_type, Typed}
+use Rattle.gos_model.specs.Terms.{Name, Term, Skip, Lit, Bound, Import, Lam, App, Both, Fst, Snd, Seq, Par, If, While, Assign, Deref, New, NewArray, Not, Bin, Loc, Arr, Scope, Wait, Held, Put}
+use Rattle.gos_model.specs.Typing.{Imported, Imports, import_type, Typed, array_type}
 use Rattle.gos_model.specs.Linking.{or_import, supplied}
 use Rattle.gos_realises.specs.realises.Realises.{NamesDiffer}
 use Rattle.gos_realises.specs.realises.Modules.{Supply, AreSupplied, term_for}
@@ -56,12 +56,14 @@ supplied_same is f g agree c (Assign m n) t (w, e, h, k) =
     λ i. Assign (first i) (second i)
 supplied_same is f g agree c (Deref m) t (w, e, h) = ap Deref (supplied_same is f g agree c m (Var w) h)
 supplied_same is f g agree c (New w m) t (d, width, h) = ap (New w) (supplied_same is f g agree (Var w ∷ c) m t h)
+supplied_same is f g agree c (NewArray n w m) t (d, long, width, h) = ap (NewArray n w) (supplied_same is f g agree (array_type n w ∷ c) m t h)
 supplied_same is f g agree c (Not m) t (w, e, h) = ap Not (supplied_same is f g agree c m (Exp w) h)
 supplied_same is f g agree c (Bin op m n) t (w, e, h, k) =
     let first = supplied_same is f g agree c m (Exp w) h in
     let second = supplied_same is f g agree c n (Exp w) k in
     λ i. Bin op (first i) (second i)
 supplied_same is f g agree c (Loc l) t h = refl
+supplied_same is f g agree c (Arr l) t h = refl
 supplied_same is f g agree c (Scope l m) t h = absurd h
 supplied_same is f g agree c (Wait x s) t h = refl
 supplied_same is f g agree c (Held k op n) t h = absurd h

@@ -3,10 +3,10 @@ use Rattle.std.specs.Prelude.{◌≡◌, ℕ, zero, suc, ◌^◌, ◌<◌, IsTru
 use Rattle.std.proofs.Common.{arith, refl, sym, ◌∙◌, ap, subst, inl, inr}
 use Rattle.gos_types.specs.Types.{Exp}
 use Rattle.gos_types.proofs.BoolLemmas.{true_is_not_false}
-use Rattle.gos_model.specs.Terms.{Name, Term, Import, Lit, App, Both, Deref, Wait, Put}
+use Rattle.gos_model.specs.Terms.{Name, Term, Import, Lit, App, Both, Arr, Deref, Wait, Put}
 use Rattle.gos_model.specs.Typing.{Typed}
 use Rattle.gos_model.specs.Stores.{Store}
-use Rattle.gos_model.specs.Steps.{IsValue}
+use Rattle.gos_model.specs.Steps.{IsValue, Locates}
 use Rattle.gos_model.specs.Reach.{Unfolds}
 use Rattle.gos_model.specs.Accesses.{IsArrayImport}
 use Rattle.gos_model.specs.Labels.{Label, Taken, given, taken, is_output, is_output_at}
@@ -31,6 +31,14 @@ no_zero e = omega (arith, e)
 
 wait_number : (x y : Name) (s t : ℕ) → Wait x s ≡ Wait y t → s ≡ t
 wait_number x y s t e = cc e
+
+-- nor is a port an array of the program's own
+no_place : (x : Name) (s l : ℕ) → Wait x s ≡ Arr l → ⊥
+no_place x s l e = cc e
+
+no_number : (x : Name) (s : ℕ) (n : Term) (l k : ℕ) → Locates (App (Wait x s) n) l k → ⊥
+no_number x s n l k (inl (e, first)) = cc e
+no_number x s n l k (inr (w, e)) = let head : Wait x s ≡ Arr l = cc e in no_place x s l head
 
 -- in the place of the index
 pub within : (a : Access) (x : Name) (n m : Term) → plug (index_of a x n) m ≡ accessed a (App (Wait x 0) (Both n m))
@@ -92,8 +100,12 @@ module _ (g : Program) (x : Name) (n j : Term) where
 
   waiting_computes : (a : Access) (s : Store) (e : Config) → ActsTo g.imports Computing s (waiting a x n j) e → ⊥
   waiting_computes a s Idle h = h
-  waiting_computes Read s (Running t u) h = grind (arith, h)
-  waiting_computes (Write k) s (Running t u) h = grind (arith, h)
+  waiting_computes Read s (Running t u) (inl (e, k, old, is, found, has, to, same)) = no_number x 1 (Both n j) e.place k is
+  waiting_computes Read s (Running t u) (inr (m, to, inl ((y, head), l, past, below))) = not_asked y head
+  waiting_computes Read s (Running t u) (inr (m, to, inr ((l, place), z, then, below))) = no_place x 1 l place
+  waiting_computes (Write v) s (Running t u) (inl (e, k, old, is, found, has, to, same)) = no_number x 1 (Both n j) e.place k is
+  waiting_computes (Write v) s (Running t u) (inr (m, to, inl ((y, head), l, past, below))) = not_asked y head
+  waiting_computes (Write v) s (Running t u) (inr (m, to, inr ((l, place), z, then, below))) = no_place x 1 l place
 
   waiting_shows : (a : Access) (s : Store) (o : Label) (e : Config) → IsTrue (is_output o) → ActsTo g.imports (Showing o) s (waiting a x n j) e → ⊥
   waiting_shows Read s o Idle out (inl (is, label)) = cc is
@@ -104,7 +116,8 @@ module _ (g : Program) (x : Name) (n j : Term) where
       let head : Wait x 1 ≡ Wait y 0 = cc is in absurd (not_asked y head)
   waiting_shows Read s o (Running t u) out (inl (inr (y, port, (c, b, m, l, array, is, inl (event, value, to)))), kept) = is_input o y 1 port event refl out
   waiting_shows Read s o (Running t u) out (inl (inr (y, port, (c, b, m, l, array, is, inr (event, fits, to)))), kept) = is_input o y 3 port event refl out
-  waiting_shows Read s o (Running t u) out (inr (m, to, ((y, head), l, within, below)), kept) = absurd (not_asked y head)
+  waiting_shows Read s o (Running t u) out (inr (m, to, inl ((y, head), l, within, below)), kept) = absurd (not_asked y head)
+  waiting_shows Read s o (Running t u) out (inr (m, to, inr ((l, place), z, then, below)), kept) = absurd (no_place x 1 l place)
   waiting_shows (Write k) s o Idle out (inl (is, label)) = cc is
   waiting_shows (Write k) s o Idle out (inr (m, b, is, label)) = cc is
   waiting_shows (Write k) s o (Running t u) out (inl (inl (inl (y, b, is, typed, label, to))), kept) = absurd (cc is)
@@ -113,7 +126,8 @@ module _ (g : Program) (x : Name) (n j : Term) where
       let head : Wait x 1 ≡ Wait y 0 = cc is in absurd (not_asked y head)
   waiting_shows (Write k) s o (Running t u) out (inl (inr (y, port, (c, b, m, l, array, is, inl (event, value, to)))), kept) = is_input o y 1 port event refl out
   waiting_shows (Write k) s o (Running t u) out (inl (inr (y, port, (c, b, m, l, array, is, inr (event, none, to)))), kept) = is_input o y 5 port event refl out
-  waiting_shows (Write k) s o (Running t u) out (inr (m, to, ((y, head), l, within, below)), kept) = absurd (not_asked y head)
+  waiting_shows (Write k) s o (Running t u) out (inr (m, to, inl ((y, head), l, within, below)), kept) = absurd (not_asked y head)
+  waiting_shows (Write k) s o (Running t u) out (inr (m, to, inr ((l, place), z, then, below)), kept) = absurd (no_place x 1 l place)
 
   from_waiting : (a : Access) (s : Store) (act : Act) (l : ℕ) (t : Term) (e : Config) → Unfoldings l (waiting a x n j) t → ActsTo g.imports act s t e
       → ActsTo g.imports act s (waiting a x n j) e
@@ -136,13 +150,15 @@ module _ (g : Program) (x : Name) (n : Term) where
   index_unfolds Read m t (inl (inr (v, to, inl (b, c, is, then)))) = absurd (cc is)
   index_unfolds Read m t (inl (inr (v, to, inr (u, then, inl other)))) = absurd other
   index_unfolds Read m t (inl (inr (v, to, inr (u, then, inr other)))) = absurd other
-  index_unfolds Read m t (inr (v, to, (head, u, then, one))) = (u, to ∙ ap (λ (y : Term). Deref y) then, one)
+  index_unfolds Read m t (inr (v, to, inl (head, u, then, one))) = (u, to ∙ ap (λ (y : Term). Deref y) then, one)
+  index_unfolds Read m t (inr (v, to, inr ((l, place), z, then, below))) = absurd (no_place x 0 l place)
   index_unfolds (Write k) m t (inl (inl (inl other))) = absurd other
   index_unfolds (Write k) m t (inl (inl (inr other))) = absurd other
   index_unfolds (Write k) m t (inl (inr (v, to, inl (b, c, is, then)))) = absurd (cc is)
   index_unfolds (Write k) m t (inl (inr (v, to, inr (u, then, inl other)))) = absurd other
   index_unfolds (Write k) m t (inl (inr (v, to, inr (u, then, inr other)))) = absurd other
-  index_unfolds (Write k) m t (inr (v, to, (head, u, then, one))) = (u, to ∙ ap (λ (y : Term). Put y k) then, one)
+  index_unfolds (Write k) m t (inr (v, to, inl (head, u, then, one))) = (u, to ∙ ap (λ (y : Term). Put y k) then, one)
+  index_unfolds (Write k) m t (inr (v, to, inr ((l, place), z, then, below))) = absurd (no_place x 0 l place)
 
   index_unfoldings : (a : Access) (j : ℕ) (m t : Term) → Unfoldings j (plug (index_of a x n) m) t → (u : Term) × (t ≡ plug (index_of a x n) u) × Unfoldings j m u
   index_unfoldings a zero m t h = (m, sym h, refl)
@@ -154,10 +170,12 @@ module _ (g : Program) (x : Name) (n : Term) where
   index_computes : (a : Access) (m : Term) (s : Store) (e : Config) → ActsTo g.imports Computing s (plug (index_of a x n) m) e
       → (t : Term) × (u : Store) × ActsTo g.imports Computing s m (Running t u)
   index_computes a m s Idle h = absurd h
-  index_computes Read m s (Running t u) (inl (entry, number, is, found, has, to, same)) = absurd (cc is)
-  index_computes Read m s (Running t u) (inr (v, to, (head, z, then, one))) = (z, u, one)
-  index_computes (Write k) m s (Running t u) (inl (entry, number, is, found, has, to, same)) = absurd (cc is)
-  index_computes (Write k) m s (Running t u) (inr (v, to, (head, z, then, one))) = (z, u, one)
+  index_computes Read m s (Running t u) (inl (e, k, old, is, found, has, to, same)) = absurd (no_number x 0 (Both n m) e.place k is)
+  index_computes Read m s (Running t u) (inr (v, to, inl (head, z, then, one))) = (z, u, one)
+  index_computes Read m s (Running t u) (inr (v, to, inr ((l, place), z, then, below))) = absurd (no_place x 0 l place)
+  index_computes (Write b) m s (Running t u) (inl (e, k, old, is, found, has, to, same)) = absurd (no_number x 0 (Both n m) e.place k is)
+  index_computes (Write b) m s (Running t u) (inr (v, to, inl (head, z, then, one))) = (z, u, one)
+  index_computes (Write b) m s (Running t u) (inr (v, to, inr ((l, place), z, then, below))) = absurd (no_place x 0 l place)
 
   -- what it shows: a label of the index, or the number that this is
   abbrev Shows : Label → Term → Store → Type 0
@@ -172,7 +190,8 @@ module _ (g : Program) (x : Name) (n : Term) where
       let same : m ≡ j = cc is in inr (inr (o.value, c, same ∙ number))
   index_shows Read m s o (Running t u) (inl (inr (y, port, (c, b, z, j, array, is, rest))), kept) =
       let head : Wait x 0 ≡ Wait y 1 = cc is in absurd (asked_not y head)
-  index_shows Read m s o (Running t u) (inr (v, to, (head, z, then, one)), kept) = inl (z, u, (one, kept))
+  index_shows Read m s o (Running t u) (inr (v, to, inl (head, z, then, one)), kept) = inl (z, u, (one, kept))
+  index_shows Read m s o (Running t u) (inr (v, to, inr ((l, place), z, then, below)), kept) = absurd (no_place x 0 l place)
   index_shows (Write k) m s o Idle (inl (is, label)) = absurd (cc is)
   index_shows (Write k) m s o Idle (inr (l, b, is, label)) = absurd (cc is)
   index_shows (Write k) m s o (Running t u) (inl (inl (inl (y, b, is, typed, label, to))), kept) = absurd (cc is)
@@ -181,7 +200,8 @@ module _ (g : Program) (x : Name) (n : Term) where
       let same : m ≡ j = cc is in inr (inr (o.value, c, same ∙ number))
   index_shows (Write k) m s o (Running t u) (inl (inr (y, port, (c, b, z, j, array, is, rest))), kept) =
       let head : Wait x 0 ≡ Wait y 1 = cc is in absurd (asked_not y head)
-  index_shows (Write k) m s o (Running t u) (inr (v, to, (head, z, then, one)), kept) = inl (z, u, (one, kept))
+  index_shows (Write k) m s o (Running t u) (inr (v, to, inl (head, z, then, one)), kept) = inl (z, u, (one, kept))
+  index_shows (Write k) m s o (Running t u) (inr (v, to, inr ((l, place), z, then, below)), kept) = absurd (no_place x 0 l place)
 
   pub index_waits : (a : Access) (m : Term) (s : Store) → Stalled g (Running m s) → Stalled g (Running (plug (index_of a x n) m) s)
   index_waits a m s stalled = (computes, shows)

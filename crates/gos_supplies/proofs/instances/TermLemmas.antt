@@ -5,7 +5,7 @@ use Rattle.std.proofs.Common.{refl, sym, ◌∙◌, ap, arith}
 use Rattle.std.proofs.lemmas.List.Elements.{Contains-append_right}
 use Rattle.gos_types.specs.Types.{Type'}
 use Rattle.gos_types.proofs.BytesLemmas.{bytes_eq_same}
-use Rattle.gos_model.specs.Terms.{Name, Term, Skip, Lit, Bound, Import, Lam, App, Both, Fst, Snd, Seq, Par, If, While, Assign, Deref, New, Not, Bin, Loc, Scope, Wait, Held, Put}
+use Rattle.gos_model.specs.Terms.{Name, Term, Skip, Lit, Bound, Import, Lam, App, Both, Fst, Snd, Seq, Par, If, While, Assign, Deref, New, NewArray, Not, Bin, Loc, Arr, Scope, Wait, Held, Put}
 use Rattle.gos_model.specs.Typing.{Imported, import_type, Typed}
 use Rattle.gos_model.specs.Linking.{or_import, supplied}
 use Rattle.gos_realises.specs.realises.Realises.{NamesDiffer}
@@ -46,9 +46,11 @@ supplied_twice f g (While m n) = let a = supplied_twice f g m in let b = supplie
 supplied_twice f g (Assign m n) = let a = supplied_twice f g m in let b = supplied_twice f g n in λ i. Assign (a i) (b i)
 supplied_twice f g (Deref m) = ap Deref (supplied_twice f g m)
 supplied_twice f g (New w m) = ap (New w) (supplied_twice f g m)
+supplied_twice f g (NewArray n w m) = ap (NewArray n w) (supplied_twice f g m)
 supplied_twice f g (Not m) = ap Not (supplied_twice f g m)
 supplied_twice f g (Bin op m n) = let a = supplied_twice f g m in let b = supplied_twice f g n in λ i. Bin op (a i) (b i)
 supplied_twice f g (Loc l) = refl
+supplied_twice f g (Arr l) = refl
 supplied_twice f g (Scope l m) = ap (Scope l) (supplied_twice f g m)
 supplied_twice f g (Wait x s) = refl
 supplied_twice f g (Held k op n) = ap (Held k op) (supplied_twice f g n)

@@ -6,7 +6,7 @@ use Rattle.std.proofs.lemmas.List.Elements.{Contains-append_right}
 use Rattle.gos_types.specs.Types.{Type'}
 use Rattle.gos_types.specs.Widths.{HasWidths}
 use Rattle.gos_types.proofs.BytesLemmas.{bytes_eq_same}
-use Rattle.gos_model.specs.Terms.{Name, Term, Skip, Lit, Bound, Import, Lam, App, Both, Fst, Snd, Seq, Par, If, While, Assign, Deref, New, Not, Bin, Loc, Scope, Wait, Held, Put}
+use Rattle.gos_model.specs.Terms.{Name, Term, Skip, Lit, Bound, Import, Lam, App, Both, Fst, Snd, Seq, Par, If, While, Assign, Deref, New, NewArray, Not, Bin, Loc, Arr, Scope, Wait, Held, Put}
 use Rattle.gos_model.specs.Typing.{Imported, import_type, Named, things, Apart, Typed}
 use Rattle.gos_model.specs.Linking.{or_import, supplied}
 use Rattle.gos_realises.specs.realises.Realises.{NamesDiffer}
@@ -42,9 +42,11 @@ with_names f (While m n) = let a = with_names f m in let b = with_names f n in �
 with_names f (Assign m n) = let a = with_names f m in let b = with_names f n in λ i. Assign (a i) (b i)
 with_names f (Deref m) = ap Deref (with_names f m)
 with_names f (New w m) = ap (New w) (with_names f m)
+with_names f (NewArray n w m) = ap (NewArray n w) (with_names f m)
 with_names f (Not m) = ap Not (with_names f m)
 with_names f (Bin op m n) = let a = with_names f m in let b = with_names f n in λ i. Bin op (a i) (b i)
 with_names f (Loc l) = refl
+with_names f (Arr l) = refl
 with_names f (Scope l m) = ap (Scope l) (with_names f m)
 with_names f (Wait x s) = refl
 with_names f (Held k op n) = ap (Held k op) (with_names f n)

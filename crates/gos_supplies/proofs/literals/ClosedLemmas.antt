@@ -2,7 +2,7 @@
 use Rattle.std.specs.Prelude.{◌≡◌, List, [], ◌∷◌, Option, None, Contains, slice_get}
 use Rattle.std.proofs.Common.{refl, sym, ◌∙◌, ap, subst}
 use Rattle.gos_types.specs.Types.{Type'}
-use Rattle.gos_model.specs.Terms.{Name, Term, Skip, Lit, Bound, Import, Lam, App, Both, Fst, Snd, Seq, Par, If, While, Assign, Deref, New, Not, Bin, Loc, Scope, Wait, Held, Put}
+use Rattle.gos_model.specs.Terms.{Name, Term, Skip, Lit, Bound, Import, Lam, App, Both, Fst, Snd, Seq, Par, If, While, Assign, Deref, New, NewArray, Not, Bin, Loc, Arr, Scope, Wait, Held, Put}
 use Rattle.gos_model.specs.Typing.{Imported}
 use Rattle.gos_model.specs.Linking.{or_import, supplied}
 use Rattle.gos_plan.specs.Kinds.{Part, contacts_of}
@@ -38,9 +38,11 @@ module _ (f : Name → Option Term) (none : (x : Name) → f x ≡ None) where
   nothing_put (Assign m n) = let one = nothing_put m in let two = nothing_put n in λ i. Assign (one i) (two i)
   nothing_put (Deref m) = ap Deref (nothing_put m)
   nothing_put (New w m) = ap (New w) (nothing_put m)
+  nothing_put (NewArray n w m) = ap (NewArray n w) (nothing_put m)
   nothing_put (Not m) = ap Not (nothing_put m)
   nothing_put (Bin op m n) = let one = nothing_put m in let two = nothing_put n in λ i. Bin op (one i) (two i)
   nothing_put (Loc l) = refl
+  nothing_put (Arr l) = refl
   nothing_put (Scope l m) = ap (Scope l) (nothing_put m)
   nothing_put (Wait x s) = refl
   nothing_put (Held k op n) = ap (Held k op) (nothing_put n)

@@ -740,7 +740,8 @@ module _ (n : Name) (i w k : ℕ) where
       let head : Wait n 1 ≡ Wait x 0 = cc is in absurd (not_asked x head)
   waits_shows o (Running t s) out (inl (inr (x, port, (a, b, m, j, array, is, inl (event, value, to)))), kept) = is_input o x 1 port event refl out
   waits_shows o (Running t s) out (inl (inr (x, port, (a, b, m, j, array, is, inr (event, fits, to)))), kept) = is_input o x 3 port event refl out
-  waits_shows o (Running t s) out (inr (m, to, ((x, head), j, within, below)), kept) = absurd (not_asked x head)
+  waits_shows o (Running t s) out (inr (m, to, inl ((x, head), j, within, below)), kept) = absurd (not_asked x head)
+  waits_shows o (Running t s) out (inr (m, to, inr ((l, place), y, then, below)), kept) = absurd (cc place)
 
   from_waiting : (a : Act) (m : ℕ) (t : Term) (e : Config) → Unfoldings m (waiting n i k 1) t → ActsTo plan.imports a [] t e
       → ActsTo plan.imports a [] (waiting n i k 1) e

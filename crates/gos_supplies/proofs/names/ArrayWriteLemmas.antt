@@ -890,7 +890,8 @@ module _ (n : Name) (i w k m : ℕ) where
       let head : Wait n 1 ≡ Wait x 0 = cc is in absurd (not_asked x head)
   waits_shows o (Running t s) out (inl (inr (x, port, (a, b, j, l, array, is, inl (event, value, to)))), kept) = is_input o x 1 port event refl out
   waits_shows o (Running t s) out (inl (inr (x, port, (a, b, j, l, array, is, inr (event, none, to)))), kept) = is_input o x 5 port event refl out
-  waits_shows o (Running t s) out (inr (j, to, ((x, head), l, within, below)), kept) = absurd (not_asked x head)
+  waits_shows o (Running t s) out (inr (j, to, inl ((x, head), l, within, below)), kept) = absurd (not_asked x head)
+  waits_shows o (Running t s) out (inr (j, to, inr ((l, place), y, then, below)), kept) = absurd (cc place)
 
   from_waiting : (a : Act) (j : ℕ) (t : Term) (e : Config) → Unfoldings j (waiting n i k m 1) t → ActsTo plan.imports a [] t e
       → ActsTo plan.imports a [] (waiting n i k m 1) e

@@ -87,7 +87,8 @@ asks (Running t s) (inl (inl (inr (x, port, (i, w, n, array, inl (is, event, val
     let same : t ≡ waiting 1 = cc in λ j. Running (same j) (kept j)
 asks (Running t s) (inl (inl (inr (x, port, (i, w, n, array, inr (j, is, number, event, to))))), kept) = absurd (omega (arith, event))
 asks (Running t s) (inl (inr (x, port, (i, w, n, j, array, is, rest))), kept) = absurd (cc is)
-asks (Running t s) (inr (m, to, below), kept) = absurd below
+asks (Running t s) (inr (m, to, inl below), kept) = absurd below
+asks (Running t s) (inr (m, to, inr ((l, place), y, then, below)), kept) = absurd (cc place)
 
 takes : (e : Config) → ActsTo program.imports (Showing (taken a 1 0)) [] (waiting 1) e → e ≡ Running (waiting 0) []
 takes Idle (inl (is, label)) = absurd (cc is)
@@ -98,7 +99,8 @@ takes (Running t s) (inl (inl (inr (x, port, (i, w, n, array, inr (j, is, number
 takes (Running t s) (inl (inr (x, port, (i, w, n, j, array, is, inl (event, value, to)))), kept) =
     let same : t ≡ waiting 0 = cc in λ l. Running (same l) (kept l)
 takes (Running t s) (inl (inr (x, port, (i, w, n, j, array, is, inr (event, fits, to)))), kept) = absurd (omega (arith, event))
-takes (Running t s) (inr (m, to, ((x, head), n, within, below)), kept) = let no : ◌≡◌ {A = ℕ} 1 0 = cc head in absurd (omega (arith, no))
+takes (Running t s) (inr (m, to, inl ((x, head), n, within, below)), kept) = let no : ◌≡◌ {A = ℕ} 1 0 = cc head in absurd (omega (arith, no))
+takes (Running t s) (inr (m, to, inr ((l, place), y, then, below)), kept) = absurd (cc place)
 
 goes_on : Stalled program (Running (waiting 0) []) → ⊥
 goes_on stalled =

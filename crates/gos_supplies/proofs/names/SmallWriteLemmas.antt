@@ -121,7 +121,8 @@ asks (Running t s) (inl (inl (inr (x, port, (i, w, n, array, inl (same, event, v
     let at_last : t ≡ waiting 1 = cc in λ j. Running (at_last j) (kept j)
 asks (Running t s) (inl (inl (inr (x, port, (i, w, n, array, inr (j, same, number, event, to))))), kept) = absurd (omega (arith, event))
 asks (Running t s) (inl (inr (x, port, (i, w, n, j, array, same, rest))), kept) = absurd (cc same)
-asks (Running t s) (inr (m, to, below), kept) = absurd below
+asks (Running t s) (inr (m, to, inl below), kept) = absurd below
+asks (Running t s) (inr (m, to, inr ((l, place), y, then, below)), kept) = absurd (cc place)
 
 begun_asks : (m : Term) → IsBegun m → (e : Config) → ActsTo is (Showing (taken a 4 5)) [] m e → e ≡ Running (waiting 1) []
 begun_asks m (inl is_m) e h = absurd (applied_asks e (subst (λ (x : Term). ActsTo is (Showing (taken a 4 5)) [] x e) is_m h))
@@ -137,7 +138,8 @@ takes (Running t s) (inl (inl (inr (x, port, (i, w, n, array, inr (j, same, numb
 takes (Running t s) (inl (inr (x, port, (i, w, n, j, array, same, inl (event, value, to)))), kept) =
     let at_last : t ≡ waiting 0 = cc in λ l. Running (at_last l) (kept l)
 takes (Running t s) (inl (inr (x, port, (i, w, n, j, array, same, inr (event, none, to)))), kept) = absurd (omega (arith, event))
-takes (Running t s) (inr (m, to, ((x, head), n, within, below)), kept) = let no : ◌≡◌ {A = ℕ} 1 0 = cc head in absurd (omega (arith, no))
+takes (Running t s) (inr (m, to, inl ((x, head), n, within, below)), kept) = let no : ◌≡◌ {A = ℕ} 1 0 = cc head in absurd (omega (arith, no))
+takes (Running t s) (inr (m, to, inr ((l, place), y, then, below)), kept) = absurd (cc place)
 
 module _ (body : Term) where
   abbrev program : Program

@@ -7,7 +7,7 @@ use Rattle.std.proofs.lemmas.List.{append-nil}
 use Rattle.gos_types.specs.Types.{Type', Com, Exp, Var, Pair, Fun}
 use Rattle.gos_types.specs.Widths.{HasWidths}
 use Rattle.gos_types.proofs.BytesLemmas.{bytes_eq_same}
-use Rattle.gos_model.specs.Terms.{Name, Term, Skip, Lit, Bound, Import, Lam, App, Both, Fst, Snd, Seq, Par, If, While, Assign, Deref, New, Not, Bin, Loc, Scope, Wait, Held, Put}
+use Rattle.gos_model.specs.Terms.{Name, Term, Skip, Lit, Bound, Import, Lam, App, Both, Fst, Snd, Seq, Par, If, While, Assign, Deref, New, NewArray, Not, Bin, Loc, Arr, Scope, Wait, Held, Put}
 use Rattle.gos_model.specs.Typing.{Imported}
 use Rattle.gos_model.specs.Linking.{or_import, supplied}
 use Rattle.gos_plan.specs.Kinds.{Part, Contact, contacts_of}
@@ -73,9 +73,11 @@ module _ (f : Name → Option Term) (own : (x : Name) → or_import x (f x) ≡ 
   supplied_stays (Assign m n) = let one = supplied_stays m in let two = supplied_stays n in λ j. Assign (one j) (two j)
   supplied_stays (Deref m) = ap (λ (n : Term). Deref n) (supplied_stays m)
   supplied_stays (New w m) = ap (λ (n : Term). New w n) (supplied_stays m)
+  supplied_stays (NewArray k w m) = ap (λ (n : Term). NewArray k w n) (supplied_stays m)
   supplied_stays (Not m) = ap (λ (n : Term). Not n) (supplied_stays m)
   supplied_stays (Bin op m n) = let one = supplied_stays m in let two = supplied_stays n in λ j. Bin op (one j) (two j)
   supplied_stays (Loc l) = refl
+  supplied_stays (Arr l) = refl
   supplied_stays (Scope l m) = ap (λ (n : Term). Scope l n) (supplied_stays m)
   supplied_stays (Wait x s) = refl
   supplied_stays (Held k op m) = ap (λ (n : Term). Held k op n) (supplied_stays m)

@@ -7,9 +7,9 @@ use Rattle.std.proofs.lemmas.Bool.Decides.{nat_tests}
 use Rattle.std.proofs.lemmas.Bool.{lt-ltb, eq-eqb, ne_eqb}
 use Rattle.std.proofs.lemmas.Option.{slice_get_within}
 use Rattle.gos_types.specs.Types.{Type', Com, Exp, Var, Pair, Fun}
-use Rattle.gos_model.specs.Terms.{Term, Skip, Lit, Bound, Import, Lam, App, Both, Fst, Snd, Seq, Par, If, While, Assign, Deref, New, Not, Bin, Loc, Scope, Wait, Held, Put}
+use Rattle.gos_model.specs.Terms.{Term, Skip, Lit, Bound, Import, Lam, App, Both, Fst, Snd, Seq, Par, If, While, Assign, Deref, New, NewArray, Not, Bin, Loc, Arr, Scope, Wait, Held, Put}
 use Rattle.gos_model.specs.Substitution.{put_at}
-use Rattle.gos_model.specs.Typing.{Imports}
+use Rattle.gos_model.specs.Typing.{Imports, array_type}
 use Rattle.gos_programs.specs.results.HasTypes.{Widths, HasType}
 
 -- the term for a variable, or any closed one
@@ -36,9 +36,11 @@ close d qs (While m n) = While (close d qs m) (close d qs n)
 close d qs (Assign m n) = Assign (close d qs m) (close d qs n)
 close d qs (Deref m) = Deref (close d qs m)
 close d qs (New w m) = New w (close (suc d) qs m)
+close d qs (NewArray n w m) = NewArray n w (close (suc d) qs m)
 close d qs (Not m) = Not (close d qs m)
 close d qs (Bin op m n) = Bin op (close d qs m) (close d qs n)
 close d qs (Loc l) = Loc l
+close d qs (Arr l) = Arr l
 close d qs (Scope l m) = Scope l (close d qs m)
 close d qs (Wait x s) = Wait x s
 close d qs (Held k op m) = Held k op (close d qs m)
@@ -89,9 +91,11 @@ stays (While m n) qs h d e q le = λ i. While (stays m qs h d e q le i) (stays n
 stays (Assign m n) qs h d e q le = λ i. Assign (stays m qs h d e q le i) (stays n qs h d e q le i)
 stays (Deref m) qs h d e q le = λ i. Deref (stays m qs h d e q le i)
 stays (New w m) qs h d e q le = λ i. New w (stays m qs h (suc d) (suc e) q (omega (arith, le)) i)
+stays (NewArray n w m) qs h d e q le = λ i. NewArray n w (stays m qs h (suc d) (suc e) q (omega (arith, le)) i)
 stays (Not m) qs h d e q le = λ i. Not (stays m qs h d e q le i)
 stays (Bin op m n) qs h d e q le = λ i. Bin op (stays m qs h d e q le i) (stays n qs h d e q le i)
 stays (Loc l) qs h d e q le = refl
+stays (Arr l) qs h d e q le = refl
 stays (Scope l m) qs h d e q le = λ i. Scope l (stays m qs h d e q le i)
 stays (Wait x s) qs h d e q le = refl
 stays (Held k op m) qs h d e q le = λ i. Held k op (stays m qs h d e q le i)
@@ -130,9 +134,11 @@ put_closes (While m n) qs h d q = λ i. While (put_closes m qs h d q i) (put_clo
 put_closes (Assign m n) qs h d q = λ i. Assign (put_closes m qs h d q i) (put_closes n qs h d q i)
 put_closes (Deref m) qs h d q = λ i. Deref (put_closes m qs h d q i)
 put_closes (New w m) qs h d q = λ i. New w (put_closes m qs h (suc d) q i)
+put_closes (NewArray n w m) qs h d q = λ i. NewArray n w (put_closes m qs h (suc d) q i)
 put_closes (Not m) qs h d q = λ i. Not (put_closes m qs h d q i)
 put_closes (Bin op m n) qs h d q = λ i. Bin op (put_closes m qs h d q i) (put_closes n qs h d q i)
 put_closes (Loc l) qs h d q = refl
+put_closes (Arr l) qs h d q = refl
 put_closes (Scope l m) qs h d q = λ i. Scope l (put_closes m qs h d q i)
 put_closes (Wait x s) qs h d q = refl
 put_closes (Held k op m) qs h d q = λ i. Held k op (put_closes m qs h d q i)
@@ -156,9 +162,11 @@ closed_by_none ws i g (While m n) t (e, h, k) = λ j. While (closed_by_none ws i
 closed_by_none ws i g (Assign m n) t (w, e, h, k) = λ j. Assign (closed_by_none ws i g m (Var w) h j) (closed_by_none ws i g n (Exp w) k j)
 closed_by_none ws i g (Deref m) t (w, e, h) = λ j. Deref (closed_by_none ws i g m (Var w) h j)
 closed_by_none ws i g (New w m) t (d, h) = λ j. New w (closed_by_none ws i (Var w ∷ g) m t h j)
+closed_by_none ws i g (NewArray n w m) t (d, long, h) = λ j. NewArray n w (closed_by_none ws i (array_type n w ∷ g) m t h j)
 closed_by_none ws i g (Not m) t (w, e, h) = λ j. Not (closed_by_none ws i g m (Exp w) h j)
 closed_by_none ws i g (Bin op m n) t (w, e, h, k) = λ j. Bin op (closed_by_none ws i g m (Exp w) h j) (closed_by_none ws i g n (Exp w) k j)
 closed_by_none ws i g (Loc l) t h = refl
+closed_by_none ws i g (Arr l) t h = refl
 closed_by_none ws i g (Scope l m) t (d, h) = λ j. Scope l (closed_by_none ws i g m t h j)
 closed_by_none ws i g (Wait x s) t h = refl
 closed_by_none ws i g (Held k op m) t (w, e, fits, h) = λ j. Held k op (closed_by_none ws i g m (Exp w) h j)

@@ -2,20 +2,21 @@
 --
 -- At a ground type a term is good where unfoldings of its head end; at a product where its sides are good; at a function
 -- type where it makes a good term of each good argument.
-use Rattle.std.specs.Prelude.{◌≡◌, ◌⊎◌, ℕ, zero, suc, ◌-◌, ◌^◌, ◌<◌, IsTrue, List, [], ◌∷◌, get_or, Some, slice_get}
+use Rattle.std.specs.Prelude.{◌≡◌, ◌⊎◌, ℕ, zero, suc, ◌-◌, ◌^◌, ◌<◌, IsTrue, List, [], ◌∷◌, get_or, length, Some, slice_get}
 use Rattle.std.proofs.Common.{arith, refl, sym, ap, subst, inl, inr, ◌∙◌}
 use Rattle.std.proofs.lemmas.Bool.{le-ltb}
 use Rattle.std.proofs.lemmas.Option.{same_Some, slice_get-get_or}
 use Rattle.gos_types.specs.Types.{Type', Com, Exp, Var, Pair, Fun, IsGround, IsPort, IsDone}
-use Rattle.gos_model.specs.Terms.{Name, Term, Skip, Lit, Bound, Import, Lam, App, Both, Fst, Snd, Seq, Par, If, While, Assign, Deref, New, Not, Bin, Loc, Scope, Wait, Held, Put, result_of, complement, result_width}
+use Rattle.gos_model.specs.Terms.{Name, Term, Skip, Lit, Bound, Import, Lam, App, Both, Fst, Snd, Seq, Par, If, While, Assign, Deref, New, NewArray, Not, Bin, Loc, Arr, Scope, Wait, Held, Put, result_of, complement, result_width}
 use Rattle.gos_model.specs.Substitution.{put_at, instantiate}
-use Rattle.gos_model.specs.Typing.{Imports, import_type}
-use Rattle.gos_model.specs.Stores.{Entry, variable_at, Store, entry_at, store_put, without}
+use Rattle.gos_model.specs.Typing.{Imports, import_type, IsLength, index_width, array_type}
+use Rattle.gos_model.specs.Stores.{Entry, variable_at, array_at, Store, entry_at, store_put, without}
+use Rattle.gos_model.proofs.ArrayLemmas.{length_is_power}
 use Rattle.gos_model.specs.Reach.{Rewrites, Under}
 use Rattle.gos_model.specs.Accesses.{IsArrayImport}
 use Rattle.gos_model.specs.Labels.{is_output, taken}
 use Rattle.gos_model.specs.Moves.{Act, Computing, Showing, Acts, Unfoldings}
-use Rattle.gos_programs.specs.contexts.Contexts.{Context, SeqFirst, ParLeft, ParRight, IfTest, BinLeft, HeldRight, NotOf, AssignRight, ScopeBody, plug}
+use Rattle.gos_programs.specs.contexts.Contexts.{Context, SeqFirst, ParLeft, ParRight, IfTest, BinLeft, HeldRight, NotOf, AssignRight, ScopeBody, ReadAt, WriteAt, plug}
 use Rattle.gos_programs.proofs.contexts.PluggedLemmas.{unfoldings_plugged, acts_plugged}
 use Rattle.gos_programs.proofs.contexts.RenamedStoreLemmas.{entry_place, above, above_absent}
 use Rattle.gos_programs.specs.results.HasTypes.{widths_of, HasType}
@@ -53,12 +54,13 @@ abbrev pub UnfoldsHeads : ℕ → Term → Term → Type 0
 UnfoldsHeads zero m t = m ≡ t
 UnfoldsHeads (suc n) m t = (u : Term) × UnfoldsHead m u × UnfoldsHeads n u t
 
--- an import of a variable, a location with a number, or an array's import with an index
+-- an import of a variable, a location with a number, an array's import with an index, or an array with a good index
 abbrev pub IsPlace : Imports → Store → ℕ → Term → Type 0
 IsPlace i s w v =
     ((x : Name) × (v ≡ Import x) × (import_type i x ≡ Some (Var w)))
     ⊎ (((e : Entry) × (j : ℕ) × (v ≡ Loc e.place) × (entry_at s e.place ≡ Some e) × (slice_get e.numbers 0 ≡ Some j))
-    ⊎ ((x : Name) × (j : ℕ) × (n : Term) × (v ≡ App (Import x) n) × IsArrayImport i x j w))
+    ⊎ (((x : Name) × (j : ℕ) × (n : Term) × (v ≡ App (Import x) n) × IsArrayImport i x j w)
+    ⊎ ((e : Entry) × (j : ℕ) × (n : Term) × (v ≡ App (Arr e.place) n) × (entry_at s e.place ≡ Some e) × (length e.numbers ≡ 2 ^ j) × EndsOrBegins (IsNumber j) i s n)))
 
 abbrev pub IsGood : Imports → Store → Type' → Term → Type 0
 IsGood i s Com m = EndsOrBegins IsSkip i s m
@@ -115,33 +117,60 @@ writes : (k n : ℕ) (m t : Term) → UnfoldsHeads n m t → Unfoldings n (Put m
 writes k zero m t e = λ i. Put (e i) k
 writes k (suc n) m t (u, h, hs) = (Put u k, inl (inr (u, refl, h)), writes k n u t hs)
 
-asks_place : (i : Imports) (s : Store) (w : ℕ) (v : Term) → IsPlace i s w v → CanMove i s (Deref v)
-asks_place i s w v (inl (x, is, e)) = (Showing (taken x 0 0), s, Wait x 1, refl, (inl (inl (inl (x, w, is, e, refl, refl))), refl))
-asks_place i s w v (inr (inr (x, j, n, is, array))) = (
-  Showing (taken x 2 0),
-  s,
-  Deref (App (Wait x 1) (Both n n)),
-  refl,
-  (inl (inl (inr (x, refl, (j, w, n, array, inl (is, refl, refl, refl))))), refl),
-)
-asks_place i s w v (inr (inl (e, j, is, here, has))) = computes i s (Deref v) s (Lit j e.width) (inl (e, j, is, here, has, refl, refl))
+at_once : (i : Imports) (s : Store) (m : Term) → CanMove i s m → CanBegin i s m
+at_once i s m h = (0, m, refl, h)
 
-puts_place : (i : Imports) (s : Store) (w k : ℕ) (v : Term) → IsPlace i s w v → CanMove i s (Put v k)
-puts_place i s w k v (inl (x, is, e)) = (Showing (taken x 2 k), s, Wait x 3, refl, (inl (inl (inl (x, w, is, e, refl, refl))), refl))
-puts_place i s w k v (inr (inr (x, j, n, is, array))) = (
-  Showing (taken x 4 k),
-  s,
-  Put (App (Wait x 1) (Both n n)) k,
-  refl,
-  (inl (inl (inr (x, refl, (j, w, n, array, inl (is, refl, refl, refl))))), refl),
-)
-puts_place i s w k v (inr (inl (e, j, is, here, has))) = computes i s (Put v k) (store_put s e.place 0 k) Skip (inl (e, j, is, here, has, refl, refl))
+-- the number at an index that there is
+there : (ks : List ℕ) (j k : ℕ) → length ks ≡ 2 ^ j → k < 2 ^ j → slice_get ks k ≡ Some (get_or ks k 0)
+there ks j k long fits = slice_get-get_or ks k 0 (subst (λ (n : ℕ). k < n) (sym long) fits)
+
+asks_place : (i : Imports) (s : Store) (w : ℕ) (v : Term) → IsPlace i s w v → CanBegin i s (Deref v)
+asks_place i s w v (inl (x, is, e)) =
+    at_once i s (Deref v) (Showing (taken x 0 0), s, Wait x 1, refl, (inl (inl (inl (x, w, is, e, refl, refl))), refl))
+asks_place i s w v (inr (inr (inl (x, j, n, is, array)))) =
+    at_once i s (Deref v) (
+      Showing (taken x 2 0),
+      s,
+      Deref (App (Wait x 1) (Both n n)),
+      refl,
+      (inl (inl (inr (x, refl, (j, w, n, array, inl (is, refl, refl, refl))))), refl),
+    )
+asks_place i s w v (inr (inl (e, j, is, here, has))) =
+    at_once i s (Deref v) (computes i s (Deref v) s (Lit j e.width) (inl (e, 0, j, inl (is, refl), here, has, refl, refl)))
+asks_place i s w v (inr (inr (inr (e, j, n, is, here, long, index)))) =
+    subst (λ (m : Term). CanBegin i s (Deref m)) (sym is)
+    (within (IsNumber j) i s (ReadAt e.place) n index
+    (λ u number.
+    let (k, lit, fits) = number in
+    computes i s (Deref (App (Arr e.place) u)) s (Lit (get_or e.numbers k 0) e.width)
+    (inl (e, k, get_or e.numbers k 0, inr (j, ap (App (Arr e.place)) lit), here, there e.numbers j k long fits, refl, refl))))
+
+puts_place : (i : Imports) (s : Store) (w k : ℕ) (v : Term) → IsPlace i s w v → CanBegin i s (Put v k)
+puts_place i s w k v (inl (x, is, e)) =
+    at_once i s (Put v k) (Showing (taken x 2 k), s, Wait x 3, refl, (inl (inl (inl (x, w, is, e, refl, refl))), refl))
+puts_place i s w k v (inr (inr (inl (x, j, n, is, array)))) =
+    at_once i s (Put v k) (
+      Showing (taken x 4 k),
+      s,
+      Put (App (Wait x 1) (Both n n)) k,
+      refl,
+      (inl (inl (inr (x, refl, (j, w, n, array, inl (is, refl, refl, refl))))), refl),
+    )
+puts_place i s w k v (inr (inl (e, j, is, here, has))) =
+    at_once i s (Put v k) (computes i s (Put v k) (store_put s e.place 0 k) Skip (inl (e, 0, j, inl (is, refl), here, has, refl, refl)))
+puts_place i s w k v (inr (inr (inr (e, j, n, is, here, long, index)))) =
+    subst (λ (m : Term). CanBegin i s (Put m k)) (sym is)
+    (within (IsNumber j) i s (WriteAt e.place k) n index
+    (λ u number.
+    let (d, lit, fits) = number in
+    computes i s (Put (App (Arr e.place) u) k) (store_put s e.place d k) Skip
+    (inl (e, d, get_or e.numbers d 0, inr (j, ap (App (Arr e.place)) lit), here, there e.numbers j d long fits, refl, refl))))
 
 asks : (i : Imports) (s : Store) (w : ℕ) (m : Term) → IsGood i s (Var w) m → CanBegin i s (Deref m)
-asks i s w m (n, v, hs, h) = (n, Deref v, derefs n m v hs, asks_place i s w v h)
+asks i s w m (n, v, hs, h) = after i s n (Deref m) (Deref v) (derefs n m v hs) (asks_place i s w v h)
 
 puts : (i : Imports) (s : Store) (w k : ℕ) (m : Term) → IsGood i s (Var w) m → CanBegin i s (Put m k)
-puts i s w k m (n, v, hs, h) = (n, Put v k, writes k n m v hs, puts_place i s w k v h)
+puts i s w k m (n, v, hs, h) = after i s n (Put m k) (Put v k) (writes k n m v hs) (puts_place i s w k v h)
 
 -- an import that is a port
 abbrev pub ImportsArePorts : Imports → Type 0
@@ -156,7 +185,7 @@ ground_import_good i s x (Fun a b) g e = absurd g
 
 good_import : (i : Imports) (s : Store) (x : Name) (t : Type') → IsPort t → import_type i x ≡ Some t → IsGood i s t (Import x)
 good_import i s x t (inl ground) e = ground_import_good i s x t ground e
-good_import i s x (Fun (Exp j) (Var w)) (inr array) e = λ n closed index. (0, App (Import x) n, refl, inr (inr (x, j, n, refl, e)))
+good_import i s x (Fun (Exp j) (Var w)) (inr array) e = λ n closed index. (0, App (Import x) n, refl, inr (inr (inl (x, j, n, refl, e))))
 good_import i s x Com (inr array) e = absurd array
 good_import i s x (Exp w) (inr array) e = absurd array
 good_import i s x (Var w) (inr array) e = absurd array
@@ -272,6 +301,15 @@ module _ (i : Imports) (s : Store) (ports : ImportsArePorts i) where
         computes i s whole (variable_at (above s) w 0 ∷ s) (Scope (above s) (instantiate (close 1 qs m) (Loc (above s))))
             (inl (above s, above_absent s (above s) (omega arith), refl, refl)),
       )
+  good g (NewArray n w m) t qs f nw (d, long, h) =
+      let whole = close 0 qs (NewArray n w m) in
+      begins i s t whole d (
+        0,
+        whole,
+        refl,
+        computes i s whole (array_at (above s) w n ∷ s) (Scope (above s) (instantiate (close 1 qs m) (Arr (above s))))
+            (inl (above s, above_absent s (above s) (omega arith), refl, refl)),
+      )
   good g (Not m) t qs f nw (w, e, h) =
       as_type i s (close 0 qs (Not m)) t (Exp w) e
       (begins i s (Exp w) (close 0 qs (Not m)) tt
@@ -288,6 +326,16 @@ module _ (i : Imports) (s : Store) (ports : ImportsArePorts i) where
       let number = slice_get-get_or e.numbers 0 0 (omega (arith, one)) in
       as_type i s (Loc l) t (Var w) is
       (0, Loc l, refl, inr (inl (e, get_or e.numbers 0 0, ap Loc (sym at), subst (λ (x : ℕ). entry_at s x ≡ Some e) (sym at) here, number)))
+  good g (Arr l) t qs f nw (n, w, is, long, (e, here, wide, many)) =
+      let at = entry_place s l e here in
+      let numbers : length e.numbers ≡ 2 ^ index_width n = many ∙ (length_is_power n long).0 in
+      as_type i s (Arr l) t (array_type n w) is
+      (λ u closed index. (
+        0,
+        App (Arr l) u,
+        refl,
+        inr (inr (inr (e, index_width n, u, ap (λ (x : ℕ). App (Arr x) u) (sym at), subst (λ (x : ℕ). entry_at s x ≡ Some e) (sym at) here, numbers, index))),
+      ))
   good g (Scope l m) t qs f nw (d, h) = block i s l t (close 0 qs m) d (good g m t qs f nw h)
   good g (Wait x n) t qs f nw h = absurd nw
   good g (Held k op n) t qs f nw (w, e, fits, h) =

@@ -2,15 +2,15 @@
 use Rattle.std.specs.Prelude.{◌≡◌, ℕ, zero, suc, Bool, true, false, List, [], ◌∷◌, nat_eq, if◌then◌else◌}
 use Rattle.std.proofs.Common.{refl, sym, subst, inl, inr}
 use Rattle.gos_types.specs.Types.{Type', Com, Exp, Var, Pair, Fun}
-use Rattle.gos_model.specs.Terms.{Term, Skip, Lit, Bound, Import, Lam, App, Both, Fst, Snd, Seq, Par, If, While, Assign, Deref, New, Not, Bin, Loc, Scope, Wait, Held, Put}
+use Rattle.gos_model.specs.Terms.{Term, Skip, Lit, Bound, Import, Lam, App, Both, Fst, Snd, Seq, Par, If, While, Assign, Deref, New, NewArray, Not, Bin, Loc, Arr, Scope, Wait, Held, Put}
 use Rattle.gos_model.specs.Substitution.{put_at}
-use Rattle.gos_model.specs.Typing.{Imports, Typed}
+use Rattle.gos_model.specs.Typing.{Imports, Typed, array_type}
 use Rattle.gos_model.specs.Stores.{Store}
 use Rattle.gos_model.specs.Reach.{Rel, Rewrites, Under, Aside}
 use Rattle.gos_model.specs.Steps.{Computes}
 use Rattle.gos_model.specs.Labels.{Label, given}
 use Rattle.gos_model.specs.Moves.{Program, Config, Idle, Running, Act, Computing, Showing, Unfoldings, Move, Moves, labels}
-use Rattle.gos_programs.specs.contexts.Contexts.{Context, SeqFirst, ParLeft, ParRight, IfTest, BinLeft, HeldRight, NotOf, AssignRight, ScopeBody, ReadIndex, WriteIndex, plug}
+use Rattle.gos_programs.specs.contexts.Contexts.{Context, SeqFirst, ParLeft, ParRight, IfTest, BinLeft, HeldRight, NotOf, AssignRight, ScopeBody, ReadIndex, WriteIndex, ReadAt, WriteAt, plug}
 use Rattle.gos_programs.proofs.contexts.BackwardLemmas.{OneHead}
 use Rattle.gos_programs.proofs.contexts.ReachedLemmas.{reached_lifted}
 use Rattle.gos_supplies.specs.progress.Progress.{HasNoWait}
@@ -33,9 +33,11 @@ source_waits i g (While m n) t (e, h, k) = (source_waits i g m (Exp 1) h, source
 source_waits i g (Assign m n) t (w, e, h, k) = (source_waits i g m (Var w) h, source_waits i g n (Exp w) k)
 source_waits i g (Deref m) t (w, e, h) = source_waits i g m (Var w) h
 source_waits i g (New w m) t (d, wide, h) = source_waits i (Var w ∷ g) m t h
+source_waits i g (NewArray n w m) t (d, long, wide, h) = source_waits i (array_type n w ∷ g) m t h
 source_waits i g (Not m) t (w, e, h) = source_waits i g m (Exp w) h
 source_waits i g (Bin op m n) t (w, e, h, k) = (source_waits i g m (Exp w) h, source_waits i g n (Exp w) k)
 source_waits i g (Loc l) t h = absurd h
+source_waits i g (Arr l) t h = absurd h
 source_waits i g (Scope l m) t h = absurd h
 source_waits i g (Wait x n) t h = absurd h
 source_waits i g (Held k op n) t h = absurd h
@@ -63,9 +65,11 @@ no_wait_put (While m n) d q c h = (no_wait_put m d q c h.0, no_wait_put n d q c 
 no_wait_put (Assign m n) d q c h = (no_wait_put m d q c h.0, no_wait_put n d q c h.1)
 no_wait_put (Deref m) d q c h = no_wait_put m d q c h
 no_wait_put (New w m) d q c h = no_wait_put m (suc d) q c h
+no_wait_put (NewArray n w m) d q c h = no_wait_put m (suc d) q c h
 no_wait_put (Not m) d q c h = no_wait_put m d q c h
 no_wait_put (Bin op m n) d q c h = (no_wait_put m d q c h.0, no_wait_put n d q c h.1)
 no_wait_put (Loc l) d q c h = tt
+no_wait_put (Arr l) d q c h = tt
 no_wait_put (Scope l m) d q c h = no_wait_put m d q c h
 no_wait_put (Wait x n) d q c h = h
 no_wait_put (Held k op n) d q c h = no_wait_put n d q c h
@@ -117,6 +121,8 @@ in_place (AssignRight n) a b q (h, k) = (h, q k)
 in_place (ScopeBody l) a b q h = q h
 in_place (ReadIndex x n) a b q h = absurd h.0
 in_place (WriteIndex x n k) a b q h = absurd h.0
+in_place (ReadAt l) a b q (h, k) = (h, q k)
+in_place (WriteAt l n) a b q (h, k) = (h, q k)
 
 row : (s r : Store) (a b : Term) → Computes s r a b → BringsNoWait a b
 row s r (Seq m n) b (em, et, es) (h, k) = to_term b n et k
@@ -128,9 +134,10 @@ row s r (Bin op m n) b (j, w, em, et, es) (h, k) = to_term b (Held j op n) et k
 row s r (Held k op n) b (j, w, en, et, es) h = subst HasNoWait (sym et) tt
 row s r (Not m) b (k, w, em, et, es) h = subst HasNoWait (sym et) tt
 row s r (Assign m n) b (j, w, en, et, es) (h, k) = to_term b (Put m j) et h
-row s r (Put m k) b (e, old, em, here, has, et, es) h = to_term b Skip et tt
-row s r (Deref m) b (e, old, em, here, has, et, es) h = subst HasNoWait (sym et) tt
+row s r (Put m k) b (e, i, old, em, here, has, et, es) h = to_term b Skip et tt
+row s r (Deref m) b (e, i, old, em, here, has, et, es) h = subst HasNoWait (sym et) tt
 row s r (New w m) b (l, absent, et, es) h = to_term b (Scope l (put_at 0 (Loc l) m)) et (no_wait_put m 0 (Loc l) tt h)
+row s r (NewArray n w m) b (l, absent, et, es) h = to_term b (Scope l (put_at 0 (Arr l) m)) et (no_wait_put m 0 (Arr l) tt h)
 row s r (Scope l m) b (is, et, es) h = to_term b m et h
 row s r m b h k = absurd h
 

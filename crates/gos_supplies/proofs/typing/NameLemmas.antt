@@ -5,8 +5,8 @@ use Rattle.std.proofs.lemmas.List.{append-nil}
 use Rattle.std.proofs.lemmas.List.Elements.{Contains-append_left, Contains-append_right}
 use Rattle.gos_types.specs.Types.{Type', Com, Exp, Var, Pair, Fun}
 use Rattle.gos_types.proofs.ListLemmas.{found_in_front}
-use Rattle.gos_model.specs.Terms.{Name, Term, Skip, Lit, Bound, Import, Lam, App, Both, Fst, Snd, Seq, Par, If, While, Assign, Deref, New, Not, Bin}
-use Rattle.gos_model.specs.Typing.{Imports, import_type, Thing, Named, things, Typed}
+use Rattle.gos_model.specs.Terms.{Name, Term, Skip, Lit, Bound, Import, Lam, App, Both, Fst, Snd, Seq, Par, If, While, Assign, Deref, New, NewArray, Not, Bin}
+use Rattle.gos_model.specs.Typing.{Imports, import_type, Thing, Named, things, Typed, array_type}
 use Rattle.gos_supplies.specs.typing.Names.{TypedUnderFewer}
 
 module _ (i j : Imports) where
@@ -72,6 +72,7 @@ module _ (i j : Imports) where
   )
   typed_under (Deref m) d g h t s (w, e, of_m) = (w, e, typed_under m d g h (Var w) s of_m)
   typed_under (New w m) d g h t s (e, k, of_m) = (e, k, typed_under m (suc d) (Var w ∷ g) h t s of_m)
+  typed_under (NewArray n w m) d g h t s (e, l, k, of_m) = (e, l, k, typed_under m (suc d) (array_type n w ∷ g) h t s of_m)
   typed_under (Not m) d g h t s (w, e, of_m) = (w, e, typed_under m d g h (Exp w) s of_m)
   typed_under (Bin op m n) d g h t s (w, e, of_m, of_n) = (
     w,

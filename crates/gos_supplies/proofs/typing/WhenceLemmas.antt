@@ -7,8 +7,8 @@ use Rattle.std.proofs.lemmas.List.Elements.{Contains-append_left, Contains-appen
 use Rattle.gos_types.specs.Types.{Type', Com, Exp, Var, Pair, Fun}
 use Rattle.gos_types.proofs.ListLemmas.{none_in_empty}
 use Rattle.gos_types.proofs.BytesLemmas.{bytes_eq_same}
-use Rattle.gos_model.specs.Terms.{Name, Term, Skip, Lit, Bound, Import, Lam, App, Both, Fst, Snd, Seq, Par, If, While, Assign, Deref, New, Not, Bin}
-use Rattle.gos_model.specs.Typing.{Imported, Imports, import_type, Thing, Variable, Named, things, Apart, Typed}
+use Rattle.gos_model.specs.Terms.{Name, Term, Skip, Lit, Bound, Import, Lam, App, Both, Fst, Snd, Seq, Par, If, While, Assign, Deref, New, NewArray, Not, Bin}
+use Rattle.gos_model.specs.Typing.{Imported, Imports, import_type, Thing, Variable, Named, things, Apart, Typed, array_type}
 use Rattle.gos_model.specs.Linking.{or_import, supplied}
 use Rattle.gos_joining.proofs.renumbered.ImportLemmas.{has_type}
 use Rattle.gos_supplies.specs.typing.Supplied.{AreTyped, ShareNothing, SuppliedTermIsTyped}
@@ -66,6 +66,7 @@ module _ (i : Imports) (x : Thing) where
       of_two (things d m) (things d n) x IsName (named m d g (Var w) low h) (named n d g (Exp w) low k) has
   named (Deref m) d g t low (w, e, h) has = named m d g (Var w) low h has
   named (New w m) d g t low (e, k, h) has = named m (suc d) (Var w ∷ g) t (omega (arith, low)) h has
+  named (NewArray n w m) d g t low (e, l, k, h) has = named m (suc d) (array_type n w ∷ g) t (omega (arith, low)) h has
   named (Not m) d g t low (w, e, h) has = named m d g (Exp w) low h has
   named (Bin op m n) d g t low (w, e, h, k) has =
       of_two (things d m) (things d n) x IsName (named m d g (Exp w) low h) (named n d g (Exp w) low k) has
@@ -118,6 +119,8 @@ same_things i (Assign m n) d e g t low also (w, is, h, k) =
 same_things i (Deref m) d e g t low also (w, is, h) = same_things i m d e g (Var w) low also h
 same_things i (New w m) d e g t low also (is, k, h) =
     same_things i m (suc d) (suc e) (Var w ∷ g) t (omega (arith, low)) (omega (arith, also)) h
+same_things i (NewArray n w m) d e g t low also (is, l, k, h) =
+    same_things i m (suc d) (suc e) (array_type n w ∷ g) t (omega (arith, low)) (omega (arith, also)) h
 same_things i (Not m) d e g t low also (w, is, h) = same_things i m d e g (Exp w) low also h
 same_things i (Bin op m n) d e g t low also (w, is, h, k) =
     let one = same_things i m d e g (Exp w) low also h in
@@ -226,6 +229,7 @@ module _ (i j : Imports) (f : Name → Option Term) (all : AreTyped i j f) where
         two (things d m) (things d n) (things d (supplied f m)) (things d (supplied f n)) (whence m d g (Var w) h) (whence n d g (Exp w) k) has
     whence (Deref m) d g t (w, e, h) has = whence m d g (Var w) h has
     whence (New w m) d g t (e, k, h) has = whence m (suc d) (Var w ∷ g) t h has
+    whence (NewArray n w m) d g t (e, l, k, h) has = whence m (suc d) (array_type n w ∷ g) t h has
     whence (Not m) d g t (w, e, h) has = whence m d g (Exp w) h has
     whence (Bin op m n) d g t (w, e, h, k) has =
         two (things d m) (things d n) (things d (supplied f m)) (things d (supplied f n)) (whence m d g (Exp w) h) (whence n d g (Exp w) k) has
@@ -271,6 +275,7 @@ module _ (i j : Imports) (f : Name → Option Term) (all : AreTyped i j f) where
     with_supplies (Assign m n) g t (w, e, h, k) = (w, e, with_supplies m g (Var w) h, with_supplies n g (Exp w) k)
     with_supplies (Deref m) g t (w, e, h) = (w, e, with_supplies m g (Var w) h)
     with_supplies (New w m) g t (e, k, h) = (e, k, with_supplies m (Var w ∷ g) t h)
+    with_supplies (NewArray n w m) g t (e, l, k, h) = (e, l, k, with_supplies m (array_type n w ∷ g) t h)
     with_supplies (Not m) g t (w, e, h) = (w, e, with_supplies m g (Exp w) h)
     with_supplies (Bin op m n) g t (w, e, h, k) = (w, e, with_supplies m g (Exp w) h, with_supplies n g (Exp w) k)
     with_supplies m g t h = absurd h

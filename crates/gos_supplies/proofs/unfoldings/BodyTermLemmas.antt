@@ -5,8 +5,8 @@ use Rattle.std.proofs.Common.{refl, sym, ◌∙◌, ap, arith}
 use Rattle.std.proofs.lemmas.Bool.Decides.{nat_tests}
 use Rattle.std.proofs.lemmas.Option.{slice_get_within}
 use Rattle.gos_types.specs.Types.{Type', Com, Exp, Var, Pair, Fun}
-use Rattle.gos_model.specs.Terms.{Name, Term, Skip, Lit, Bound, Import, Lam, App, Both, Fst, Snd, Seq, Par, If, While, Assign, Deref, New, Not, Bin}
-use Rattle.gos_model.specs.Typing.{Imports, import_type, Typed}
+use Rattle.gos_model.specs.Terms.{Name, Term, Skip, Lit, Bound, Import, Lam, App, Both, Fst, Snd, Seq, Par, If, While, Assign, Deref, New, NewArray, Not, Bin}
+use Rattle.gos_model.specs.Typing.{Imports, import_type, Typed, array_type}
 use Rattle.gos_model.specs.Substitution.{put_at}
 use Rattle.gos_model.specs.Linking.{or_import, supplied}
 use Rattle.gos_realises.specs.realises.Modules.{Supply, AreSupplied, term_for}
@@ -67,6 +67,9 @@ closed_put i g (Deref m) t d q (w, e, h) small =
 closed_put i g (New w m) t d q (e, k, h) small =
     let one = closed_put i (Var w ∷ g) m t (suc d) q h (omega (arith, small)) in
     λ j. New w (one j)
+closed_put i g (NewArray n w m) t d q (e, l, k, h) small =
+    let one = closed_put i (array_type n w ∷ g) m t (suc d) q h (omega (arith, small)) in
+    λ j. NewArray n w (one j)
 closed_put i g (Not m) t d q (w, e, h) small =
     let one = closed_put i g m (Exp w) d q h small in
     λ j. Not (one j)
@@ -151,6 +154,9 @@ module _ (i : Imports) (f g : Name → Option Term) (x : Name) (u : Term) (there
   supplied_put c (New w m) t d (e, k, h) =
       let one = supplied_put (Var w ∷ c) m t (suc d) h in
       λ j. New w (one j)
+  supplied_put c (NewArray n w m) t d (e, l, k, h) =
+      let one = supplied_put (array_type n w ∷ c) m t (suc d) h in
+      λ j. NewArray n w (one j)
   supplied_put c (Not m) t d (w, e, h) =
       let one = supplied_put c m (Exp w) d h in
       λ j. Not (one j)

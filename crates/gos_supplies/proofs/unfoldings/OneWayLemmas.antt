@@ -1,9 +1,9 @@
 -- What reads or writes a head unfolds in one way, as the head does, and does nothing else.
 use Rattle.std.specs.Prelude.{◌≡◌, ℕ}
 use Rattle.std.proofs.Common.{refl, sym, ◌∙◌, ap, subst, arith, inl, inr}
-use Rattle.gos_model.specs.Terms.{Name, Term, Import, Lam, App, Both, Loc, Deref, Wait, Put}
+use Rattle.gos_model.specs.Terms.{Name, Term, Lit, Import, Lam, App, Both, Loc, Arr, Deref, Wait, Put}
 use Rattle.gos_types.specs.Types.{Type'}
-use Rattle.gos_model.specs.Steps.{Computes}
+use Rattle.gos_model.specs.Steps.{Computes, Locates}
 use Rattle.gos_model.specs.Stores.{Store}
 use Rattle.gos_model.specs.Typing.{Imports}
 use Rattle.gos_model.specs.Reach.{Unfolds}
@@ -39,10 +39,19 @@ not_access f t g a rests no_function is h = none (subst (λ y. UnfoldsHead y t) 
     none (inl (b, c, e, to)) = no_function b c e
     none (inr (r, e, h)) = rests r h
 
+-- nor is what stands for a number
+not_array : (l : ℕ) (t : Term) → UnfoldsHead (Arr l) t → ⊥
+not_array l t (inl h) = h
+not_array l t (inr h) = h
+
+not_located : (f t : Term) (l i : ℕ) → Locates f l i → UnfoldsHead f t → ⊥
+not_located f t l i (inl (is, first)) h = not_place f t l is h
+not_located f t l i (inr (w, is)) h = not_access f t (Arr l) (Lit i w) (λ r g. not_array l r g) (λ b c g. cc g) is h
+
 -- what is read or written does nothing before it is a location or a name
 deref_rests : (f n : Term) → UnfoldsHead f n → (i : Imports) (a : Act) (s : Store) (c : Config) → ActsTo i a s (Deref f) c → ⊥
 deref_rests f n h i Computing s Idle act = act
-deref_rests f n h i Computing s (Running t u) (inl (e, old, is, found, has, to, same)) = not_place f n e.place is h
+deref_rests f n h i Computing s (Running t u) (inl (e, j, old, is, found, has, to, same)) = not_located f n e.place j is h
 deref_rests f n h i Computing s (Running t u) (inr (m, e, index)) = lower_no_index (Computes s u) f n m h index
 deref_rests f n h i (Showing o) s Idle act = grind (arith, act)
 deref_rests f n h i (Showing o) s (Running t u) (inl (inl (inl (x, w, is, of_type, shown, to))), e) = not_import f n x is h
@@ -53,7 +62,7 @@ deref_rests f n h i (Showing o) s (Running t u) (inr (m, to, index), e) = lower_
 
 put_rests : (f n : Term) (k : ℕ) → UnfoldsHead f n → (i : Imports) (a : Act) (s : Store) (c : Config) → ActsTo i a s (Put f k) c → ⊥
 put_rests f n k h i Computing s Idle act = act
-put_rests f n k h i Computing s (Running t u) (inl (e, old, is, found, has, to, same)) = not_place f n e.place is h
+put_rests f n k h i Computing s (Running t u) (inl (e, j, old, is, found, has, to, same)) = not_located f n e.place j is h
 put_rests f n k h i Computing s (Running t u) (inr (m, e, index)) = lower_no_index (Computes s u) f n m h index
 put_rests f n k h i (Showing o) s Idle act = grind (arith, act)
 put_rests f n k h i (Showing o) s (Running t u) (inl (inl (inl (x, w, is, of_type, shown, to))), e) = not_import f n x is h

@@ -3,7 +3,7 @@
 -- Read first: Typing, Moves of gos_model.
 use Rattle.std.specs.Prelude.{◌≡◌, List, [], ◌∷◌}
 use Rattle.gos_types.specs.Types.{Type', IsDone}
-use Rattle.gos_model.specs.Terms.{Term, Skip, Lit, Bound, Import, Lam, App, Both, Fst, Snd, Seq, Par, If, While, Assign, Deref, New, Not, Bin, Loc, Scope, Wait, Held, Put}
+use Rattle.gos_model.specs.Terms.{Term, Skip, Lit, Bound, Import, Lam, App, Both, Fst, Snd, Seq, Par, If, While, Assign, Deref, New, NewArray, Not, Bin, Loc, Arr, Scope, Wait, Held, Put}
 use Rattle.gos_model.specs.Typing.{Typed}
 use Rattle.gos_model.specs.Stores.{Store}
 use Rattle.gos_model.specs.Labels.{given}
@@ -28,9 +28,11 @@ HasNoWait (While m n) = HasNoWait m × HasNoWait n
 HasNoWait (Assign m n) = HasNoWait m × HasNoWait n
 HasNoWait (Deref m) = HasNoWait m
 HasNoWait (New w m) = HasNoWait m
+HasNoWait (NewArray n w m) = HasNoWait m
 HasNoWait (Not m) = HasNoWait m
 HasNoWait (Bin op m n) = HasNoWait m × HasNoWait n
 HasNoWait (Loc l) = Unit {0}
+HasNoWait (Arr l) = Unit {0}
 HasNoWait (Scope l m) = HasNoWait m
 HasNoWait (Wait x n) = ⊥
 HasNoWait (Held k op n) = HasNoWait n

@@ -39,7 +39,9 @@ mutual
   head_of R (i ∷ path) m t h = absurd h
 
   index_of : (R : Rel) (path : List ℕ) (m t : Term) → HeadInIndexAt path R m t → InIndex (OneOf R) m t
-  index_of R (suc zero ∷ suc zero ∷ path) (App h (Both n a)) t (head, b, e, k) = (head, b, e, head_of R path a b k)
+  index_of R (suc zero ∷ path) (App h a) t (inr (place, b, e, k)) = inr (place, b, e, head_of R path a b k)
+  index_of R (suc zero ∷ suc zero ∷ path) (App h (Both n a)) t (inl (head, b, e, k)) = inl (head, b, e, head_of R path a b k)
+  index_of R (suc zero ∷ path) (App h a) t (inl k) = absurd k
   index_of R path m t h = absurd h
 
 -- and a head has a path
@@ -77,7 +79,9 @@ mutual
   head_path R m t (inr h) = absurd h
 
   index_head_path : (R : Rel) (m t : Term) → InIndex (OneOf R) m t → (path : List ℕ) × HeadInIndexAt path R m t
-  index_head_path R (App h (Both n a)) t (head, b, e, k) = let p = head_path R a b k in (1 ∷ 1 ∷ p.0, (head, b, e, p.1))
+  index_head_path R (App h a) t (inr (place, b, e, k)) = let p = head_path R a b k in (1 ∷ p.0, inr (place, b, e, p.1))
+  index_head_path R (App h (Both n a)) t (inl (head, b, e, k)) = let p = head_path R a b k in (1 ∷ 1 ∷ p.0, inl (head, b, e, p.1))
+  index_head_path R (App h a) t (inl k) = absurd k
   index_head_path R m t h = absurd h
 
 pub unfoldings_have_head_paths : UnfoldingsHaveHeadPaths

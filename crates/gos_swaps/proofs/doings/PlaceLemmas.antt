@@ -1,16 +1,17 @@
 -- A doing is what happens at the place in some contexts, and happens in each context.
 use Rattle.std.specs.Prelude.{◌≡◌, ℕ, zero, suc, List, [], ◌∷◌, ◌++◌}
 use Rattle.std.proofs.Common.{refl, sym, ap, subst, inl, inr, ◌∙◌}
-use Rattle.gos_model.specs.Terms.{Term, App, Both, Fst, Snd, Seq, Par, If, Assign, Deref, Not, Bin, Scope, Wait, Held, Put}
+use Rattle.gos_model.specs.Terms.{Term, App, Both, Fst, Snd, Seq, Par, If, Assign, Deref, Not, Bin, Scope, Wait, Held, Put, Arr}
 use Rattle.gos_model.specs.Typing.{Imports}
 use Rattle.gos_model.specs.Stores.{Store}
-use Rattle.gos_model.specs.Reach.{Rel, Reached, InIndex, IsArrayHead, Rewrites}
+use Rattle.gos_model.specs.Reach.{Rel, Reached, InIndex, Rewrites}
 use Rattle.gos_model.specs.Paths.{ReachedAt, IndexAt}
 use Rattle.gos_model.specs.Steps.{Computes}
 use Rattle.gos_model.specs.Moves.{Computing as Silent, Showing as Shows}
-use Rattle.gos_programs.specs.contexts.Contexts.{Context, SeqFirst, ParLeft, ParRight, IfTest, BinLeft, HeldRight, NotOf, AssignRight, ScopeBody, ReadIndex, WriteIndex, plug, plug_all}
+use Rattle.gos_programs.specs.contexts.Contexts.{Context, SeqFirst, ParLeft, ParRight, IfTest, BinLeft, HeldRight, NotOf, AssignRight, ScopeBody, ReadIndex, WriteIndex, plug, plug_all, ReadAt, WriteAt}
 use Rattle.gos_programs.proofs.contexts.BackwardLemmas.{OneLabel}
 use Rattle.gos_programs.proofs.contexts.PluggedLemmas.{reached_plugged}
+use Rattle.gos_programs.proofs.variables.UnfoldedLemmas.{of_access}
 use Rattle.gos_swaps.specs.doings.Heads.{UnderAt, HeadAt, HeadInIndexAt}
 use Rattle.gos_swaps.specs.doings.Doings.{Doing, Unfolding, Computing, Showing, DoesAt, ActsHavePaths}
 use Rattle.gos_swaps.specs.doings.Sides.{way, path_through, DoesWithin}
@@ -47,18 +48,12 @@ found_in : (H : List ℕ → Rel) (c : Context) (path : List ℕ) (m m' t : Term
 found_in H c path m m' t e (cs, rest, x, y, ep, em, et, h) =
     (c ∷ cs, rest, x, y, ap (λ (z : List ℕ). way c ++ z) ep, ap (plug c) em, e ∙ ap (plug c) et, h)
 
--- in the index of an access
-found_read : (H : List ℕ → Rel) (path : List ℕ) (h n a b m t : Term) → IsArrayHead h → m ≡ App h (Both n b) → t ≡ Deref m → Found H path a b
-    → Found H (0 ∷ 1 ∷ 1 ∷ path) (Deref (App h (Both n a))) t
-found_read H path h n a b m t (x, eh) em et f =
-    subst (λ (z : Term). Found H (0 ∷ 1 ∷ 1 ∷ path) (Deref (App z (Both n a))) t) (sym eh)
-    (found_in H (ReadIndex x n) path a b t (et ∙ ap (λ (z : Term). Deref z) (em ∙ ap (λ (z : Term). App z (Both n b)) eh)) f)
-
-found_write : (H : List ℕ → Rel) (path : List ℕ) (h n a b m t : Term) (k : ℕ) → IsArrayHead h → m ≡ App h (Both n b) → t ≡ Put m k → Found H path a b
-    → Found H (0 ∷ 1 ∷ 1 ∷ path) (Put (App h (Both n a)) k) t
-found_write H path h n a b m t k (x, eh) em et f =
-    subst (λ (z : Term). Found H (0 ∷ 1 ∷ 1 ∷ path) (Put (App z (Both n a)) k) t) (sym eh)
-    (found_in H (WriteIndex x n k) path a b t (et ∙ ap (λ (z : Term). Put z k) (em ∙ ap (λ (z : Term). App z (Both n b)) eh)) f)
+-- in the index of an access, which w makes of it
+found_access : (H : List ℕ → Rel) (w a : Term → Term) (c : Context) (path : List ℕ) (h k n n' m t : Term) → h ≡ k → m ≡ App h (a n') → t ≡ w m
+    → ((v : Term) → plug c v ≡ w (App k (a v))) → Found H path n n' → Found H (way c ++ path) (w (App h (a n))) t
+found_access H w a c path h k n n' m t eh em et at f =
+    subst (λ (z : Term). Found H (way c ++ path) z t) (at n ∙ ap (λ (v : Term). w (App v (a n))) (sym eh))
+    (found_in H c path n n' t (of_access w a c h k n' m t eh em et at) f)
 
 mutual
   found_reached : (R : Rel) (path : List ℕ) (m t : Term) → ReachedAt path R m t → Found (AtOnce R) path m t
@@ -77,13 +72,19 @@ mutual
   found_reached R (i ∷ path) m t h = absurd h
 
   found_reached_read : (R : Rel) (path : List ℕ) (m m' t : Term) → t ≡ Deref m' → IndexAt path R m m' → Found (AtOnce R) (zero ∷ path) (Deref m) t
-  found_reached_read R (suc zero ∷ suc zero ∷ path) (App h (Both n a)) m' t e (head, b, em, k) =
-      found_read (AtOnce R) path h n a b m' t head em e (found_reached R path a b k)
+  found_reached_read R (suc zero ∷ path) (App h a) m' t e (inr ((l, eh), b, em, g)) =
+      found_access (AtOnce R) (λ (v : Term). Deref v) (λ (v : Term). v) (ReadAt l) path h (Arr l) a b m' t eh em e (λ v. refl) (found_reached R path a b g)
+  found_reached_read R (suc zero ∷ suc zero ∷ path) (App h (Both n a)) m' t e (inl ((x, eh), b, em, g)) =
+      found_access (AtOnce R) (λ (v : Term). Deref v) (λ (v : Term). Both n v) (ReadIndex x n) path h (Wait x 0) a b m' t eh em e (λ v. refl) (found_reached R path a b g)
+  found_reached_read R (suc zero ∷ path) (App h a) m' t e (inl g) = absurd g
   found_reached_read R path m m' t e h = absurd h
 
   found_reached_write : (R : Rel) (path : List ℕ) (m m' t : Term) (k : ℕ) → t ≡ Put m' k → IndexAt path R m m' → Found (AtOnce R) (zero ∷ path) (Put m k) t
-  found_reached_write R (suc zero ∷ suc zero ∷ path) (App h (Both n a)) m' t k e (head, b, em, g) =
-      found_write (AtOnce R) path h n a b m' t k head em e (found_reached R path a b g)
+  found_reached_write R (suc zero ∷ path) (App h a) m' t k e (inr ((l, eh), b, em, g)) =
+      found_access (AtOnce R) (λ (v : Term). Put v k) (λ (v : Term). v) (WriteAt l k) path h (Arr l) a b m' t eh em e (λ v. refl) (found_reached R path a b g)
+  found_reached_write R (suc zero ∷ suc zero ∷ path) (App h (Both n a)) m' t k e (inl ((x, eh), b, em, g)) =
+      found_access (AtOnce R) (λ (v : Term). Put v k) (λ (v : Term). Both n v) (WriteIndex x n k) path h (Wait x 0) a b m' t eh em e (λ v. refl) (found_reached R path a b g)
+  found_reached_write R (suc zero ∷ path) (App h a) m' t k e (inl g) = absurd g
   found_reached_write R path m m' t k e h = absurd h
 
 mutual
@@ -108,13 +109,19 @@ mutual
   found_head R (i ∷ path) m t h = absurd h
 
   found_head_read : (R : Rel) (path : List ℕ) (m m' t : Term) → t ≡ Deref m' → HeadInIndexAt path R m m' → Found (HeadHere R) (zero ∷ path) (Deref m) t
-  found_head_read R (suc zero ∷ suc zero ∷ path) (App h (Both n a)) m' t e (head, b, em, k) =
-      found_read (HeadHere R) path h n a b m' t head em e (found_head R path a b k)
+  found_head_read R (suc zero ∷ path) (App h a) m' t e (inr ((l, eh), b, em, g)) =
+      found_access (HeadHere R) (λ (v : Term). Deref v) (λ (v : Term). v) (ReadAt l) path h (Arr l) a b m' t eh em e (λ v. refl) (found_head R path a b g)
+  found_head_read R (suc zero ∷ suc zero ∷ path) (App h (Both n a)) m' t e (inl ((x, eh), b, em, g)) =
+      found_access (HeadHere R) (λ (v : Term). Deref v) (λ (v : Term). Both n v) (ReadIndex x n) path h (Wait x 0) a b m' t eh em e (λ v. refl) (found_head R path a b g)
+  found_head_read R (suc zero ∷ path) (App h a) m' t e (inl g) = absurd g
   found_head_read R path m m' t e h = absurd h
 
   found_head_write : (R : Rel) (path : List ℕ) (m m' t : Term) (k : ℕ) → t ≡ Put m' k → HeadInIndexAt path R m m' → Found (HeadHere R) (zero ∷ path) (Put m k) t
-  found_head_write R (suc zero ∷ suc zero ∷ path) (App h (Both n a)) m' t k e (head, b, em, g) =
-      found_write (HeadHere R) path h n a b m' t k head em e (found_head R path a b g)
+  found_head_write R (suc zero ∷ path) (App h a) m' t k e (inr ((l, eh), b, em, g)) =
+      found_access (HeadHere R) (λ (v : Term). Put v k) (λ (v : Term). v) (WriteAt l k) path h (Arr l) a b m' t eh em e (λ v. refl) (found_head R path a b g)
+  found_head_write R (suc zero ∷ suc zero ∷ path) (App h (Both n a)) m' t k e (inl ((x, eh), b, em, g)) =
+      found_access (HeadHere R) (λ (v : Term). Put v k) (λ (v : Term). Both n v) (WriteIndex x n k) path h (Wait x 0) a b m' t eh em e (λ v. refl) (found_head R path a b g)
+  found_head_write R (suc zero ∷ path) (App h a) m' t k e (inl g) = absurd g
   found_head_write R path m m' t k e h = absurd h
 
 pub found : (i : Imports) (path : List ℕ) (a : Doing) (s s' : Store) (m t : Term) → DoesAt i path a s s' m t → Found (Here i a s s') path m t
@@ -154,8 +161,10 @@ reached_within R (HeldRight k op) path m t h = (t, refl, h)
 reached_within R NotOf path m t h = (t, refl, h)
 reached_within R (AssignRight n) path m t h = (t, refl, h)
 reached_within R (ScopeBody l) path m t h = (t, refl, h)
-reached_within R (ReadIndex x n) path m t h = (App (Wait x 0) (Both n t), refl, ((x, refl), t, refl, h))
-reached_within R (WriteIndex x n k) path m t h = (App (Wait x 0) (Both n t), refl, ((x, refl), t, refl, h))
+reached_within R (ReadIndex x n) path m t h = (App (Wait x 0) (Both n t), refl, inl ((x, refl), t, refl, h))
+reached_within R (WriteIndex x n k) path m t h = (App (Wait x 0) (Both n t), refl, inl ((x, refl), t, refl, h))
+reached_within R (ReadAt l) path m t h = (App (Arr l) t, refl, inr ((l, refl), t, refl, h))
+reached_within R (WriteAt l k) path m t h = (App (Arr l) t, refl, inr ((l, refl), t, refl, h))
 
 pub head_within : (R : Rel) (c : Context) (path : List ℕ) (m t : Term) → HeadAt path R m t → HeadAt (way c ++ path) R (plug c m) (plug c t)
 head_within R (SeqFirst n) path m t h = (t, refl, h)
@@ -167,8 +176,10 @@ head_within R (HeldRight k op) path m t h = (t, refl, h)
 head_within R NotOf path m t h = (t, refl, h)
 head_within R (AssignRight n) path m t h = (t, refl, h)
 head_within R (ScopeBody l) path m t h = (t, refl, h)
-head_within R (ReadIndex x n) path m t h = (App (Wait x 0) (Both n t), refl, inr ((x, refl), t, refl, h))
-head_within R (WriteIndex x n k) path m t h = (App (Wait x 0) (Both n t), refl, inr ((x, refl), t, refl, h))
+head_within R (ReadIndex x n) path m t h = (App (Wait x 0) (Both n t), refl, inr (inl ((x, refl), t, refl, h)))
+head_within R (WriteIndex x n k) path m t h = (App (Wait x 0) (Both n t), refl, inr (inl ((x, refl), t, refl, h)))
+head_within R (ReadAt l) path m t h = (App (Arr l) t, refl, inr (inr ((l, refl), t, refl, h)))
+head_within R (WriteAt l k) path m t h = (App (Arr l) t, refl, inr (inr ((l, refl), t, refl, h)))
 
 pub does_within : DoesWithin
 does_within i c path Unfolding s s' m t (h, e) = (head_within Rewrites c path m t h, e)
@@ -243,7 +254,9 @@ mutual
   reached_path R m t (inr h) = absurd h
 
   index_path : (R : Rel) (m t : Term) → InIndex R m t → (path : List ℕ) × IndexAt path R m t
-  index_path R (App h (Both n a)) t (head, b, e, k) = let p = reached_path R a b k in (1 ∷ 1 ∷ p.0, (head, b, e, p.1))
+  index_path R (App h a) t (inr (place, b, e, k)) = let p = reached_path R a b k in (1 ∷ p.0, inr (place, b, e, p.1))
+  index_path R (App h (Both n a)) t (inl (head, b, e, k)) = let p = reached_path R a b k in (1 ∷ 1 ∷ p.0, inl (head, b, e, p.1))
+  index_path R (App h a) t (inl k) = absurd k
   index_path R m t h = absurd h
 
 path_reached : (R : Rel) (path : List ℕ) (m t : Term) → ReachedAt path R m t → Reached R m t

@@ -1,18 +1,18 @@
 -- Two doings are at one place and of one kind, or they are in the two sides of a `||`.
 use Rattle.std.specs.Prelude.{◌≡◌, ◌⊎◌, ℕ, zero, suc, List, [], ◌∷◌, ◌++◌, IsFalse}
 use Rattle.std.proofs.Common.{arith, refl, sym, ap, subst, inl, inr, ◌∙◌}
-use Rattle.gos_model.specs.Terms.{Name, Term, Skip, Lit, Import, Lam, App, Both, Fst, Snd, Seq, Par, If, Assign, Deref, Not, Bin, Loc, Scope, Wait, Held, Put}
+use Rattle.gos_model.specs.Terms.{Name, Term, Skip, Lit, Import, Lam, App, Both, Fst, Snd, Seq, Par, If, Assign, Deref, Not, Bin, Loc, Scope, Wait, Held, Put, Arr}
 use Rattle.gos_model.specs.Typing.{Imports}
 use Rattle.gos_model.specs.Stores.{Store}
 use Rattle.gos_model.specs.Reach.{Rewrites}
-use Rattle.gos_model.specs.Steps.{Computes, IsValue}
+use Rattle.gos_model.specs.Steps.{Computes, IsValue, Locates}
 use Rattle.gos_model.specs.Labels.{Port, Given, Taken, Label, is_output_at, is_output}
 use Rattle.gos_types.specs.Types.{Type', Exp, Var, Fun}
 use Rattle.gos_model.specs.Accesses.{IsArrayImport, AccessPuts, ReadEnds, WriteEnds, AccessTakes}
 use Rattle.gos_model.specs.ArrayPorts.{AreGround}
 use Rattle.gos_model.proofs.HeadLemmas.{Lower}
-use Rattle.gos_programs.specs.contexts.Contexts.{Context, SeqFirst, ParLeft, ParRight, IfTest, BinLeft, HeldRight, NotOf, AssignRight, ScopeBody, ReadIndex, WriteIndex, plug, plug_all}
-use Rattle.gos_programs.proofs.contexts.BackwardLemmas.{OneHead, OneLabel}
+use Rattle.gos_programs.specs.contexts.Contexts.{Context, SeqFirst, ParLeft, ParRight, IfTest, BinLeft, HeldRight, NotOf, AssignRight, ScopeBody, ReadIndex, WriteIndex, plug, plug_all, ReadAt, WriteAt}
+use Rattle.gos_programs.proofs.contexts.BackwardLemmas.{index_value, OneHead, OneLabel}
 use Rattle.gos_swaps.specs.doings.Heads.{UnderAt}
 use Rattle.gos_swaps.specs.doings.Doings.{Doing, Unfolding, Computing, Showing, DoesAt, SameSort, OneSort, SameKind, OneKind}
 use Rattle.gos_swaps.specs.doings.Sides.{way, path_through, OnSides, PlacesAreOnSides}
@@ -31,6 +31,8 @@ Inside (Assign m n) c x = (c ≡ AssignRight m) × (x ≡ n)
 Inside (Scope l m) c x = (c ≡ ScopeBody l) × (x ≡ m)
 Inside (Deref (App (Wait y zero) (Both n m))) c x = (c ≡ ReadIndex y n) × (x ≡ m)
 Inside (Put (App (Wait y zero) (Both n m)) k) c x = (c ≡ WriteIndex y n k) × (x ≡ m)
+Inside (Deref (App (Arr l) m)) c x = (c ≡ ReadAt l) × (x ≡ m)
+Inside (Put (App (Arr l) m) k) c x = (c ≡ WriteAt l k) × (x ≡ m)
 Inside m c x = ⊥
 
 inside : (c : Context) (x : Term) → Inside (plug c x) c x
@@ -45,6 +47,8 @@ inside (AssignRight n) x = (refl, refl)
 inside (ScopeBody l) x = (refl, refl)
 inside (ReadIndex y n) x = (refl, refl)
 inside (WriteIndex y n k) x = (refl, refl)
+inside (ReadAt l) x = (refl, refl)
+inside (WriteAt l k) x = (refl, refl)
 
 -- x stands on the left of y
 abbrev IsLeftOf : Context → Context → Term → Term → Type 0
@@ -68,6 +72,8 @@ ways_of c (AssignRight n) x y h = inl h
 ways_of c (ScopeBody l) x y h = inl h
 ways_of c (ReadIndex z n) x y h = inl h
 ways_of c (WriteIndex z n k) x y h = inl h
+ways_of c (ReadAt l) x y h = inl h
+ways_of c (WriteAt l k) x y h = inl h
 
 ways : (c d : Context) (x y : Term) → plug c x ≡ plug d y → Ways c d x y
 ways c d x y e = ways_of c d x y (subst (λ (z : Term). Inside z c x) e (inside c x))
@@ -168,6 +174,8 @@ no_head (AssignRight n) m v h = none_of_three h
 no_head (ScopeBody l) m v h = none_of_three h
 no_head (ReadIndex x n) m v h = grind (arith, h)
 no_head (WriteIndex x n k) m v h = grind (arith, h)
+no_head (ReadAt l) m v h = grind (arith, h)
+no_head (WriteAt l k) m v h = grind (arith, h)
 
 -- the number of an index is a label, and no other context shows one
 waits_once : (x y : Name) (n z b j : Term) → App (Wait x 0) (Both n z) ≡ App (Wait y 1) (Both b j) → ⊥
@@ -190,6 +198,12 @@ index_write i o x n z v k (inl (inl (y, w, em, h, e, et))) = absurd (cc em)
 index_write i o x n z v k (inl (inr (y, port, h))) = index_puts i (λ (u : Term). Put u k) 4 k x y o.event o.value n z v h
 index_write i o x n z v k (inr (y, port, (c, w, b, j, array, em, h))) = absurd (waits_once x y n z b j em)
 
+-- an array of the program's own shows none
+array_not_shown : (i : Imports) (o : Label) (l : ℕ) (n : Term) → IsShown i o (App (Arr l) n) → ⊥
+array_not_shown i o l n (x, port, inl em) = cc em
+array_not_shown i o l n (x, port, inr ((h, m, em, inl is), array)) = let same : Arr l ≡ h = cc em in cc (same ∙ is)
+array_not_shown i o l n (x, port, inr ((h, m, em, inr (s, is)), array)) = let same : Arr l ≡ h = cc em in cc (same ∙ is)
+
 label_value : (i : Imports) (o : Label) (c : Context) (m v : Term) → OneLabel i o (plug c m) v → IsValue m
 label_value i o (SeqFirst n) m v h = absurd (neither h)
 label_value i o (ParLeft n) m v h = absurd (neither h)
@@ -202,6 +216,13 @@ label_value i o (AssignRight n) m v h = absurd (neither h)
 label_value i o (ScopeBody l) m v h = absurd (neither h)
 label_value i o (ReadIndex x n) m v h = index_read i o x n m v h
 label_value i o (WriteIndex x n k) m v h = index_write i o x n m v k h
+label_value i o (ReadAt l) m v h = absurd (array_not_shown i o l m (shown_read i o (App (Arr l) m) v h))
+label_value i o (WriteAt l k) m v h = absurd (array_not_shown i o l m (shown_write i o (App (Arr l) m) v k h))
+
+-- a port stands for no number of the store
+port_not_located : (x : Name) (n : Term) (l i : ℕ) → Locates (App (Wait x 0) n) l i → ⊥
+port_not_located x n l i (inl (e, first)) = cc e
+port_not_located x n l i (inr (w, e)) = let bad : Wait x 0 ≡ Arr l = cc e in cc bad
 
 -- where something happens to a context, its term is a value
 row_value : (s s' : Store) (c : Context) (z t : Term) → Computes s s' (plug c z) t → IsValue z
@@ -215,8 +236,10 @@ row_value s s' (HeldRight k op) z t (j, w, en, et, es) = inr (j, w, en)
 row_value s s' NotOf z t (k, w, em, et, es) = inr (k, w, em)
 row_value s s' (AssignRight n) z t (k, w, en, et, es) = inr (k, w, en)
 row_value s s' (ScopeBody l) z t (is, et, es) = is
-row_value s s' (ReadIndex x n) z t (e, old, em, here, has, et, es) = absurd (cc em)
-row_value s s' (WriteIndex x n k) z t (e, old, em, here, has, et, es) = absurd (cc em)
+row_value s s' (ReadIndex x n) z t (e, j, old, em, here, has, et, es) = absurd (port_not_located x (Both n z) e.place j em)
+row_value s s' (WriteIndex x n k) z t (e, j, old, em, here, has, et, es) = absurd (port_not_located x (Both n z) e.place j em)
+row_value s s' (ReadAt l) z t (e, j, old, em, here, has, et, es) = index_value l z e.place j em
+row_value s s' (WriteAt l k) z t (e, j, old, em, here, has, et, es) = index_value l z e.place j em
 
 context_value : (i : Imports) (a : Doing) (s s' : Store) (rest : List ℕ) (c : Context) (z t : Term) → Here i a s s' rest (plug c z) t → IsValue z
 context_value i Unfolding s s' rest c z t (h, e) = absurd (no_head c z t (one_of rest (plug c z) t h))
@@ -282,9 +305,17 @@ no_lower_loc m l v e h = neither (subst (λ (z : Term). Lower z v) e h)
 no_lower_import : (m : Term) (x : Name) (v : Term) → m ≡ Import x → Lower m v → ⊥
 no_lower_import m x v e h = neither (subst (λ (z : Term). Lower z v) e h)
 
+no_lower_located : (m : Term) (l i : ℕ) (v : Term) → Locates m l i → Lower m v → ⊥
+no_lower_located m l i v (inl (e, first)) h = no_lower_loc m l v e h
+no_lower_located m l i v (inr (w, e)) h = of_parts (subst (λ (z : Term). Lower z v) e h)
+  where
+    of_parts : Lower (App (Arr l) (Lit i w)) v → ⊥
+    of_parts (inl (a, b, f, et)) = cc f
+    of_parts (inr (h', f, g)) = neither g
+
 head_no_row : (s s' : Store) (m t v : Term) → OneHead m v → Computes s s' m t → ⊥
-head_no_row s s' (Put m k) t v (inr (c, e, h)) (d, old, em, here, has, et, es) = no_lower_loc m d.place c em h
-head_no_row s s' (Deref m) t v (inr (c, e, h)) (d, old, em, here, has, et, es) = no_lower_loc m d.place c em h
+head_no_row s s' (Put m k) t v (inr (c, e, h)) (d, j, old, em, here, has, et, es) = no_lower_located m d.place j c em h
+head_no_row s s' (Deref m) t v (inr (c, e, h)) (d, j, old, em, here, has, et, es) = no_lower_located m d.place j c em h
 head_no_row s s' (App m n) t v h g = g
 head_no_row s s' (Fst m) t v h g = g
 head_no_row s s' (Snd m) t v h g = g
@@ -328,9 +359,13 @@ loc_not_shown : (i : Imports) (o : Label) (m : Term) (l : ℕ) → m ≡ Loc l �
 loc_not_shown i o m l em (x, port, inl ex) = loc_no_import m l x em ex
 loc_not_shown i o m l em (x, port, inr ((h, n, ea, is), array)) = let bad : Loc l ≡ App h n = sym em ∙ ea in absurd (cc bad)
 
+located_not_shown : (i : Imports) (o : Label) (m : Term) (l j : ℕ) → Locates m l j → IsShown i o m → ⊥
+located_not_shown i o m l j (inl (e, first)) h = loc_not_shown i o m l e h
+located_not_shown i o m l j (inr (w, e)) h = array_not_shown i o l (Lit j w) (subst (λ (z : Term). IsShown i o z) e h)
+
 row_no_label : (s s' : Store) (i : Imports) (o : Label) (m t v : Term) → Computes s s' m t → OneLabel i o m v → ⊥
-row_no_label s s' i o (Put m k) t v (d, old, em, here, has, et, es) h = loc_not_shown i o m d.place em (shown_write i o m v k h)
-row_no_label s s' i o (Deref m) t v (d, old, em, here, has, et, es) h = loc_not_shown i o m d.place em (shown_read i o m v h)
+row_no_label s s' i o (Put m k) t v (d, j, old, em, here, has, et, es) h = located_not_shown i o m d.place j em (shown_write i o m v k h)
+row_no_label s s' i o (Deref m) t v (d, j, old, em, here, has, et, es) h = located_not_shown i o m d.place j em (shown_read i o m v h)
 row_no_label s s' i o (Import x) t v h g = h
 row_no_label s s' i o (Wait x n) t v h g = h
 row_no_label s s' i o m t v h (inl g) = absurd g

@@ -2,7 +2,7 @@
 use Rattle.std.specs.Prelude.{◌≡◌, ◌≤◌, ◌<◌, ◌+◌, ℕ, suc, max, Bool, true, false, nat_eq, if◌then◌else◌}
 use Rattle.std.proofs.Common.{refl, ap, subst, inl, inr, arith}
 use Rattle.std.proofs.Math.Nat.{max-le, le-max_left, le-max_right}
-use Rattle.gos_model.specs.Terms.{Term, Skip, Lit, Bound, Import, Lam, App, Both, Fst, Snd, Seq, Par, If, While, Assign, Deref, New, Not, Bin, Loc, Scope, Wait, Held, Put}
+use Rattle.gos_model.specs.Terms.{Term, Skip, Lit, Bound, Import, Lam, App, Both, Fst, Snd, Seq, Par, If, While, Assign, Deref, New, Not, Bin, Loc, Scope, Wait, Held, Put, NewArray, Arr}
 use Rattle.gos_model.specs.Substitution.{put_at}
 use Rattle.gos_model.specs.Typing.{Apart}
 use Rattle.gos_model.specs.Reach.{Rewrites, Under}
@@ -49,9 +49,11 @@ putting_adds (While m n) d q a = omega arith
 putting_adds (Assign m n) d q a = omega arith
 putting_adds (Deref m) d q a = omega arith
 putting_adds (New w m) d q a = omega arith
+putting_adds (NewArray n w m) d q a = omega arith
 putting_adds (Not m) d q a = omega arith
 putting_adds (Bin op m n) d q a = omega arith
 putting_adds (Loc l) d q a = omega arith
+putting_adds (Arr l) d q a = omega arith
 putting_adds (Scope l m) d q a = omega arith
 putting_adds (Wait x s) d q a = omega arith
 putting_adds (Held k op n) d q a = omega arith

@@ -7,7 +7,7 @@ use Rattle.gos_model.specs.Stores.{Store}
 use Rattle.gos_model.specs.Reach.{Rewrites}
 use Rattle.gos_model.specs.Labels.{Port, Given, Taken, Label}
 use Rattle.gos_model.specs.Moves.{Computing as Silent, Showing as Shows}
-use Rattle.gos_programs.specs.contexts.Contexts.{Context, SeqFirst, ParLeft, ParRight, IfTest, BinLeft, HeldRight, NotOf, AssignRight, ScopeBody, ReadIndex, WriteIndex, plug, plug_all}
+use Rattle.gos_programs.specs.contexts.Contexts.{Context, SeqFirst, ParLeft, ParRight, IfTest, BinLeft, HeldRight, NotOf, AssignRight, ScopeBody, ReadIndex, WriteIndex, plug, plug_all, ReadAt, WriteAt}
 use Rattle.gos_programs.proofs.contexts.BackwardLemmas.{OneLabel}
 use Rattle.gos_swaps.specs.doings.Doings.{Doing, Unfolding, Computing, Showing, DoesAt}
 use Rattle.gos_swaps.specs.doings.Sides.{way, path_through, OnSides}
@@ -94,6 +94,8 @@ needed_in o (AssignRight n) path m out h = h
 needed_in o (ScopeBody l) path m out h = h
 needed_in o (ReadIndex x n) path m out h = h
 needed_in o (WriteIndex x n k) path m out h = h
+needed_in o (ReadAt l) path m out h = h
+needed_in o (WriteAt l k) path m out h = h
 
 needed_of : (o : Port) (c : Context) (path : List ℕ) (m : Term) → IsNeeded o (way c ++ path) (plug c m) → IsOut o c × IsNeeded o path m
 needed_of o (SeqFirst n) path m h = (tt, h)
@@ -107,6 +109,8 @@ needed_of o (AssignRight n) path m h = (tt, h)
 needed_of o (ScopeBody l) path m h = (tt, h)
 needed_of o (ReadIndex x n) path m h = (tt, h)
 needed_of o (WriteIndex x n k) path m h = (tt, h)
+needed_of o (ReadAt l) path m h = (tt, h)
+needed_of o (WriteAt l k) path m h = (tt, h)
 
 -- where one term was needed in contexts, another one is where it is needed itself
 needed_there :

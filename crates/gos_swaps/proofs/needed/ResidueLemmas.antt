@@ -1,7 +1,7 @@
 -- What leads to an aim is in every list to it.
 use Rattle.std.specs.Prelude.{◌≡◌, ◌≢◌, ◌⊎◌, ℕ, zero, suc, List, [], ◌∷◌}
 use Rattle.std.proofs.Common.{refl, sym, ap, subst, inl, inr}
-use Rattle.gos_model.specs.Terms.{Term, App, Both, Seq, Par, If, Assign, Deref, Not, Bin, Scope, Held, Put}
+use Rattle.gos_model.specs.Terms.{Term, App, Both, Seq, Par, If, Assign, Deref, Not, Bin, Scope, Held, Put, Arr, Wait}
 use Rattle.gos_model.specs.Typing.{Imports, Named}
 use Rattle.gos_model.specs.Stores.{Store}
 use Rattle.gos_model.specs.Steps.{IsValue}
@@ -38,8 +38,10 @@ module _ (q r : ℕ → ℕ) (back : (l : ℕ) → q (r l) ≡ l) where
   needed_renamed o (zero ∷ path) (Not m) h = needed_renamed o path m h
   needed_renamed o (suc zero ∷ path) (Assign m n) h = needed_renamed o path n h
   needed_renamed o (zero ∷ path) (Scope l m) h = needed_renamed o path m h
-  needed_renamed o (zero ∷ suc zero ∷ suc zero ∷ path) (Deref (App g (Both n m))) h = needed_renamed o path m h
-  needed_renamed o (zero ∷ suc zero ∷ suc zero ∷ path) (Put (App g (Both n m)) k) h = needed_renamed o path m h
+  needed_renamed o (zero ∷ suc zero ∷ path) (Deref (App (Arr l) m)) h = needed_renamed o path m h
+  needed_renamed o (zero ∷ suc zero ∷ path) (Put (App (Arr l) m) k) h = needed_renamed o path m h
+  needed_renamed o (zero ∷ suc zero ∷ suc zero ∷ path) (Deref (App (Wait x s) (Both n m))) h = needed_renamed o path m h
+  needed_renamed o (zero ∷ suc zero ∷ suc zero ∷ path) (Put (App (Wait x s) (Both n m)) k) h = needed_renamed o path m h
   needed_renamed o path m h = tt
 
 -- lists of configurations that are alike

@@ -3,7 +3,7 @@ use Rattle.std.specs.Prelude.{◌≡◌, ℕ, [], ◌∷◌, Option, Some, None}
 use Rattle.std.proofs.Common.{refl, sym, ap, subst, ◌∙◌}
 use Rattle.std.proofs.lemmas.Bool.{eq-eqb, ne_eqb}
 use Rattle.gos_model.specs.Terms.{Term}
-use Rattle.gos_model.specs.Stores.{Entry, variable_at, Store, entry_at, store_put, without}
+use Rattle.gos_model.specs.Stores.{Entry, Store, entry_at, store_put, without, array_at}
 use Rattle.gos_model.specs.Moves.{Idle, Running}
 use Rattle.gos_model.proofs.NumberLemmas.{number_cases}
 use Rattle.gos_programs.specs.contexts.Renaming.{renamed, renamed_store, IsInjective}
@@ -110,8 +110,8 @@ applied_corresponds (Writes l j k) r inj s s' h x =
     (put_same s' (r l) j k ∙ (ap (numbered j k) (h l) ∙ (numbered_carried r j k (entry_at s l) ∙ ap (carried r) (sym (put_same s l j k))))))
     (λ other b. put_other s' (r l) j k (r x) (λ q. other (inj l x q)) ∙ (h x ∙ ap (carried r) (sym (put_other s l j k x other))))
 applied_corresponds (Opens l w) r inj s s' h x =
-    let e : Entry = variable_at l w 0 in
-    let e' : Entry = variable_at (r l) w 0 in
+    let e : Entry = array_at l w.width w.count in
+    let e' : Entry = array_at (r l) w.width w.count in
     number_cases l x
     (λ same b. first_at e' s' (r x) (ap r same) ∙ ap (carried r) (sym (first_at e s x same)))
     (λ other b. later_at e' s' (r x) (λ q. other (inj l x q)) ∙ (h x ∙ ap (carried r) (sym (later_at e s x other))))

@@ -1,13 +1,13 @@
 -- What is alike to a proper configuration is proper.
 use Rattle.std.specs.Prelude.{◌≡◌, ℕ, suc, Bool, true, false, List, [], ◌∷◌, ◌++◌, map, Contains, Option, Some, None, nat_lt, ◌-◌, if◌then◌else◌}
 use Rattle.std.proofs.Common.{refl, sym, ap, subst, inl, inr, ◌∙◌}
-use Rattle.gos_model.specs.Terms.{Term, Skip, Lit, Bound, Import, Lam, App, Both, Fst, Snd, Seq, Par, If, While, Assign, Deref, New, Not, Bin, Loc, Scope, Wait, Held, Put}
+use Rattle.gos_model.specs.Terms.{Term, Skip, Lit, Bound, Import, Lam, App, Both, Fst, Snd, Seq, Par, If, While, Assign, Deref, New, Not, Bin, Loc, Scope, Wait, Held, Put, NewArray, Arr}
 use Rattle.gos_model.specs.Typing.{Thing, Variable, Named, Place, things, Apart}
 use Rattle.gos_model.specs.Stores.{Entry, Store, entry_at}
-use Rattle.gos_model.specs.Reach.{IsArrayHead}
+use Rattle.gos_model.specs.Reach.{IsArrayHead, IsArrayPlace}
 use Rattle.gos_programs.specs.contexts.Renaming.{renamed}
 use Rattle.gos_programs.specs.contexts.Scopes.{IsShut, OpensInPlace, OpensInIndex, IsOpen, IsOpenInIndex}
-use Rattle.gos_programs.specs.contexts.Standing.{Present, Has, InScope, OpensDiffer, DifferInIndex}
+use Rattle.gos_programs.specs.contexts.Standing.{Present, Has, InScope, OpensDiffer, DifferInIndex, DifferInPortIndex}
 use Rattle.gos_swaps.specs.proper.Proper.{PartsApart, IsClosed, IsProper}
 use Rattle.gos_swaps.specs.orders.Alike.{Renaming, AlikeStayProper}
 use Rattle.gos_swaps.specs.orders.Effects.{carried}
@@ -63,9 +63,11 @@ module _ (q r : ℕ → ℕ) (back : (l : ℕ) → q (r l) ≡ l) where
   old_thing (Assign m n) c x h = moved_two q r m n c x (old_thing m c x) (old_thing n c x) h
   old_thing (Deref m) c x h = old_thing m c x h
   old_thing (New w m) c x h = old_thing m (suc c) x h
+  old_thing (NewArray n w m) c x h = old_thing m (suc c) x h
   old_thing (Not m) c x h = old_thing m c x h
   old_thing (Bin op m n) c x h = moved_two q r m n c x (old_thing m c x) (old_thing n c x) h
   old_thing (Loc l) c x h = one_moved q (Place (r l)) (Place l) x (ap (λ (z : ℕ). Place z) (back l)) h
+  old_thing (Arr l) c x h = one_moved q (Place (r l)) (Place l) x (ap (λ (z : ℕ). Place z) (back l)) h
   old_thing (Scope l m) c x h =
       two_parts (Place (r l) ∷ []) (things c (renamed r m)) (Place l ∷ []) (things c m) x (moved_thing q x)
       (one_moved q (Place (r l)) (Place l) x (ap (λ (z : ℕ). Place z) (back l))) (old_thing m c x) h
@@ -89,6 +91,7 @@ module _ (q r : ℕ → ℕ) (back : (l : ℕ) → q (r l) ≡ l) where
   renamed_parts (Assign m n) (h, k) = (renamed_parts m h, renamed_parts n k)
   renamed_parts (Deref m) h = renamed_parts m h
   renamed_parts (New w m) h = renamed_parts m h
+  renamed_parts (NewArray n w m) h = renamed_parts m h
   renamed_parts (Not m) h = renamed_parts m h
   renamed_parts (Bin op m n) (h, k) = (renamed_parts m h, renamed_parts n k)
   renamed_parts (Scope l m) h = renamed_parts m h
@@ -99,6 +102,7 @@ module _ (q r : ℕ → ℕ) (back : (l : ℕ) → q (r l) ≡ l) where
   renamed_parts (Bound n) h = tt
   renamed_parts (Import x) h = tt
   renamed_parts (Loc l) h = tt
+  renamed_parts (Arr l) h = tt
   renamed_parts (Wait x s) h = tt
 
   renamed_closed : (m : Term) → IsClosed m → IsClosed (renamed r m)
@@ -108,6 +112,10 @@ module _ (q r : ℕ → ℕ) (back : (l : ℕ) → q (r l) ≡ l) where
   -- an array that asks for its index has no location
   head_back : (g : Term) → IsArrayHead (renamed r g) → IsArrayHead g
   head_back g (x, e) = (x, sym (renamed_back q r back g) ∙ ap (renamed q) e)
+
+  -- and an array of the program's own has the old one
+  array_back : (g : Term) → IsArrayPlace (renamed r g) → IsArrayPlace g
+  array_back g (l, e) = (q l, sym (renamed_back q r back g) ∙ ap (renamed q) e)
 
   mutual
     old_open : (l : ℕ) (m : Term) → IsOpen l (renamed r m) → IsOpen (q l) m
@@ -133,12 +141,16 @@ module _ (q r : ℕ → ℕ) (back : (l : ℕ) → q (r l) ≡ l) where
     old_open l (While m n) h = h
     old_open l (Deref m) h = old_open_in_index l m h
     old_open l (New w m) h = h
+    old_open l (NewArray n w m) h = h
     old_open l (Loc k) h = h
+    old_open l (Arr k) h = h
     old_open l (Wait x s) h = h
     old_open l (Put m k) h = old_open_in_index l m h
 
     old_open_in_index : (l : ℕ) (m : Term) → IsOpenInIndex l (renamed r m) → IsOpenInIndex (q l) m
-    old_open_in_index l (App g (Both m n)) (head, h) = (head_back g head, old_open l n h)
+    old_open_in_index l (App g n) (inr (place, h)) = inr (array_back g place, old_open l n h)
+    old_open_in_index l (App g (Both m n)) (inl (head, h)) = inl (head_back g head, old_open l n h)
+    old_open_in_index l (App g n) (inl h) = absurd h
     old_open_in_index l m h = absurd h
 
   mutual
@@ -163,17 +175,26 @@ module _ (q r : ℕ → ℕ) (back : (l : ℕ) → q (r l) ≡ l) where
     renamed_differ (While m n) h = tt
     renamed_differ (Deref m) h = renamed_index_differs m h
     renamed_differ (New w m) h = tt
+    renamed_differ (NewArray n w m) h = tt
     renamed_differ (Loc k) h = tt
+    renamed_differ (Arr k) h = tt
     renamed_differ (Wait x s) h = tt
     renamed_differ (Put m k) h = renamed_index_differs m h
 
     renamed_index_differs : (m : Term) → DifferInIndex m → DifferInIndex (renamed r m)
-    renamed_index_differs (App g (Both m n)) h = λ head. renamed_differ n (h (head_back g head))
+    renamed_index_differs (App g n) (h, k) = (renamed_port_differs g n h, λ place. renamed_differ n (k (array_back g place)))
     renamed_index_differs m h = tt
+
+    renamed_port_differs : (g n : Term) → DifferInPortIndex g n → DifferInPortIndex (renamed r g) (renamed r n)
+    renamed_port_differs g (Both m n) h = λ head. renamed_differ n (h (head_back g head))
+    renamed_port_differs g n h = tt
 
 -- blocks are open where they were
 head_renamed : (r : ℕ → ℕ) (g : Term) → IsArrayHead g → IsArrayHead (renamed r g)
 head_renamed r g (x, e) = (x, ap (renamed r) e)
+
+array_renamed : (r : ℕ → ℕ) (g : Term) → IsArrayPlace g → IsArrayPlace (renamed r g)
+array_renamed r g (l, e) = (r l, ap (renamed r) e)
 
 mutual
   new_open : (r : ℕ → ℕ) (l : ℕ) (m : Term) → IsOpen l m → IsOpen (r l) (renamed r m)
@@ -192,7 +213,9 @@ mutual
   new_open r l m h = absurd h
 
   new_open_in_index : (r : ℕ → ℕ) (l : ℕ) (m : Term) → IsOpenInIndex l m → IsOpenInIndex (r l) (renamed r m)
-  new_open_in_index r l (App g (Both m n)) (head, h) = (head_renamed r g head, new_open r l n h)
+  new_open_in_index r l (App g n) (inr (place, h)) = inr (array_renamed r g place, new_open r l n h)
+  new_open_in_index r l (App g (Both m n)) (inl (head, h)) = inl (head_renamed r g head, new_open r l n h)
+  new_open_in_index r l (App g n) (inl h) = absurd h
   new_open_in_index r l m h = absurd h
 
 renamed_shut : (r : ℕ → ℕ) (m : Term) → IsShut m → IsShut (renamed r m)
@@ -212,9 +235,11 @@ renamed_shut r (While m n) h = (renamed_shut r m h.0, renamed_shut r n h.1)
 renamed_shut r (Assign m n) h = (renamed_shut r m h.0, renamed_shut r n h.1)
 renamed_shut r (Deref m) h = renamed_shut r m h
 renamed_shut r (New w m) h = renamed_shut r m h
+renamed_shut r (NewArray n w m) h = renamed_shut r m h
 renamed_shut r (Not m) h = renamed_shut r m h
 renamed_shut r (Bin op m n) h = (renamed_shut r m h.0, renamed_shut r n h.1)
 renamed_shut r (Loc l) h = tt
+renamed_shut r (Arr l) h = tt
 renamed_shut r (Scope l m) h = absurd h
 renamed_shut r (Wait x s) h = tt
 renamed_shut r (Held k op n) h = renamed_shut r n h
@@ -243,13 +268,17 @@ mutual
   renamed_place r (Deref m) (inl h) = inl (renamed_shut r m h)
   renamed_place r (Deref m) (inr h) = inr (renamed_index r m h)
   renamed_place r (New w m) h = renamed_shut r m h
+  renamed_place r (NewArray n w m) h = renamed_shut r m h
   renamed_place r (Loc l) h = tt
+  renamed_place r (Arr l) h = tt
   renamed_place r (Wait x s) h = tt
   renamed_place r (Put m k) (inl h) = inl (renamed_shut r m h)
   renamed_place r (Put m k) (inr h) = inr (renamed_index r m h)
 
   renamed_index : (r : ℕ → ℕ) (m : Term) → OpensInIndex m → OpensInIndex (renamed r m)
-  renamed_index r (App g (Both m n)) (head, shut, h) = (head_renamed r g head, renamed_shut r m shut, renamed_place r n h)
+  renamed_index r (App g n) (inr (place, h)) = inr (array_renamed r g place, renamed_place r n h)
+  renamed_index r (App g (Both m n)) (inl (head, shut, h)) = inl (head_renamed r g head, renamed_shut r m shut, renamed_place r n h)
+  renamed_index r (App g n) (inl h) = absurd h
   renamed_index r m h = absurd h
 
 -- each location within its block
@@ -275,9 +304,11 @@ renamed_scope r (While m n) ls h = (renamed_scope r m ls h.0, renamed_scope r n 
 renamed_scope r (Assign m n) ls h = (renamed_scope r m ls h.0, renamed_scope r n ls h.1)
 renamed_scope r (Deref m) ls h = renamed_scope r m ls h
 renamed_scope r (New w m) ls h = renamed_scope r m ls h
+renamed_scope r (NewArray n w m) ls h = renamed_scope r m ls h
 renamed_scope r (Not m) ls h = renamed_scope r m ls h
 renamed_scope r (Bin op m n) ls h = (renamed_scope r m ls h.0, renamed_scope r n ls h.1)
 renamed_scope r (Loc l) ls h = new_has r l ls h
+renamed_scope r (Arr l) ls h = new_has r l ls h
 renamed_scope r (Scope l m) ls h = renamed_scope r m (l ∷ ls) h
 renamed_scope r (Wait x s) ls h = tt
 renamed_scope r (Held k op n) ls h = renamed_scope r n ls h

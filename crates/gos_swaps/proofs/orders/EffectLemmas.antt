@@ -1,19 +1,19 @@
 -- A doing changes the store at one location at most, and comes again on each store that serves its term.
 use Rattle.std.specs.Prelude.{◌≡◌, ℕ, List, [], ◌∷◌, ◌++◌, Contains, Option, Some, None}
 use Rattle.std.proofs.Common.{refl, sym, ap, subst, inl, inr, ◌∙◌}
-use Rattle.gos_model.specs.Terms.{Term, Seq, Par, If, While, Assign, Deref, New, Not, Bin, Loc, Scope, Held, Put}
+use Rattle.gos_model.specs.Terms.{Term, Seq, Par, If, While, Assign, Deref, New, Not, Bin, Loc, Scope, Held, Put, NewArray, Arr}
 use Rattle.gos_model.specs.Typing.{Imports, Place, things}
-use Rattle.gos_model.specs.Stores.{Entry, variable_at, Store, entry_at, store_put, without}
+use Rattle.gos_model.specs.Stores.{Entry, Store, entry_at, store_put, without, array_at}
 use Rattle.gos_model.specs.Paths.{ReachedAt}
-use Rattle.gos_model.specs.Steps.{Computes, IsValue}
+use Rattle.gos_model.specs.Steps.{Computes, IsValue, Locates}
 use Rattle.gos_model.proofs.NumberLemmas.{number_cases}
 use Rattle.gos_programs.specs.contexts.Contexts.{Context, plug}
 use Rattle.gos_programs.specs.contexts.Renaming.{renamed}
-use Rattle.gos_programs.proofs.contexts.RenamedLemmas.{renamed_put, value_renamed}
+use Rattle.gos_programs.proofs.contexts.RenamedLemmas.{renamed_put, value_renamed, locates_renamed}
 use Rattle.gos_programs.proofs.contexts.StoreLemmas.{first_at, later_at, without_same, without_other, numbered, put_same, put_other}
 use Rattle.gos_swaps.specs.doings.Doings.{Doing, Unfolding, Computing, Showing, DoesAt}
 use Rattle.gos_swaps.specs.doings.Sides.{way}
-use Rattle.gos_swaps.specs.orders.Effects.{Effect, Stays, Writes, Opens, Closes, applied, renamed_effect, IsFree, IsOwn, carried, Serves, HasEffect, DoingsHaveEffects}
+use Rattle.gos_swaps.specs.orders.Effects.{shape, Effect, Stays, Writes, Opens, Closes, applied, renamed_effect, IsFree, IsOwn, carried, Serves, HasEffect, DoingsHaveEffects}
 use Rattle.gos_swaps.proofs.doings.PlaceLemmas.{reached_lifted_at}
 use Rattle.gos_swaps.proofs.proper.ThingLemmas.{there, left_part, within}
 use Rattle.gos_swaps.proofs.orders.RenameLemmas.{renamed_same, reached_renamed_in, head_renamed, label_renamed}
@@ -24,6 +24,11 @@ StepEffect s u path a b =
     (e : Effect) × (u ≡ applied e s) × IsFree e s × IsOwn e a
     × ((r : ℕ → ℕ) (s' : Store) → Serves r a s s' → IsFree (renamed_effect r e) s'
     → ReachedAt path (Computes s' (applied (renamed_effect r e) s')) (renamed r a) (renamed r b))
+
+-- what stands for a number has its location
+located_thing : (m : Term) (l i : ℕ) → Locates m l i → Contains (things 0 m) (Place l)
+located_thing m l i (inl (e, first)) = subst (λ (z : Term). Contains (things 0 z) (Place l)) (sym e) (there (Place l))
+located_thing m l i (inr (w, e)) = subst (λ (z : Term). Contains (things 0 z) (Place l)) (sym e) (there (Place l))
 
 row_effect : (s u : Store) (a b : Term) → Computes s u a b → StepEffect s u [] a b
 row_effect s u (Seq m n) b (em, et, es) = (Stays, es, tt, tt, λ r s' f g. (ap (renamed r) em, ap (renamed r) et, refl))
@@ -36,28 +41,35 @@ row_effect s u (Bin op m n) b (k, w, em, et, es) = (Stays, es, tt, tt, λ r s' f
 row_effect s u (Held k op n) b (j, w, en, et, es) = (Stays, es, tt, tt, λ r s' f g. (j, w, ap (renamed r) en, ap (renamed r) et, refl))
 row_effect s u (Not m) b (k, w, em, et, es) = (Stays, es, tt, tt, λ r s' f g. (k, w, ap (renamed r) em, ap (renamed r) et, refl))
 row_effect s u (Assign m n) b (k, w, en, et, es) = (Stays, es, tt, tt, λ r s' f g. (k, w, ap (renamed r) en, ap (renamed r) et, refl))
-row_effect s u (Put m k) b (e, old, em, here, has, et, es) =
-    let own : Contains (things 0 m) (Place e.place) = subst (λ (z : Term). Contains (things 0 z) (Place e.place)) (sym em) (there (Place e.place)) in (
-      Writes e.place 0 k,
+row_effect s u (Put m k) b (e, j, old, em, here, has, et, es) =
+    let own : Contains (things 0 m) (Place e.place) = located_thing m e.place j em in (
+      Writes e.place j k,
       es,
       tt,
       own,
-      λ r s' f g. (record e { place = r e.place }, old, ap (renamed r) em, f e.place own ∙ ap (carried r) here, has, ap (renamed r) et, refl),
+      λ r s' f g. (record e { place = r e.place }, j, old, locates_renamed r m e.place j em, f e.place own ∙ ap (carried r) here, has, ap (renamed r) et, refl),
     )
-row_effect s u (Deref m) b (e, old, em, here, has, et, es) =
-    let own : Contains (things 0 m) (Place e.place) = subst (λ (z : Term). Contains (things 0 z) (Place e.place)) (sym em) (there (Place e.place)) in (
+row_effect s u (Deref m) b (e, j, old, em, here, has, et, es) =
+    let own : Contains (things 0 m) (Place e.place) = located_thing m e.place j em in (
       Stays,
       es,
       tt,
       tt,
-      λ r s' f g. (record e { place = r e.place }, old, ap (renamed r) em, f e.place own ∙ ap (carried r) here, has, ap (renamed r) et, refl),
+      λ r s' f g. (record e { place = r e.place }, j, old, locates_renamed r m e.place j em, f e.place own ∙ ap (carried r) here, has, ap (renamed r) et, refl),
     )
 row_effect s u (New w m) b (l, absent, et, es) = (
-  Opens l w,
+  Opens l (shape 1 w),
   es,
   absent,
   tt,
   λ r s' f g. (r l, g, ap (renamed r) et ∙ ap (λ (z : Term). Scope (r l) z) (renamed_put r m 0 (Loc l)), refl),
+)
+row_effect s u (NewArray n w m) b (l, absent, et, es) = (
+  Opens l (shape n w),
+  es,
+  absent,
+  tt,
+  λ r s' f g. (r l, g, ap (renamed r) et ∙ ap (λ (z : Term). Scope (r l) z) (renamed_put r m 0 (Arr l)), refl),
 )
 row_effect s u (Scope l m) b (is, et, es) = (
   Closes l,
@@ -135,7 +147,7 @@ touch_cases (Closes l) x f g = number_cases l x (λ h b. f h) (λ h b. g h)
 pub untouched : (e : Effect) (s : Store) (x : ℕ) → (Touches e x → ⊥) → entry_at (applied e s) x ≡ entry_at s x
 untouched Stays s x h = refl
 untouched (Writes l j k) s x h = put_other s l j k x h
-untouched (Opens l w) s x h = later_at (variable_at l w 0) s x h
+untouched (Opens l w) s x h = later_at (array_at l w.width w.count) s x h
 untouched (Closes l) s x h = without_other s l x h
 
 -- what has the same at a location has the same there after the effect
@@ -147,7 +159,7 @@ still_same (Writes l j k) s s' x h =
     (put_same s' l j k ∙ (ap (numbered j k) (ap (entry_at s') same ∙ (h ∙ sym (ap (entry_at s) same))) ∙ sym (put_same s l j k))))
     (λ other b. put_other s' l j k x other ∙ (h ∙ sym (put_other s l j k x other)))
 still_same (Opens l w) s s' x h =
-    let e : Entry = variable_at l w 0 in
+    let e : Entry = array_at l w.width w.count in
     number_cases l x
     (λ same b. first_at e s' x same ∙ sym (first_at e s x same)) (λ other b. later_at e s' x other ∙ (h ∙ sym (later_at e s x other)))
 still_same (Closes l) s s' x h =

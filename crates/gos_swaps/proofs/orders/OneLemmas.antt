@@ -3,24 +3,27 @@ use Rattle.std.specs.Prelude.{◌≡◌, ◌≢◌, ◌⊎◌, ℕ, zero, suc, L
 use Rattle.std.proofs.Common.{arith, refl, sym, ap, subst, inl, inr, ◌∙◌}
 use Rattle.gos_types.specs.Types.{Type', Com, Exp, Var, Fun}
 use Rattle.std.proofs.lemmas.Bool.{eq-eqb, ne_eqb}
-use Rattle.gos_model.specs.Terms.{Name, Term, Skip, Lit, Import, App, Both, Fst, Snd, Seq, Par, If, While, Assign, Deref, New, Not, Bin, Loc, Scope, Wait, Held, Put, result_of, result_width, complement}
+use Rattle.gos_model.specs.Terms.{Name, Term, Skip, Lit, Import, App, Both, Fst, Snd, Seq, Par, If, While, Assign, Deref, New, Not, Bin, Loc, Scope, Wait, Held, Put, result_of, result_width, complement, Arr, NewArray}
 use Rattle.gos_model.specs.Substitution.{put_at}
 use Rattle.gos_model.specs.Typing.{Imports, Place, things, import_type}
 use Rattle.gos_model.specs.Stores.{Entry, Store, entry_at, store_put}
 use Rattle.gos_model.specs.Reach.{Rel, Rewrites}
-use Rattle.gos_model.specs.Paths.{ReachedAt, IndexAt}
+use Rattle.gos_model.specs.Paths.{ReachedAt, IndexAt, PortIndexAt}
 use Rattle.gos_model.specs.Steps.{Computes}
 use Rattle.gos_model.specs.Accesses.{AccessPuts, ReadEnds, WriteEnds, AccessTakes}
 use Rattle.gos_model.specs.Labels.{Label, IsAnswer}
 use Rattle.gos_model.specs.Moves.{Running}
 use Rattle.gos_model.proofs.HeadLemmas.{lower_one}
 use Rattle.gos_model.proofs.NumberLemmas.{number_cases}
-use Rattle.gos_programs.specs.contexts.Contexts.{Context, SeqFirst, ParLeft, ParRight, IfTest, BinLeft, HeldRight, NotOf, AssignRight, ScopeBody, ReadIndex, WriteIndex, plug}
+use Rattle.gos_programs.specs.contexts.Contexts.{Context, SeqFirst, ParLeft, ParRight, IfTest, BinLeft, HeldRight, NotOf, AssignRight, ScopeBody, ReadIndex, WriteIndex, plug, ReadAt, WriteAt}
 use Rattle.gos_programs.specs.contexts.Renaming.{renamed}
 use Rattle.gos_programs.proofs.contexts.BackwardLemmas.{OneLabel}
 use Rattle.gos_programs.proofs.contexts.RenamedLemmas.{renamed_put}
 use Rattle.gos_programs.proofs.contexts.StoreLemmas.{first_at, later_at}
-use Rattle.gos_swaps.specs.doings.Heads.{UnderAt, HeadAt, HeadInIndexAt}
+use Rattle.gos_programs.proofs.variables.UnfoldedLemmas.{of_access}
+use Rattle.gos_model.proofs.StoreLemmas.{one_number}
+use Rattle.gos_swaps.specs.orders.Effects.{Shape, shape}
+use Rattle.gos_swaps.specs.doings.Heads.{UnderAt, HeadAt, HeadInIndexAt, HeadInPortAt}
 use Rattle.gos_swaps.specs.doings.Doings.{Unfolding, Computing, Showing}
 use Rattle.gos_swaps.specs.orders.Alike.{Alike}
 use Rattle.gos_swaps.specs.orders.Effects.{carried}
@@ -38,6 +41,11 @@ both_in : (Q : Term → Term → Term → Type 0) → ((c : Context) (a t r : Te
     → (c : Context) (a b d t r : Term) → t ≡ plug c b → r ≡ plug c d → Q a b d → Q (plug c a) t r
 both_in Q g c a b d t r et er h =
     subst (λ (z : Term). Q (plug c a) z r) (sym et) (subst (λ (z : Term). Q (plug c a) (plug c b) z) (sym er) (g c a b d h))
+
+-- an access of a port is none of an array of the program's own
+port_no_array : (path : List ℕ) (R : Rel) (h a t : Term) → PortIndexAt path R h a t → (l : ℕ) → h ≡ Arr l → ⊥
+port_no_array (suc zero ∷ path) R h (Both n a) t ((x, e), b, f, k) l is = let bad : Wait x 0 ≡ Arr l = sym e ∙ is in cc bad
+port_no_array path R h a t k l is = absurd k
 
 mutual
   two_reached :
@@ -71,20 +79,36 @@ mutual
       (R S : Rel) (Q : Term → Term → Term → Type 0) → ((a t r : Term) → R a t → S a r → Q a t r)
       → ((c : Context) (a t r : Term) → Q a t r → Q (plug c a) (plug c t) (plug c r))
       → (path : List ℕ) (m m' m'' t r : Term) → t ≡ Deref m' → r ≡ Deref m'' → IndexAt path R m m' → IndexAt path S m m'' → Q (Deref m) t r
-  two_read R S Q f g (suc zero ∷ suc zero ∷ path) (App h (Both n a)) m' m'' t r e e' ((x, eh), b, em, u) ((y, eh'), d, em', v) =
+  two_read R S Q f g (suc zero ∷ path) (App h a) m' m'' t r e e' (inr ((l, eh), b, em, u)) (inr ((j, eh'), d, em', v)) =
+      let w : Term → Term = λ (z : Term). Deref z in
+      subst (λ (z : Term). Q z t r) (ap (λ (z : Term). w (App z a)) (sym eh))
+      (both_in Q g (ReadAt l) a b d t r (of_access w (λ (z : Term). z) (ReadAt l) h (Arr l) b m' t eh em e (λ z. refl))
+      (of_access w (λ (z : Term). z) (ReadAt l) h (Arr l) d m'' r eh em' e' (λ z. refl)) (two_reached R S Q f g path a b d u v))
+  two_read R S Q f g (suc zero ∷ suc zero ∷ path) (App h (Both n a)) m' m'' t r e e' (inl ((x, eh), b, em, u)) (inl ((y, eh'), d, em', v)) =
       subst (λ (z : Term). Q (Deref (App z (Both n a))) t r) (sym eh)
       (both_in Q g (ReadIndex x n) a b d t r (e ∙ ap (λ (z : Term). Deref z) (em ∙ ap (λ (z : Term). App z (Both n b)) eh))
       (e' ∙ ap (λ (z : Term). Deref z) (em' ∙ ap (λ (z : Term). App z (Both n d)) eh)) (two_reached R S Q f g path a b d u v))
+  two_read R S Q f g (suc zero ∷ path) (App h a) m' m'' t r e e' (inl u) (inr ((l, eh), d, em', v)) = absurd (port_no_array path R h a m' u l eh)
+  two_read R S Q f g (suc zero ∷ path) (App h a) m' m'' t r e e' (inr ((l, eh), b, em, u)) (inl v) = absurd (port_no_array path S h a m'' v l eh)
+  two_read R S Q f g (suc zero ∷ path) (App h a) m' m'' t r e e' (inl u) (inl v) = absurd u
   two_read R S Q f g path m m' m'' t r e e' h k = absurd h
 
   two_write :
       (R S : Rel) (Q : Term → Term → Term → Type 0) → ((a t r : Term) → R a t → S a r → Q a t r)
       → ((c : Context) (a t r : Term) → Q a t r → Q (plug c a) (plug c t) (plug c r))
       → (path : List ℕ) (m m' m'' t r : Term) (k : ℕ) → t ≡ Put m' k → r ≡ Put m'' k → IndexAt path R m m' → IndexAt path S m m'' → Q (Put m k) t r
-  two_write R S Q f g (suc zero ∷ suc zero ∷ path) (App h (Both n a)) m' m'' t r k e e' ((x, eh), b, em, u) ((y, eh'), d, em', v) =
+  two_write R S Q f g (suc zero ∷ path) (App h a) m' m'' t r k e e' (inr ((l, eh), b, em, u)) (inr ((j, eh'), d, em', v)) =
+      let w : Term → Term = λ (z : Term). Put z k in
+      subst (λ (z : Term). Q z t r) (ap (λ (z : Term). w (App z a)) (sym eh))
+      (both_in Q g (WriteAt l k) a b d t r (of_access w (λ (z : Term). z) (WriteAt l k) h (Arr l) b m' t eh em e (λ z. refl))
+      (of_access w (λ (z : Term). z) (WriteAt l k) h (Arr l) d m'' r eh em' e' (λ z. refl)) (two_reached R S Q f g path a b d u v))
+  two_write R S Q f g (suc zero ∷ suc zero ∷ path) (App h (Both n a)) m' m'' t r k e e' (inl ((x, eh), b, em, u)) (inl ((y, eh'), d, em', v)) =
       subst (λ (z : Term). Q (Put (App z (Both n a)) k) t r) (sym eh)
       (both_in Q g (WriteIndex x n k) a b d t r (e ∙ ap (λ (z : Term). Put z k) (em ∙ ap (λ (z : Term). App z (Both n b)) eh))
       (e' ∙ ap (λ (z : Term). Put z k) (em' ∙ ap (λ (z : Term). App z (Both n d)) eh)) (two_reached R S Q f g path a b d u v))
+  two_write R S Q f g (suc zero ∷ path) (App h a) m' m'' t r k e e' (inl u) (inr ((l, eh), d, em', v)) = absurd (port_no_array path R h a m' u l eh)
+  two_write R S Q f g (suc zero ∷ path) (App h a) m' m'' t r k e e' (inr ((l, eh), b, em, u)) (inl v) = absurd (port_no_array path S h a m'' v l eh)
+  two_write R S Q f g (suc zero ∷ path) (App h a) m' m'' t r k e e' (inl u) (inl v) = absurd u
   two_write R S Q f g path m m' m'' t r k e e' h l = absurd h
 
 -- an unfolding
@@ -92,6 +116,10 @@ under_no_index : (path : List ℕ) (m t r : Term) → UnderAt path Rewrites m t 
 under_no_index [] m t r h k = k
 under_no_index (zero ∷ path) m t r h k = k
 under_no_index (suc j ∷ path) m t r h k = h
+
+port_no_array_head : (path : List ℕ) (h a t : Term) → HeadInPortAt path Rewrites h a t → (l : ℕ) → h ≡ Arr l → ⊥
+port_no_array_head (suc zero ∷ path) h (Both n a) t ((x, e), b, f, k) l is = let bad : Wait x 0 ≡ Arr l = sym e ∙ is in cc bad
+port_no_array_head path h a t k l is = absurd k
 
 mutual
   head_one : (path : List ℕ) (m t r : Term) → HeadAt path Rewrites m t → HeadAt path Rewrites m r → t ≡ r
@@ -124,8 +152,13 @@ mutual
   head_one (i ∷ path) m t r h k = absurd h
 
   index_one : (path : List ℕ) (m t r : Term) → HeadInIndexAt path Rewrites m t → HeadInIndexAt path Rewrites m r → t ≡ r
-  index_one (suc zero ∷ suc zero ∷ path) (App g (Both n a)) t r (head, b, e, h) (other, d, f, k) =
+  index_one (suc zero ∷ path) (App g a) t r (inr (place, b, e, h)) (inr (other, d, f, k)) =
+      e ∙ (ap (λ (z : Term). App g z) (head_one path a b d h k) ∙ sym f)
+  index_one (suc zero ∷ suc zero ∷ path) (App g (Both n a)) t r (inl (head, b, e, h)) (inl (other, d, f, k)) =
       e ∙ (ap (λ (z : Term). App g (Both n z)) (head_one path a b d h k) ∙ sym f)
+  index_one (suc zero ∷ path) (App g a) t r (inl h) (inr ((l, is), d, f, k)) = absurd (port_no_array_head path g a t h l is)
+  index_one (suc zero ∷ path) (App g a) t r (inr ((l, is), b, e, h)) (inl k) = absurd (port_no_array_head path g a r k l is)
+  index_one (suc zero ∷ path) (App g a) t r (inl h) (inl k) = absurd h
   index_one path m t r h k = absurd h
 
 -- a label
@@ -211,7 +244,7 @@ label_one i o a t r (inr h) g = absurd h
 -- a computation step leads to one term and one store, or both take locations
 abbrev Taken : Store → Store → Store → Term → Term → Term → Type 0
 Taken s u v a t r =
-    (l : ℕ) × (k : ℕ) × (w : ℕ) × (u ≡ fresh l w ∷ s) × (v ≡ fresh k w ∷ s) × (entry_at s l ≡ None) × (entry_at s k ≡ None)
+    (l : ℕ) × (k : ℕ) × (w : Shape) × (u ≡ fresh l w ∷ s) × (v ≡ fresh k w ∷ s) × (entry_at s l ≡ None) × (entry_at s k ≡ None)
     × (Fixes (swapped l k) (things 0 a) → r ≡ renamed (swapped l k) t)
 
 abbrev Fate : Store → Store → Store → Term → Term → Term → Type 0
@@ -238,23 +271,14 @@ abbrev width_of : Term → ℕ
 width_of (Lit k w) = w
 width_of m = 0
 
-abbrev location_of : Term → ℕ
-location_of (Loc l) = l
-location_of m = 0
-
 same_number : (m : Term) (k w j v : ℕ) → m ≡ Lit k w → m ≡ Lit j v → k ≡ j
 same_number m k w j v e f = ap number_of (sym e ∙ f)
 
 same_width : (m : Term) (k w j v : ℕ) → m ≡ Lit k w → m ≡ Lit j v → w ≡ v
 same_width m k w j v e f = ap width_of (sym e ∙ f)
 
-same_place : (m : Term) (l k : ℕ) → m ≡ Loc l → m ≡ Loc k → l ≡ k
-same_place m l k e f = ap location_of (sym e ∙ f)
-
-same_entry : (s : Store) (m : Term) (e d : Entry) → m ≡ Loc e.place → m ≡ Loc d.place → entry_at s e.place ≡ Some e → entry_at s d.place ≡ Some d
-    → e ≡ d
-same_entry s m e d em dm he hd =
-    let both : Some e ≡ Some d = sym he ∙ (ap (entry_at s) (same_place m e.place d.place em dm) ∙ hd) in cc both
+same_entry : (s : Store) (e d : Entry) → e.place ≡ d.place → entry_at s e.place ≡ Some e → entry_at s d.place ≡ Some d → e ≡ d
+same_entry s e d place he hd = let both : Some e ≡ Some d = sym he ∙ (ap (entry_at s) place ∙ hd) in cc both
 
 -- a test gave 1 or 0
 one_test : (m : Term) → m ≡ Lit 1 1 → m ≡ Lit 0 1 → ⊥
@@ -280,18 +304,21 @@ row_fate s u v (Not m) t r (k, w, em, et, es) (j, x, fm, er, ev) =
     inl (et ∙ ((λ i. Lit (complement (widths i) (numbers i)) (widths i)) ∙ sym er), es ∙ sym ev)
 row_fate s u v (Assign m n) t r (k, w, en, et, es) (j, x, fn, er, ev) =
     inl (et ∙ (ap (λ (z : ℕ). Put m z) (same_number n k w j x en fn) ∙ sym er), es ∙ sym ev)
-row_fate s u v (Put m k) t r (e, old, em, here, has, et, es) (d, new, dm, there, have, er, ev) =
-    inl (et ∙ sym er, es ∙ (ap (λ (z : ℕ). store_put s z 0 k) (same_place m e.place d.place em dm) ∙ sym ev))
-row_fate s u v (Deref m) t r (e, old, em, here, has, et, es) (d, new, dm, there, have, er, ev) =
-    let entries = same_entry s m e d em dm here there in
-    let number : old ≡ new = same_Some old new (sym has ∙ (ap (λ (z : Entry). slice_get z.numbers 0) entries ∙ have)) in
+row_fate s u v (Put m k) t r (e, i, old, em, here, has, et, es) (d, j, new, dm, there, have, er, ev) =
+    let (place, index) = one_number m e.place i d.place j em dm in
+    inl (et ∙ sym er, es ∙ (ap (λ (z : ℕ). store_put s z i k) place ∙ (ap (λ (z : ℕ). store_put s d.place z k) index ∙ sym ev)))
+row_fate s u v (Deref m) t r (e, i, old, em, here, has, et, es) (d, j, new, dm, there, have, er, ev) =
+    let (place, index) = one_number m e.place i d.place j em dm in
+    let entries = same_entry s e d place here there in
+    let number : old ≡ new =
+    same_Some old new (sym has ∙ (ap (λ (z : Entry). slice_get z.numbers i) entries ∙ (ap (slice_get d.numbers) index ∙ have))) in
     let width : e.width ≡ d.width = ap (λ (z : Entry). z.width) entries in
     inl (et ∙ ((λ i. Lit (number i) (width i)) ∙ sym er), es ∙ sym ev)
 row_fate s u v (New w m) t r (l, lacks_l, et, es) (k, lacks_k, er, ev) =
     inr (
       l,
       k,
-      w,
+      shape 1 w,
       es,
       ev,
       lacks_l,
@@ -303,11 +330,27 @@ row_fate s u v (New w m) t r (l, lacks_l, et, es) (k, lacks_k, er, ev) =
           er ∙ sym (ap (renamed sw) et ∙ (ap (λ (z : Term). Scope (sw l) z) (renamed_put sw m 0 (Loc l))
           ∙ (λ i. Scope (first i) (put_at 0 (Loc (first i)) (body i))))),
     )
+row_fate s u v (NewArray n w m) t r (l, lacks_l, et, es) (k, lacks_k, er, ev) =
+    inr (
+      l,
+      k,
+      shape n w,
+      es,
+      ev,
+      lacks_l,
+      lacks_k,
+      λ fixes.
+          let sw : ℕ → ℕ = swapped l k in
+          let first = swapped_first l k in
+          let body = fixed sw m 1 fixes in
+          er ∙ sym (ap (renamed sw) et ∙ (ap (λ (z : Term). Scope (sw l) z) (renamed_put sw m 0 (Arr l))
+          ∙ (λ i. Scope (first i) (put_at 0 (Arr (first i)) (body i))))),
+    )
 row_fate s u v (Scope l m) t r (is, et, es) (js, er, ev) = inl (et ∙ sym er, es ∙ sym ev)
 row_fate s u v a t r h g = absurd h
 
 -- two stores that took a location each
-taken_stores : (s : Store) (l k w : ℕ) → entry_at s l ≡ None → entry_at s k ≡ None → Corresponds (swapped l k) (fresh l w ∷ s) (fresh k w ∷ s)
+taken_stores : (s : Store) (l k : ℕ) (w : Shape) → entry_at s l ≡ None → entry_at s k ≡ None → Corresponds (swapped l k) (fresh l w ∷ s) (fresh k w ∷ s)
 taken_stores s l k w lacks_l lacks_k x = number_cases l x (λ same t. subst At same first) (λ h f. number_cases k x (λ same t. subst At same (second (λ e. h (e ∙ same)))) (λ g e. third h g))
   where
     At : ℕ → Type 0

@@ -4,10 +4,10 @@ use Rattle.std.proofs.Common.{arith, refl, sym, ap, subst, inl, inr, ◌∙◌}
 use Rattle.std.proofs.lemmas.Bool.{eq-eqb, ne_eqb}
 use Rattle.gos_model.specs.Terms.{Term, Par}
 use Rattle.gos_model.specs.Typing.{Imports, Place, things, Apart}
-use Rattle.gos_model.specs.Stores.{Entry, variable_at, Store, entry_at}
+use Rattle.gos_model.specs.Stores.{Entry, Store, entry_at, array_at}
 use Rattle.gos_model.specs.Moves.{Running}
 use Rattle.gos_model.proofs.NumberLemmas.{number_cases}
-use Rattle.gos_programs.specs.contexts.Contexts.{Context, SeqFirst, ParLeft, ParRight, IfTest, BinLeft, HeldRight, NotOf, AssignRight, ScopeBody, ReadIndex, WriteIndex, plug, plug_all}
+use Rattle.gos_programs.specs.contexts.Contexts.{Context, SeqFirst, ParLeft, ParRight, IfTest, BinLeft, HeldRight, NotOf, AssignRight, ScopeBody, ReadIndex, WriteIndex, plug, plug_all, ReadAt, WriteAt}
 use Rattle.gos_programs.specs.contexts.Renaming.{renamed}
 use Rattle.gos_programs.specs.contexts.SameStores.{SameEntries}
 use Rattle.gos_programs.specs.contexts.Standing.{Present, StandsIn}
@@ -17,7 +17,7 @@ use Rattle.gos_swaps.specs.doings.Doings.{Doing, DoesAt}
 use Rattle.gos_swaps.specs.doings.Sides.{OnSides}
 use Rattle.gos_swaps.specs.proper.Proper.{PartsApart}
 use Rattle.gos_swaps.specs.orders.Alike.{Renaming, Alike}
-use Rattle.gos_swaps.specs.orders.Effects.{Effect, Stays, Writes, Opens, Closes, applied, renamed_effect, IsFree, IsOwn, carried, HasEffect}
+use Rattle.gos_swaps.specs.orders.Effects.{Shape, Effect, Stays, Writes, Opens, Closes, applied, renamed_effect, IsFree, IsOwn, carried, HasEffect}
 use Rattle.gos_swaps.specs.orders.Orders.{EitherOrder}
 use Rattle.gos_swaps.proofs.doings.PlaceLemmas.{does_on_left, does_on_right}
 use Rattle.gos_swaps.proofs.doings.SideLemmas.{places_are_on_sides}
@@ -39,6 +39,8 @@ apart_in (AssignRight n) m h = h.1
 apart_in (ScopeBody l) m h = h
 apart_in (ReadIndex x n) m h = h.2.1
 apart_in (WriteIndex x n k) m h = h.2.1
+apart_in (ReadAt l) m h = h.2
+apart_in (WriteAt l k) m h = h.2
 
 stands_in : (s : Store) (c : Context) (m : Term) → StandsIn s (plug c m) → StandsIn s m
 stands_in s (SeqFirst n) m h = h.0
@@ -52,6 +54,8 @@ stands_in s (AssignRight n) m h = h.1
 stands_in s (ScopeBody l) m h = h.1
 stands_in s (ReadIndex x n) m h = h.1.1
 stands_in s (WriteIndex x n k) m h = h.1.1
+stands_in s (ReadAt l) m h = h.1
+stands_in s (WriteAt l k) m h = h.1
 
 apart_through : (cs : List Context) (m : Term) → PartsApart (plug_all cs m) → PartsApart m
 apart_through [] m h = h
@@ -100,7 +104,7 @@ clash_of (Opens l w) (Opens k v) x h g = h ∙ sym g
 clash_of (Opens l w) f x h g = absurd g
 clash_of e f x h g = absurd h
 
-clash_cases : {P : Type 0} (e f : Effect) → ((l w v : ℕ) → e ≡ Opens l w → f ≡ Opens l v → P) → ((Clash e f → ⊥) → P) → P
+clash_cases : {P : Type 0} (e f : Effect) → ((l : ℕ) (w v : Shape) → e ≡ Opens l w → f ≡ Opens l v → P) → ((Clash e f → ⊥) → P) → P
 clash_cases (Opens l w) (Opens k v) one none =
     number_cases l k (λ same b. one l w v refl (ap (λ (z : ℕ). Opens z v) (sym same))) (λ other b. none other)
 clash_cases (Opens l w) Stays one none = none (λ h. h)
@@ -184,8 +188,8 @@ carried_fixed r s x fix = found (entry_at s x) refl
     found (Some e) h =
         let place = entry_place s x e h in ap (λ (l : ℕ). Some (record e { place = l })) (ap r place ∙ (fix ∙ sym place))
 
-abbrev pub fresh : ℕ → ℕ → Entry
-fresh l w = variable_at l w 0
+abbrev pub fresh : ℕ → Shape → Entry
+fresh l w = array_at l w.width w.count
 
 -- two locations that a store lacks
 module _ (s : Store) (l k : ℕ) (lacks_l : entry_at s l ≡ None) (lacks_k : entry_at s k ≡ None) where
@@ -203,7 +207,7 @@ module _ (s : Store) (l k : ℕ) (lacks_l : entry_at s l ≡ None) (lacks_k : en
 
   -- the doing that takes l takes k after another took l
   taken_after :
-      (other : l ≢ k) (i : Imports) (path : List ℕ) (b : Doing) (v u : Store) (m t : Term) (f : HasEffect i path b s v m t) (w n : ℕ)
+      (other : l ≢ k) (i : Imports) (path : List ℕ) (b : Doing) (v u : Store) (m t : Term) (f : HasEffect i path b s v m t) (w n : Shape)
       → f.effect ≡ Opens l n → u ≡ fresh l w ∷ s → StandsIn s m
       → DoesAt i path b u (fresh k n ∷ u) m (renamed (swapped l k) t)
   taken_after other i path b v u m t f w n takes leads st =
@@ -228,33 +232,33 @@ module _ (s : Store) (l k : ℕ) (lacks_l : entry_at s l ≡ None) (lacks_k : en
       moved : DoesAt i path b u (fresh k n ∷ u) (renamed sw m) (renamed sw t)
       moved = subst (λ (z : Store). DoesAt i path b u z (renamed sw m) (renamed sw t)) store (f.again sw u serves free)
 
-  abbrev old : ℕ → ℕ → Store
+  abbrev old : Shape → Shape → Store
   old w n = fresh k n ∷ fresh l w ∷ s
 
-  abbrev new : ℕ → ℕ → Store
+  abbrev new : Shape → Shape → Store
   new w n = fresh k w ∷ fresh l n ∷ s
 
-  abbrev SameAt : ℕ → ℕ → ℕ → Type 0
+  abbrev SameAt : Shape → Shape → ℕ → Type 0
   SameAt w n z = entry_at (new w n) (sw z) ≡ carried sw (entry_at (old w n) z)
 
-  same_first : (other : l ≢ k) (w n : ℕ) → SameAt w n l
+  same_first : (other : l ≢ k) (w n : Shape) → SameAt w n l
   same_first other w n =
       ap (entry_at (new w n)) (swapped_first l k) ∙ (first_at (fresh k w) (fresh l n ∷ s) k refl
       ∙ sym (ap (carried sw) (later_at (fresh k n) (fresh l w ∷ s) l (λ e. other (sym e)) ∙ first_at (fresh l w) s l refl)
       ∙ ap (λ (z : ℕ). Some (fresh z w)) (swapped_first l k)))
 
-  same_second : (other : l ≢ k) (w n : ℕ) → SameAt w n k
+  same_second : (other : l ≢ k) (w n : Shape) → SameAt w n k
   same_second other w n =
       ap (entry_at (new w n)) (swapped_second l k) ∙ ((later_at (fresh k w) (fresh l n ∷ s) l (λ e. other (sym e)) ∙ first_at (fresh l n) s l refl)
       ∙ sym (ap (carried sw) (first_at (fresh k n) (fresh l w ∷ s) k refl) ∙ ap (λ (z : ℕ). Some (fresh z n)) (swapped_second l k)))
 
-  same_third : (w n x : ℕ) → l ≢ x → k ≢ x → SameAt w n x
+  same_third : (w n : Shape) (x : ℕ) → l ≢ x → k ≢ x → SameAt w n x
   same_third w n x h g =
       let fix : sw x ≡ x = swapped_other l k x (λ e. h (sym e)) (λ e. g (sym e)) in
       ap (entry_at (new w n)) fix ∙ ((later_at (fresh k w) (fresh l n ∷ s) x g ∙ later_at (fresh l n) s x h)
       ∙ (sym (carried_fixed sw s x fix) ∙ ap (carried sw) (sym (later_at (fresh k n) (fresh l w ∷ s) x g ∙ later_at (fresh l w) s x h))))
 
-  stores_swapped : (other : l ≢ k) (w n : ℕ) → Corresponds (swapped l k) (old w n) (new w n)
+  stores_swapped : (other : l ≢ k) (w n : Shape) → Corresponds (swapped l k) (old w n) (new w n)
   stores_swapped other w n x =
       number_cases l x (λ same t. subst (SameAt w n) same (same_first other w n))
       (λ h f. number_cases k x (λ same t. subst (SameAt w n) same (same_second other w n)) (λ g e. same_third w n x h g))
@@ -313,7 +317,7 @@ module _
       )
 
   -- where both take location l, the later one takes another
-  with_clash : (l w n : ℕ) → left_effect.effect ≡ Opens l w → right_effect.effect ≡ Opens l n → BothOrders i p q a b u v t r
+  with_clash : (l : ℕ) (w n : Shape) → left_effect.effect ≡ Opens l w → right_effect.effect ≡ Opens l n → BothOrders i p q a b u v t r
   with_clash l w n takes_w takes_n =
       let e = left_effect in
       let f = right_effect in

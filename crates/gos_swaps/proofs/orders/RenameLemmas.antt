@@ -2,13 +2,13 @@
 use Rattle.std.specs.Prelude.{◌≡◌, ℕ, zero, suc, List, [], ◌∷◌, ◌++◌, Contains, Option, Some}
 use Rattle.std.proofs.Common.{refl, ap, inl, inr, ◌∙◌}
 use Rattle.gos_types.specs.Types.{Type', Com, Exp, Var}
-use Rattle.gos_model.specs.Terms.{Name, Term, Skip, Lit, Bound, Import, Lam, App, Both, Fst, Snd, Seq, Par, If, While, Assign, Deref, New, Not, Bin, Loc, Scope, Wait, Held, Put}
+use Rattle.gos_model.specs.Terms.{Name, Term, Skip, Lit, Bound, Import, Lam, App, Both, Fst, Snd, Seq, Par, If, While, Assign, Deref, New, Not, Bin, Loc, Scope, Wait, Held, Put, NewArray, Arr}
 use Rattle.gos_model.specs.Typing.{Imports, Thing, Named, Place, things, import_type}
 use Rattle.gos_model.specs.Reach.{Rel, Rewrites}
 use Rattle.gos_model.specs.Paths.{ReachedAt}
 use Rattle.gos_model.specs.Labels.{Label, IsAnswer}
 use Rattle.gos_model.proofs.AccessMapLemmas.{GoesInto, puts_mapped, reads_mapped, writes_mapped}
-use Rattle.gos_programs.specs.contexts.Contexts.{Context, SeqFirst, ParLeft, ParRight, IfTest, BinLeft, HeldRight, NotOf, AssignRight, ScopeBody, ReadIndex, WriteIndex, plug, plug_all}
+use Rattle.gos_programs.specs.contexts.Contexts.{Context, SeqFirst, ParLeft, ParRight, IfTest, BinLeft, HeldRight, NotOf, AssignRight, ScopeBody, ReadIndex, WriteIndex, plug, plug_all, ReadAt, WriteAt}
 use Rattle.gos_programs.specs.contexts.Renaming.{renamed}
 use Rattle.gos_programs.proofs.contexts.BackwardLemmas.{OneLabel}
 use Rattle.gos_programs.proofs.contexts.RenamedLemmas.{renamed_put}
@@ -35,9 +35,11 @@ renamed_on q r (While m n) = λ i. While (renamed_on q r m i) (renamed_on q r n 
 renamed_on q r (Assign m n) = λ i. Assign (renamed_on q r m i) (renamed_on q r n i)
 renamed_on q r (Deref m) = λ i. Deref (renamed_on q r m i)
 renamed_on q r (New w m) = λ i. New w (renamed_on q r m i)
+renamed_on q r (NewArray n w m) = λ i. NewArray n w (renamed_on q r m i)
 renamed_on q r (Not m) = λ i. Not (renamed_on q r m i)
 renamed_on q r (Bin op m n) = λ i. Bin op (renamed_on q r m i) (renamed_on q r n i)
 renamed_on q r (Loc l) = refl
+renamed_on q r (Arr l) = refl
 renamed_on q r (Scope l m) = λ i. Scope (q (r l)) (renamed_on q r m i)
 renamed_on q r (Wait x s) = refl
 renamed_on q r (Held k op n) = λ i. Held k op (renamed_on q r n i)
@@ -82,10 +84,12 @@ fixed r (Assign m n) c f =
     λ i. Assign (fixed r m c (fixes_left r (things c m) (things c n) f) i) (fixed r n c (fixes_right r (things c m) (things c n) f) i)
 fixed r (Deref m) c f = λ i. Deref (fixed r m c f i)
 fixed r (New w m) c f = λ i. New w (fixed r m (suc c) f i)
+fixed r (NewArray n w m) c f = λ i. NewArray n w (fixed r m (suc c) f i)
 fixed r (Not m) c f = λ i. Not (fixed r m c f i)
 fixed r (Bin op m n) c f =
     λ i. Bin op (fixed r m c (fixes_left r (things c m) (things c n) f) i) (fixed r n c (fixes_right r (things c m) (things c n) f) i)
 fixed r (Loc l) c f = λ i. Loc (f l (there (Place l)) i)
+fixed r (Arr l) c f = λ i. Arr (f l (there (Place l)) i)
 fixed r (Scope l m) c f =
     λ i. Scope (f l (left_part (Place l ∷ []) (things c m) (Place l) (there (Place l))) i) (fixed r m c (fixes_right r (Place l ∷ []) (things c m) f) i)
 fixed r (Wait x s) c f = refl
@@ -117,6 +121,10 @@ around_one r (ReadIndex z n) x y f =
 around_one r (WriteIndex z n k) x y f =
     let left : Fixes r (things 0 n) = fixes_left r (things 0 n) (things 0 x) (fixes_right r (Named z ∷ []) (things 0 n ++ things 0 x) f) in
     λ i. Put (App (Wait z 0) (Both (fixed r n 0 left i) (renamed r y))) k
+around_one r (ReadAt l) x y f =
+    λ i. Deref (App (Arr (f l (left_part (Place l ∷ []) (things 0 x) (Place l) (there (Place l))) i)) (renamed r y))
+around_one r (WriteAt l k) x y f =
+    λ i. Put (App (Arr (f l (left_part (Place l ∷ []) (things 0 x) (Place l) (there (Place l))) i)) (renamed r y)) k
 
 pub around_all : (r : ℕ → ℕ) (cs : List Context) (x y : Term) → Fixes r (things 0 (plug_all cs x)) → renamed r (plug_all cs y) ≡ plug_all cs (renamed r y)
 around_all r [] x y f = refl
@@ -136,8 +144,10 @@ reached_renamed_in r R (HeldRight k op) path a b h = (renamed r b, refl, h)
 reached_renamed_in r R NotOf path a b h = (renamed r b, refl, h)
 reached_renamed_in r R (AssignRight n) path a b h = (renamed r b, refl, h)
 reached_renamed_in r R (ScopeBody l) path a b h = (renamed r b, refl, h)
-reached_renamed_in r R (ReadIndex x n) path a b h = (App (Wait x 0) (Both (renamed r n) (renamed r b)), refl, ((x, refl), renamed r b, refl, h))
-reached_renamed_in r R (WriteIndex x n k) path a b h = (App (Wait x 0) (Both (renamed r n) (renamed r b)), refl, ((x, refl), renamed r b, refl, h))
+reached_renamed_in r R (ReadIndex x n) path a b h = (App (Wait x 0) (Both (renamed r n) (renamed r b)), refl, inl ((x, refl), renamed r b, refl, h))
+reached_renamed_in r R (WriteIndex x n k) path a b h = (App (Wait x 0) (Both (renamed r n) (renamed r b)), refl, inl ((x, refl), renamed r b, refl, h))
+reached_renamed_in r R (ReadAt l) path a b h = (App (Arr (r l)) (renamed r b), refl, inr ((r l, refl), renamed r b, refl, h))
+reached_renamed_in r R (WriteAt l k) path a b h = (App (Arr (r l)) (renamed r b), refl, inr ((r l, refl), renamed r b, refl, h))
 
 head_in : (r : ℕ → ℕ) (R : Rel) (c : Context) (path : List ℕ) (a b : Term) → HeadAt path R (renamed r a) (renamed r b)
     → HeadAt (way c ++ path) R (renamed r (plug c a)) (renamed r (plug c b))
@@ -150,8 +160,10 @@ head_in r R (HeldRight k op) path a b h = (renamed r b, refl, h)
 head_in r R NotOf path a b h = (renamed r b, refl, h)
 head_in r R (AssignRight n) path a b h = (renamed r b, refl, h)
 head_in r R (ScopeBody l) path a b h = (renamed r b, refl, h)
-head_in r R (ReadIndex x n) path a b h = (App (Wait x 0) (Both (renamed r n) (renamed r b)), refl, inr ((x, refl), renamed r b, refl, h))
-head_in r R (WriteIndex x n k) path a b h = (App (Wait x 0) (Both (renamed r n) (renamed r b)), refl, inr ((x, refl), renamed r b, refl, h))
+head_in r R (ReadIndex x n) path a b h = (App (Wait x 0) (Both (renamed r n) (renamed r b)), refl, inr (inl ((x, refl), renamed r b, refl, h)))
+head_in r R (WriteIndex x n k) path a b h = (App (Wait x 0) (Both (renamed r n) (renamed r b)), refl, inr (inl ((x, refl), renamed r b, refl, h)))
+head_in r R (ReadAt l) path a b h = (App (Arr (r l)) (renamed r b), refl, inr (inr ((r l, refl), renamed r b, refl, h)))
+head_in r R (WriteAt l k) path a b h = (App (Arr (r l)) (renamed r b), refl, inr (inr ((r l, refl), renamed r b, refl, h)))
 
 -- an unfolding
 rewrites_renamed : (r : ℕ → ℕ) (m t : Term) → Rewrites m t → Rewrites (renamed r m) (renamed r t)

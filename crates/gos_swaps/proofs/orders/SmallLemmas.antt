@@ -87,10 +87,10 @@ shared_apart (r, e, h) =
 
 pub shared_names_tell_order : SharedNamesTellOrder
 shared_names_tell_order = (
-  (Par Skip (Put (Loc 0) 1), refl, (Skip, refl, (variable_at 0 1 0, 0, refl, refl, refl, refl, refl))),
-  (Par Skip Skip, refl, (Skip, refl, (variable_at 0 1 0, 0, refl, refl, refl, refl, refl))),
-  (Par (Put (Loc 0) 0) Skip, refl, (Skip, refl, (variable_at 0 1 0, 0, refl, refl, refl, refl, refl))),
-  (Par Skip Skip, refl, (Skip, refl, (variable_at 0 1 1, 1, refl, refl, refl, refl, refl))),
+  (Par Skip (Put (Loc 0) 1), refl, (Skip, refl, (variable_at 0 1 0, 0, 0, inl (refl, refl), refl, refl, refl, refl))),
+  (Par Skip Skip, refl, (Skip, refl, (variable_at 0 1 0, 0, 0, inl (refl, refl), refl, refl, refl, refl))),
+  (Par (Put (Loc 0) 0) Skip, refl, (Skip, refl, (variable_at 0 1 0, 0, 0, inl (refl, refl), refl, refl, refl, refl))),
+  (Par Skip Skip, refl, (Skip, refl, (variable_at 0 1 1, 0, 1, inl (refl, refl), refl, refl, refl, refl))),
   shared_apart,
   λ p. p.0 (Place 0) (there (Place 0)) (there (Place 0)),
 )

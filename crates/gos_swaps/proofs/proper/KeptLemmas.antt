@@ -35,7 +35,9 @@ mutual
   open_present s m l st h = absurd h
 
   index_present : (s : Store) (m : Term) (l : ℕ) → StandsIn s m → IsOpenInIndex l m → Present s l
-  index_present s (App g (Both n a)) l st (head, h) = open_present s a l st.1.1 h
+  index_present s (App g a) l st (inr (place, h)) = open_present s a l st.1 h
+  index_present s (App g (Both n a)) l st (inl (head, h)) = open_present s a l st.1.1 h
+  index_present s (App g a) l st (inl h) = absurd h
   index_present s m l st h = absurd h
 
 standing_of : (m : Term) (s : Store) → IsProper m s → Standing m s

@@ -4,9 +4,9 @@ use Rattle.std.proofs.Common.{arith, refl, sym, ap, subst}
 use Rattle.std.proofs.lemmas.Bool.Decides.{nat_tests}
 use Rattle.std.proofs.lemmas.Option.{slice_get_within}
 use Rattle.gos_types.specs.Types.{Type', Com, Exp, Var, Pair, Fun}
-use Rattle.gos_model.specs.Terms.{Term, Skip, Lit, Bound, Import, Lam, App, Both, Fst, Snd, Seq, Par, If, While, Assign, Deref, New, Not, Bin, Loc, Scope, Wait, Held, Put}
+use Rattle.gos_model.specs.Terms.{Term, Skip, Lit, Bound, Import, Lam, App, Both, Fst, Snd, Seq, Par, If, While, Assign, Deref, New, Not, Bin, Loc, Scope, Wait, Held, Put, NewArray, Arr}
 use Rattle.gos_model.specs.Stores.{Store}
-use Rattle.gos_model.specs.Typing.{Imports, Thing, Variable, Named, Place, things, Typed}
+use Rattle.gos_model.specs.Typing.{Imports, Thing, Variable, Named, Place, things, Typed, array_type}
 use Rattle.gos_model.specs.Reach.{Unfolds}
 use Rattle.gos_model.specs.Moves.{Program, Config, Idle, Running, Act, Unfoldings, Move, Moves}
 use Rattle.gos_programs.specs.contexts.Standing.{StandsIn}
@@ -37,9 +37,11 @@ sources_are_apart i g (While m n) t (e, h, k) = (sources_are_apart i g m (Exp 1)
 sources_are_apart i g (Assign m n) t (w, e, h, k) = (sources_are_apart i g m (Var w) h, sources_are_apart i g n (Exp w) k)
 sources_are_apart i g (Deref m) t (w, e, h) = sources_are_apart i g m (Var w) h
 sources_are_apart i g (New w m) t (d, k, h) = sources_are_apart i (Var w ∷ g) m t h
+sources_are_apart i g (NewArray n w m) t (d, l, k, h) = sources_are_apart i (array_type n w ∷ g) m t h
 sources_are_apart i g (Not m) t (w, e, h) = sources_are_apart i g m (Exp w) h
 sources_are_apart i g (Bin op m n) t (w, e, h, k) = (sources_are_apart i g m (Exp w) h, sources_are_apart i g n (Exp w) k)
 sources_are_apart i g (Loc l) t h = absurd h
+sources_are_apart i g (Arr l) t h = absurd h
 sources_are_apart i g (Scope l m) t h = absurd h
 sources_are_apart i g (Wait x s) t h = absurd h
 sources_are_apart i g (Held k op n) t h = absurd h
@@ -90,10 +92,12 @@ typed_within i g (Assign m n) t c e (w, et, h, j) k =
     by_parts (things c m) (things c n) (Variable e) (typed_within i g m (Var w) c e h) (typed_within i g n (Exp w) c e j) k
 typed_within i g (Deref m) t c e (w, et, h) k = typed_within i g m (Var w) c e h k
 typed_within i g (New w m) t c e (d, is, h) k = let l = typed_within i (Var w ∷ g) m t (suc c) e h k in omega (arith, l)
+typed_within i g (NewArray n w m) t c e (d, many, is, h) k = let l = typed_within i (array_type n w ∷ g) m t (suc c) e h k in omega (arith, l)
 typed_within i g (Not m) t c e (w, et, h) k = typed_within i g m (Exp w) c e h k
 typed_within i g (Bin op m n) t c e (w, et, h, j) k =
     by_parts (things c m) (things c n) (Variable e) (typed_within i g m (Exp w) c e h) (typed_within i g n (Exp w) c e j) k
 typed_within i g (Loc l) t c e h k = absurd h
+typed_within i g (Arr l) t c e h k = absurd h
 typed_within i g (Scope l m) t c e h k = absurd h
 typed_within i g (Wait x s) t c e h k = absurd h
 typed_within i g (Held n op m) t c e h k = absurd h

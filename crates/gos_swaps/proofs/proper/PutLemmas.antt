@@ -2,7 +2,7 @@
 use Rattle.std.specs.Prelude.{◌≡◌, ◌≢◌, ◌⊎◌, ◌+◌, ◌-◌, ℕ, suc, Bool, true, false, ◌||◌, List, [], ◌∷◌, ◌++◌, Contains, nat_eq, nat_lt, if◌then◌else◌}
 use Rattle.std.proofs.Common.{arith, refl, sym, subst, inl, inr, ◌∙◌}
 use Rattle.std.proofs.lemmas.Bool.Decides.{nat_tests}
-use Rattle.gos_model.specs.Terms.{Term, Skip, Lit, Bound, Import, Lam, App, Both, Fst, Snd, Seq, Par, If, While, Assign, Deref, New, Not, Bin, Loc, Scope, Wait, Held, Put}
+use Rattle.gos_model.specs.Terms.{Term, Skip, Lit, Bound, Import, Lam, App, Both, Fst, Snd, Seq, Par, If, While, Assign, Deref, New, Not, Bin, Loc, Scope, Wait, Held, Put, NewArray, Arr}
 use Rattle.gos_model.specs.Substitution.{put_at}
 use Rattle.gos_model.specs.Typing.{Thing, Variable, Named, Place, things, Apart}
 use Rattle.gos_swaps.specs.proper.Proper.{PartsApart, IsClosed, PuttingKeepsApart}
@@ -87,10 +87,12 @@ things_put (Assign m n) c d q x closed h =
     put_two c d q m n x (Assign m n) refl refl (things_put m c d q x closed) (things_put n c d q x closed) h
 things_put (Deref m) c d q x closed h = things_put m c d q x closed h
 things_put (New w m) c d q x closed h = under_one_more c d q m (New w m) x refl refl (things_put m (suc c) (suc d) q x closed h)
+things_put (NewArray n w m) c d q x closed h = under_one_more c d q m (NewArray n w m) x refl refl (things_put m (suc c) (suc d) q x closed h)
 things_put (Not m) c d q x closed h = things_put m c d q x closed h
 things_put (Bin op m n) c d q x closed h =
     put_two c d q m n x (Bin op m n) refl refl (things_put m c d q x closed) (things_put n c d q x closed) h
 things_put (Loc l) c d q x closed h = put_steady c d q (Place l) (Loc l) x tt refl h
+things_put (Arr l) c d q x closed h = put_steady c d q (Place l) (Arr l) x tt refl h
 things_put (Scope l m) c d q x closed h =
     put_two c d q (Loc l) m x (Scope l m) refl refl (put_steady c d q (Place l) (Loc l) x tt refl) (things_put m c d q x closed) h
 things_put (Wait y s) c d q x closed h = put_steady c d q (Named y) (Wait y s) x tt refl h
@@ -158,10 +160,12 @@ apart_put (Assign m n) d q closed a (p, o) r =
     (apart_put m d q closed (left_apart m n (Assign m n) q refl a) p r, apart_put n d q closed (right_apart m n (Assign m n) q refl a) o r)
 apart_put (Deref m) d q closed a p r = apart_put m d q closed a p r
 apart_put (New w m) d q closed a p r = apart_put m (suc d) q closed (under_apart m q closed a) p r
+apart_put (NewArray n w m) d q closed a p r = apart_put m (suc d) q closed (under_apart m q closed a) p r
 apart_put (Not m) d q closed a p r = apart_put m d q closed a p r
 apart_put (Bin op m n) d q closed a (p, o) r =
     (apart_put m d q closed (left_apart m n (Bin op m n) q refl a) p r, apart_put n d q closed (right_apart m n (Bin op m n) q refl a) o r)
 apart_put (Loc l) d q closed a p r = tt
+apart_put (Arr l) d q closed a p r = tt
 apart_put (Scope l m) d q closed a p r = apart_put m d q closed (right_apart (Loc l) m (Scope l m) q refl a) p r
 apart_put (Wait x s) d q closed a p r = tt
 apart_put (Held k op n) d q closed a p r = apart_put n d q closed a p r

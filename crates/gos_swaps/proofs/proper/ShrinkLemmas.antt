@@ -2,7 +2,7 @@
 use Rattle.std.specs.Prelude.{◌≡◌, ◌⊎◌, ◌+◌, ℕ, zero, suc, true, List, [], ◌∷◌, ◌++◌, Contains, Option, Some, None}
 use Rattle.std.proofs.Common.{arith, refl, sym, subst, inl, inr}
 use Rattle.gos_types.specs.Types.{Type', Com, Exp, Var}
-use Rattle.gos_model.specs.Terms.{Name, Term, Skip, Lit, Import, Lam, App, Both, Fst, Snd, Seq, Par, If, While, Assign, Deref, New, Not, Bin, Loc, Scope, Wait, Held, Put}
+use Rattle.gos_model.specs.Terms.{Name, Term, Skip, Lit, Import, Lam, App, Both, Fst, Snd, Seq, Par, If, While, Assign, Deref, New, Not, Bin, Loc, Scope, Wait, Held, Put, NewArray, Arr}
 use Rattle.gos_model.specs.Substitution.{instantiate}
 use Rattle.gos_model.specs.Stores.{Store, entry_at}
 use Rattle.gos_model.specs.Typing.{Imports, Thing, Variable, Named, Place, things, Apart, import_type}
@@ -11,7 +11,7 @@ use Rattle.gos_model.specs.Steps.{Computes}
 use Rattle.gos_model.specs.Accesses.{AccessPuts, ReadEnds, WriteEnds, AccessTakes}
 use Rattle.gos_model.specs.Labels.{Label, IsAnswer}
 use Rattle.gos_model.specs.Moves.{Act, Computing, Showing, Acts}
-use Rattle.gos_programs.specs.contexts.Contexts.{Context, SeqFirst, ParLeft, ParRight, IfTest, BinLeft, HeldRight, NotOf, AssignRight, ScopeBody, ReadIndex, WriteIndex, plug}
+use Rattle.gos_programs.specs.contexts.Contexts.{Context, SeqFirst, ParLeft, ParRight, IfTest, BinLeft, HeldRight, NotOf, AssignRight, ScopeBody, ReadIndex, WriteIndex, plug, ReadAt, WriteAt}
 use Rattle.gos_programs.specs.contexts.Standing.{StandsIn}
 use Rattle.gos_programs.proofs.contexts.BackwardLemmas.{OneHead, OneLabel}
 use Rattle.gos_programs.proofs.contexts.ReachedLemmas.{reached_lifted}
@@ -70,6 +70,8 @@ shrink_in N (AssignRight n) a b f x h = shrink_right N (things 0 a) (things 0 b)
 shrink_in N (ScopeBody l) a b f x h = shrink_right N (things 0 a) (things 0 b) (Place l ∷ []) x (f x) h
 shrink_in N (ReadIndex y n) a b f x h = shrink_index N y n a b f x h
 shrink_in N (WriteIndex y n k) a b f x h = shrink_index N y n a b f x h
+shrink_in N (ReadAt l) a b f x h = shrink_right N (things 0 a) (things 0 b) (Place l ∷ []) x (f x) h
+shrink_in N (WriteAt l k) a b f x h = shrink_right N (things 0 a) (things 0 b) (Place l ∷ []) x (f x) h
 
 -- what shared nothing with the part shares nothing with what it becomes
 still_apart : (N : Things) (a b n : Term) → Shrinks N a b → Lacks N n → Apart a n → Apart b n
@@ -96,6 +98,13 @@ index_parts N y n a b (apart, bare, (p, o)) f lacks g =
     (λ x h k. apart x k h) in
     ((λ x h k. other x k h), bare, (p, g o))
 
+array_parts : (N : Things) (l : ℕ) (a b : Term) → PartsApart (App (Arr l) a) → Shrinks N a b → Lacks N (App (Arr l) a)
+    → (PartsApart a → PartsApart b) → PartsApart (App (Arr l) b)
+array_parts N l a b (apart, bare, o) f lacks g =
+    let other : Apart b (Arr l) =
+    still_apart N a b (Arr l) f (λ x k h. lacks x k (left_part (Place l ∷ []) (things 0 a) x h)) (λ x h k. apart x k h) in
+    ((λ x h k. other x k h), bare, g o)
+
 keeps_in : (N : Things) (c : Context) (a b : Term) → Keeps N a b → Keeps N (plug c a) (plug c b)
 keeps_in N c a b q closed =
     let k = q (λ n h. closed n (within c a (Variable n) h)) in
@@ -116,6 +125,8 @@ keeps_in N c a b q closed =
     parts (ScopeBody l) p f lacks g = g p
     parts (ReadIndex y n) p f lacks g = index_parts N y n a b p f lacks g
     parts (WriteIndex y n k) p f lacks g = index_parts N y n a b p f lacks g
+    parts (ReadAt l) p f lacks g = array_parts N l a b p f lacks g
+    parts (WriteAt l k) p f lacks g = array_parts N l a b p f lacks g
 
 -- under a binder whose variable is gone
 under_binder : (m : Term) (x : Thing) → IsClosed (Lam Com m) → IsOther 0 0 x → Contains (things 0 m) x → Contains (things 1 m) x
@@ -197,25 +208,34 @@ loop_things m n x h =
 loc_closed : (l : ℕ) → IsClosed (Loc l)
 loc_closed l n h = let bad : Variable n ≡ Place l = only_one (Place l) (Variable n) h in absurd (cc bad)
 
-opens : (s : Store) (w l : ℕ) (m : Term) → entry_at s l ≡ None → Keeps (IsNew s) (New w m) (Scope l (instantiate m (Loc l)))
-opens s w l m absent closed = (shrinks, apart)
+arr_closed : (l : ℕ) → IsClosed (Arr l)
+arr_closed l n h = let bad : Variable n ≡ Place l = only_one (Place l) (Variable n) h in absurd (cc bad)
+
+-- a block opens, with q for its variable or array: it has the new location alone
+opens : (s : Store) (l : ℕ) (a m q : Term) → things 0 q ≡ Place l ∷ [] → PartsApart q → IsClosed q → things 0 a ≡ things 1 m
+    → (PartsApart a → PartsApart m) → entry_at s l ≡ None → Keeps (IsNew s) a (Scope l (instantiate m q))
+opens s l a m q place bare none under within' absent closed = (shrinks, apart)
   where
     new : (x : Thing) → Contains (Place l ∷ []) x → IsNew s x
     new x h = subst (IsNew s) (sym (only_one (Place l) x h)) absent
 
-    shrinks : Shrinks (IsNew s) (New w m) (Scope l (instantiate m (Loc l)))
-    shrinks x h =
-        by_parts (Place l ∷ []) (things 0 (instantiate m (Loc l))) x (λ k. inr (new x k))
-        (λ k. by_putting (things_put m 0 0 (Loc l) x (loc_closed l) k)) h
-      where
-        by_putting : PutThing 0 0 (Loc l) m x → Contains (things 1 m) x ⊎ IsNew s x
-        by_putting (inl (k, other)) = inl (under_binder m x closed other k)
-        by_putting (inr (is, k, v)) = inr (new x k)
+    newest : (x : Thing) → Contains (things 0 q) x → IsNew s x
+    newest x h = new x (subst (λ (z : List Thing). Contains z x) place h)
 
-    apart : PartsApart m → Lacks (IsNew s) (New w m) → PartsApart (instantiate m (Loc l))
+    below : (x : Thing) → Contains (things 1 m) x → Contains (things 0 a) x
+    below x h = subst (λ (z : List Thing). Contains z x) (sym under) h
+
+    shrinks : Shrinks (IsNew s) a (Scope l (instantiate m q))
+    shrinks x h =
+        by_parts (Place l ∷ []) (things 0 (instantiate m q)) x (λ k. inr (new x k)) (λ k. by_putting (things_put m 0 0 q x none k)) h
+      where
+        by_putting : PutThing 0 0 q m x → Contains (things 0 a) x ⊎ IsNew s x
+        by_putting (inl (k, other)) = inl (below x (under_binder m x (λ n h. closed n (below (Variable n) h)) other k))
+        by_putting (inr (is, k, v)) = inr (newest x k)
+
+    apart : PartsApart a → Lacks (IsNew s) a → PartsApart (instantiate m q)
     apart p lacks =
-        apart_put m 0 (Loc l) (loc_closed l)
-        (λ x h k. lacks x (new x k) (steady m 0 1 x (closed_things (Loc l) 0 x (loc_closed l) k).0 h)) p tt
+        apart_put m 0 q none (λ x h k. lacks x (newest x k) (below x (steady m 0 1 x (closed_things q 0 x none k).0 h))) (within' p) bare
 
 row_keeps : (s s' : Store) (a b : Term) → Computes s s' a b → Keeps (IsNew s) a b
 row_keeps s s' (Seq m n) b (em, et, es) =
@@ -236,10 +256,15 @@ row_keeps s s' (Held k op n) b (j, w, en, et, es) = to_row (IsNew s) (Held k op 
 row_keeps s s' (Not m) b (k, w, em, et, es) = to_row (IsNew s) (Not m) b _ et (λ c. ((λ x h. nothing x h), (λ p l. tt)))
 row_keeps s s' (Assign m n) b (k, w, en, et, es) =
     to_row (IsNew s) (Assign m n) b (Put m k) et (λ c. ((λ x h. inl (left_part (things 0 m) (things 0 n) x h)), (λ p l. p.0)))
-row_keeps s s' (Put m k) b (e, old, em, here, has, et, es) = to_row (IsNew s) (Put m k) b Skip et (λ c. ((λ x h. nothing x h), (λ p l. tt)))
-row_keeps s s' (Deref m) b (e, old, em, here, has, et, es) =
+row_keeps s s' (Put m k) b (e, j, old, em, here, has, et, es) = to_row (IsNew s) (Put m k) b Skip et (λ c. ((λ x h. nothing x h), (λ p l. tt)))
+row_keeps s s' (Deref m) b (e, j, old, em, here, has, et, es) =
     to_row (IsNew s) (Deref m) b (Lit old e.width) et (λ c. ((λ x h. nothing x h), (λ p l. tt)))
-row_keeps s s' (New w m) b (l, absent, et, es) = to_row (IsNew s) (New w m) b (Scope l (instantiate m (Loc l))) et (opens s w l m absent)
+row_keeps s s' (New w m) b (l, absent, et, es) =
+    to_row (IsNew s) (New w m) b (Scope l (instantiate m (Loc l))) et
+    (opens s l (New w m) m (Loc l) refl tt (loc_closed l) refl (λ p. p) absent)
+row_keeps s s' (NewArray n w m) b (l, absent, et, es) =
+    to_row (IsNew s) (NewArray n w m) b (Scope l (instantiate m (Arr l))) et
+    (opens s l (NewArray n w m) m (Arr l) refl tt (arr_closed l) refl (λ p. p) absent)
 row_keeps s s' (Scope l m) b (is, et, es) =
     to_row (IsNew s) (Scope l m) b m et (λ c. ((λ x h. inl (right_part (Place l ∷ []) (things 0 m) x h)), (λ p k. p)))
 row_keeps s s' m b h = absurd h

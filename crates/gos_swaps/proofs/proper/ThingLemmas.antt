@@ -3,11 +3,11 @@ use Rattle.std.specs.Prelude.{◌≡◌, ◌⊎◌, ◌+◌, ◌-◌, ℕ, zero,
 use Rattle.std.proofs.Common.{arith, refl, sym, ap, subst, inl, inr}
 use Rattle.std.proofs.lemmas.Bool.Decides.{nat_tests}
 use Rattle.std.proofs.lemmas.List.Elements.{Contains-append_left, Contains-append_right, Contains-append_cases}
-use Rattle.gos_model.specs.Terms.{Term, Skip, Lit, Bound, Import, Lam, App, Both, Fst, Snd, Seq, Par, If, While, Assign, Deref, New, Not, Bin, Loc, Scope, Wait, Held, Put}
+use Rattle.gos_model.specs.Terms.{Term, Skip, Lit, Bound, Import, Lam, App, Both, Fst, Snd, Seq, Par, If, While, Assign, Deref, New, Not, Bin, Loc, Scope, Wait, Held, Put, NewArray, Arr}
 use Rattle.gos_model.specs.Substitution.{put_at}
 use Rattle.gos_model.specs.Stores.{Store}
 use Rattle.gos_model.specs.Typing.{Thing, Variable, Named, Place, things, Apart}
-use Rattle.gos_programs.specs.contexts.Contexts.{Context, SeqFirst, ParLeft, ParRight, IfTest, BinLeft, HeldRight, NotOf, AssignRight, ScopeBody, ReadIndex, WriteIndex, plug}
+use Rattle.gos_programs.specs.contexts.Contexts.{Context, SeqFirst, ParLeft, ParRight, IfTest, BinLeft, HeldRight, NotOf, AssignRight, ScopeBody, ReadIndex, WriteIndex, plug, ReadAt, WriteAt}
 use Rattle.gos_programs.specs.contexts.Standing.{Present, StandsIn}
 use Rattle.gos_swaps.specs.proper.Proper.{IsClosed}
 
@@ -54,6 +54,7 @@ has d (While m n) = has d m || has d n
 has d (Assign m n) = has d m || has d n
 has d (Deref m) = has d m
 has d (New w m) = has (suc d) m
+has d (NewArray n w m) = has (suc d) m
 has d (Not m) = has d m
 has d (Bin op m n) = has d m || has d n
 has d (Scope l m) = has d m
@@ -108,9 +109,11 @@ absent (While m n) d q h = λ i. While (absent m d q (one (has d m) (has d n) h)
 absent (Assign m n) d q h = λ i. Assign (absent m d q (one (has d m) (has d n) h) i) (absent n d q (two (has d m) (has d n) h) i)
 absent (Deref m) d q h = λ i. Deref (absent m d q h i)
 absent (New w m) d q h = λ i. New w (absent m (suc d) q h i)
+absent (NewArray n w m) d q h = λ i. NewArray n w (absent m (suc d) q h i)
 absent (Not m) d q h = λ i. Not (absent m d q h i)
 absent (Bin op m n) d q h = λ i. Bin op (absent m d q (one (has d m) (has d n) h) i) (absent n d q (two (has d m) (has d n) h) i)
 absent (Loc l) d q h = refl
+absent (Arr l) d q h = refl
 absent (Scope l m) d q h = λ i. Scope l (absent m d q h i)
 absent (Wait x s) d q h = refl
 absent (Held k op n) d q h = λ i. Held k op (absent n d q h i)
@@ -169,9 +172,11 @@ present (While m n) c e h = in_two m n c e h (present m c e) (present n c e)
 present (Assign m n) c e h = in_two m n c e h (present m c e) (present n c e)
 present (Deref m) c e h = present m c e h
 present (New w m) c e h = present m (suc c) e (further m c e h)
+present (NewArray n w m) c e h = present m (suc c) e (further m c e h)
 present (Not m) c e h = present m c e h
 present (Bin op m n) c e h = in_two m n c e h (present m c e) (present n c e)
 present (Loc l) c e h = absurd (cc h)
+present (Arr l) c e h = absurd (cc h)
 present (Scope l m) c e h = right_part (Place l ∷ []) (things c m) (Variable e) (present m c e h)
 present (Wait x s) c e h = absurd (cc h)
 present (Held k op n) c e h = present n c e h
@@ -223,9 +228,11 @@ seen (While m n) c e h = seen_two m n c e (seen m c e) (seen n c e) h
 seen (Assign m n) c e h = seen_two m n c e (seen m c e) (seen n c e) h
 seen (Deref m) c e h = seen m c e h
 seen (New w m) c e h = nearer m c e (seen m (suc c) e h)
+seen (NewArray n w m) c e h = nearer m c e (seen m (suc c) e h)
 seen (Not m) c e h = seen m c e h
 seen (Bin op m n) c e h = seen_two m n c e (seen m c e) (seen n c e) h
 seen (Loc l) c e h = no_variable e (Place l) (λ k. cc k) h
+seen (Arr l) c e h = no_variable e (Place l) (λ k. cc k) h
 seen (Scope l m) c e h = by_parts (Place l ∷ []) (things c m) (Variable e) (no_variable e (Place l) (λ k. cc k)) (seen m c e) h
 seen (Wait x s) c e h = no_variable e (Named x) (λ k. cc k) h
 seen (Held k op n) c e h = seen n c e h
@@ -273,9 +280,11 @@ steady (While m n) c d x is h = both_parts (things c m) (things c n) (things d m
 steady (Assign m n) c d x is h = both_parts (things c m) (things c n) (things d m) (things d n) x (steady m c d x is) (steady n c d x is) h
 steady (Deref m) c d x is h = steady m c d x is h
 steady (New w m) c d x is h = steady m (suc c) (suc d) x is h
+steady (NewArray n w m) c d x is h = steady m (suc c) (suc d) x is h
 steady (Not m) c d x is h = steady m c d x is h
 steady (Bin op m n) c d x is h = both_parts (things c m) (things c n) (things d m) (things d n) x (steady m c d x is) (steady n c d x is) h
 steady (Loc l) c d x is h = h
+steady (Arr l) c d x is h = h
 steady (Scope l m) c d x is h = both_parts (Place l ∷ []) (things c m) (Place l ∷ []) (things d m) x (λ k. k) (steady m c d x is) h
 steady (Wait y s) c d x is h = h
 steady (Held k op n) c d x is h = steady n c d x is h
@@ -303,6 +312,8 @@ within (AssignRight n) m x h = right_part (things 0 n) (things 0 m) x h
 within (ScopeBody l) m x h = right_part (Place l ∷ []) (things 0 m) x h
 within (ReadIndex y n) m x h = right_part (Named y ∷ []) (things 0 n ++ things 0 m) x (right_part (things 0 n) (things 0 m) x h)
 within (WriteIndex y n k) m x h = right_part (Named y ∷ []) (things 0 n ++ things 0 m) x (right_part (things 0 n) (things 0 m) x h)
+within (ReadAt l) m x h = right_part (Place l ∷ []) (things 0 m) x h
+within (WriteAt l k) m x h = right_part (Place l ∷ []) (things 0 m) x h
 
 -- each location of a term that stands in a store is there
 place_of : (l k : ℕ) → Place l ≡ Place k → k ≡ l
@@ -343,10 +354,12 @@ place_present s (Assign m n) c l st h =
     by_parts (things c m) (things c n) (Place l) (place_present s m c l st.0) (place_present s n c l st.1) h
 place_present s (Deref m) c l st h = place_present s m c l st h
 place_present s (New w m) c l st h = place_present s m (suc c) l st h
+place_present s (NewArray n w m) c l st h = place_present s m (suc c) l st h
 place_present s (Not m) c l st h = place_present s m c l st h
 place_present s (Bin op m n) c l st h =
     by_parts (things c m) (things c n) (Place l) (place_present s m c l st.0) (place_present s n c l st.1) h
 place_present s (Loc k) c l st h = same_place s k l st h
+place_present s (Arr k) c l st h = same_place s k l st h
 place_present s (Scope k m) c l st h =
     by_parts (Place k ∷ []) (things c m) (Place l) (same_place s k l st.0) (place_present s m c l st.1) h
 place_present s (Wait x n) c l st h = no_place l (Named x) (λ k. cc k) h
@@ -389,9 +402,11 @@ stands_from s (While m n) c h = stands_two s m n c (stands_from s m c) (stands_f
 stands_from s (Assign m n) c h = stands_two s m n c (stands_from s m c) (stands_from s n c) h
 stands_from s (Deref m) c h = stands_from s m c h
 stands_from s (New w m) c h = stands_from s m (suc c) h
+stands_from s (NewArray n w m) c h = stands_from s m (suc c) h
 stands_from s (Not m) c h = stands_from s m c h
 stands_from s (Bin op m n) c h = stands_two s m n c (stands_from s m c) (stands_from s n c) h
 stands_from s (Loc l) c h = h l (there (Place l))
+stands_from s (Arr l) c h = h l (there (Place l))
 stands_from s (Scope l m) c h =
     (h l (left_part (Place l ∷ []) (things c m) (Place l) (there (Place l))), stands_from s m c (present_right s (Place l ∷ []) (things c m) h))
 stands_from s (Wait x n) c h = tt

@@ -4,10 +4,10 @@
 -- a reached `!`, and, from a head on, the function part of an application and the operand of `fst` or `snd`. So a path
 -- goes down reached places and then down heads. Children are counted from 0 as written: the one child of a held
 -- operation, of `put` and of an open block is 0, the right side of `:=` is 1. The index of an access, as it is now, is
--- at 0, 1, 1.
+-- at 0, 1, 1 where the array is a port, and at 0, 1 where it is the program's own.
 use Rattle.std.specs.Prelude.{◌≡◌, ◌↔◌, ◌⊎◌, ℕ, zero, suc, List, [], ◌∷◌}
 use Rattle.gos_model.specs.Terms.{Term, App, Both, Fst, Snd, Seq, Par, If, Assign, Deref, Not, Bin, Scope, Held, Put}
-use Rattle.gos_model.specs.Reach.{Rel, IsArrayHead, Rewrites, Unfolds}
+use Rattle.gos_model.specs.Reach.{Rel, IsArrayHead, IsArrayPlace, Rewrites, Unfolds}
 
 -- R changes the head at this path below a head
 abbrev pub UnderAt : List ℕ → Rel → Rel
@@ -39,8 +39,14 @@ abbrev mutual
 
   -- the path begins at an access, and leads into its index
   pub HeadInIndexAt : List ℕ → Rel → Rel
-  HeadInIndexAt (suc zero ∷ suc zero ∷ path) R (App h (Both n m)) t = IsArrayHead h × (m' : Term) × (t ≡ App h (Both n m')) × HeadAt path R m m'
+  HeadInIndexAt (suc zero ∷ path) R (App h n) t =
+      HeadInPortAt path R h n t ⊎ (IsArrayPlace h × (n' : Term) × (t ≡ App h n') × HeadAt path R n n')
   HeadInIndexAt path R m t = ⊥
+
+  -- the path begins at the argument of a port, whose function part is h
+  pub HeadInPortAt : List ℕ → Rel → Term → Rel
+  HeadInPortAt (suc zero ∷ path) R h (Both n m) t = IsArrayHead h × (m' : Term) × (t ≡ App h (Both n m')) × HeadAt path R m m'
+  HeadInPortAt path R h m t = ⊥
 
 -- an unfolding is one at a path
 abbrev pub UnfoldingsHaveHeadPaths : Type 0

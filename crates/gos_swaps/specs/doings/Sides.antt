@@ -6,7 +6,7 @@ use Rattle.std.specs.Prelude.{◌≡◌, ◌≢◌, ◌⊎◌, ℕ, zero, suc, L
 use Rattle.gos_model.specs.Terms.{Term, Par}
 use Rattle.gos_model.specs.Typing.{Imports}
 use Rattle.gos_model.specs.Stores.{Store}
-use Rattle.gos_programs.specs.contexts.Contexts.{Context, SeqFirst, ParLeft, ParRight, IfTest, BinLeft, HeldRight, NotOf, AssignRight, ScopeBody, ReadIndex, WriteIndex, plug, plug_all}
+use Rattle.gos_programs.specs.contexts.Contexts.{Context, SeqFirst, ParLeft, ParRight, IfTest, BinLeft, HeldRight, NotOf, AssignRight, ScopeBody, ReadIndex, WriteIndex, plug, plug_all, ReadAt, WriteAt}
 use Rattle.gos_swaps.specs.doings.Doings.{Doing, DoesAt}
 
 -- the path to the place in a context
@@ -22,6 +22,8 @@ way (AssignRight m) = 1 ∷ []
 way (ScopeBody l) = 0 ∷ []
 way (ReadIndex x n) = 0 ∷ 1 ∷ 1 ∷ []
 way (WriteIndex x n k) = 0 ∷ 1 ∷ 1 ∷ []
+way (ReadAt l) = 0 ∷ 1 ∷ []
+way (WriteAt l k) = 0 ∷ 1 ∷ []
 
 -- the path through these contexts, the outermost first, and on from the place in them
 abbrev pub path_through : List Context → List ℕ → List ℕ

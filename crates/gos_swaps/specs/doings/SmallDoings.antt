@@ -3,7 +3,7 @@
 -- Read first: Sides. Each definition is met by one of them and missed by another.
 use Rattle.std.specs.Prelude.{ℕ, [], ◌∷◌}
 use Rattle.gos_types.specs.Types.{Com}
-use Rattle.gos_model.specs.Terms.{Term, Skip, Lit, Bound, Import, Lam, App, Both, Seq, Par, Deref, Wait}
+use Rattle.gos_model.specs.Terms.{Term, Skip, Lit, Bound, Import, Lam, App, Both, Seq, Par, Deref, Arr, Wait}
 use Rattle.gos_model.specs.Stores.{Store}
 use Rattle.gos_model.specs.Labels.{taken}
 use Rattle.gos_model.specs.ArrayPorts.{a, b, an_array}
@@ -41,12 +41,14 @@ KindsAreToldApart = SameKind (Showing (taken c 1 3)) (Showing (taken c 1 4)) × 
 abbrev pub read_waits : ℕ → Term → Term
 read_waits s j = Deref (App (Wait a s) (Both (Import b) j))
 
--- what happens in an index that is asked for happens at 0, 1, 1; nothing does in one that is not
+-- What happens in an index that is asked for happens at 0, 1, 1; nothing does in one that is not. In the index of an array of the
+-- program's own it happens at 0, 1.
 abbrev pub IndexRuns : Type 0
 IndexRuns =
     DoesAt an_array (0 ∷ 1 ∷ 1 ∷ []) (Showing (taken b 0 0)) [] [] (read_waits 0 (Import b)) (read_waits 0 (Wait b 1))
     × DoesAt an_array (0 ∷ 1 ∷ 1 ∷ []) Unfolding [] [] (read_waits 0 applied_name) (read_waits 0 (Import c))
     × ((s : Store) (t : Term) → DoesAt an_array (0 ∷ 1 ∷ 1 ∷ []) (Showing (taken b 0 0)) [] s (read_waits 1 (Import b)) t → ⊥)
+    × DoesAt an_array (0 ∷ 1 ∷ []) (Showing (taken b 0 0)) [] [] (Deref (App (Arr 0) (Import b))) (Deref (App (Arr 0) (Wait b 1)))
 
 -- While the index isn't asked for the array may ask for it, once more, or answer: at one place two events of one port. Both are
 -- inputs; a request and an answer are not of one sort.

@@ -4,7 +4,7 @@
 -- that happens there can be the label. So what happens at a needed place is in every list to the aim, however the sides of
 -- `||` take turns; and it may as well come first.
 use Rattle.std.specs.Prelude.{◌≡◌, ℕ, zero, suc, List, ◌∷◌, Contains}
-use Rattle.gos_model.specs.Terms.{Term, App, Both, Seq, Par, If, Assign, Deref, Not, Bin, Scope, Held, Put}
+use Rattle.gos_model.specs.Terms.{Term, App, Both, Seq, Par, If, Assign, Deref, Not, Bin, Scope, Held, Put, Arr, Wait}
 use Rattle.gos_model.specs.Typing.{Imports, Named, things}
 use Rattle.gos_model.specs.Stores.{Store}
 use Rattle.gos_model.specs.Labels.{Port, Given, Taken, Label}
@@ -30,8 +30,10 @@ IsNeeded o (zero ∷ path) (Held k op n) = IsNeeded o path n
 IsNeeded o (zero ∷ path) (Not m) = IsNeeded o path m
 IsNeeded o (suc zero ∷ path) (Assign m n) = IsNeeded o path n
 IsNeeded o (zero ∷ path) (Scope l m) = IsNeeded o path m
-IsNeeded o (zero ∷ suc zero ∷ suc zero ∷ path) (Deref (App h (Both n m))) = IsNeeded o path m
-IsNeeded o (zero ∷ suc zero ∷ suc zero ∷ path) (Put (App h (Both n m)) k) = IsNeeded o path m
+IsNeeded o (zero ∷ suc zero ∷ path) (Deref (App (Arr l) m)) = IsNeeded o path m
+IsNeeded o (zero ∷ suc zero ∷ path) (Put (App (Arr l) m) k) = IsNeeded o path m
+IsNeeded o (zero ∷ suc zero ∷ suc zero ∷ path) (Deref (App (Wait x s) (Both n m))) = IsNeeded o path m
+IsNeeded o (zero ∷ suc zero ∷ suc zero ∷ path) (Put (App (Wait x s) (Both n m)) k) = IsNeeded o path m
 IsNeeded o path m = Unit {0}
 
 -- an unfolding, a step, or the label itself

@@ -2,7 +2,7 @@
 --
 -- Read first: Needed.
 use Rattle.std.specs.Prelude.{◌≡◌, [], ◌∷◌}
-use Rattle.gos_model.specs.Terms.{Term, Skip, Import, App, Both, Seq, Par, Deref, Wait}
+use Rattle.gos_model.specs.Terms.{Term, Skip, Import, App, Both, Seq, Par, Deref, Arr, Wait}
 use Rattle.gos_model.specs.Labels.{Given, Taken, taken}
 use Rattle.gos_model.specs.SmallPrograms.{c, d, two_commands}
 use Rattle.gos_swaps.specs.doings.Doings.{Unfolding, Computing, Showing}
@@ -19,9 +19,14 @@ SideOfPortIsNeeded =
 abbrev pub index_first : Term
 index_first = Deref (App (Wait d 0) (Both Skip (Seq (Par (Import c) Skip) Skip)))
 
+-- the same index at an array of the program's own
+abbrev pub own_index_first : Term
+own_index_first = Deref (App (Arr 0) (Seq (Par (Import c) Skip) Skip))
+
 abbrev pub SideInIndexIsNeeded : Type 0
 SideInIndexIsNeeded =
     IsNeeded (Taken c) (0 ∷ 1 ∷ 1 ∷ 0 ∷ 0 ∷ []) index_first × (IsNeeded (Taken c) (0 ∷ 1 ∷ 1 ∷ 0 ∷ 1 ∷ []) index_first → ⊥)
+    × IsNeeded (Taken c) (0 ∷ 1 ∷ 0 ∷ 0 ∷ []) own_index_first × (IsNeeded (Taken c) (0 ∷ 1 ∷ 0 ∷ 1 ∷ []) own_index_first → ⊥)
 
 -- an import has its port, a wait too, and no term the given one
 abbrev pub ImportsHavePorts : Type 0

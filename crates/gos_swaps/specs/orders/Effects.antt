@@ -5,21 +5,30 @@
 use Rattle.std.specs.Prelude.{◌≡◌, ℕ, List, ◌∷◌, Contains, Option, Some, None}
 use Rattle.gos_model.specs.Terms.{Term}
 use Rattle.gos_model.specs.Typing.{Imports, Place, things}
-use Rattle.gos_model.specs.Stores.{Entry, variable_at, Store, entry_at, store_put, without}
+use Rattle.gos_model.specs.Stores.{Entry, array_at, Store, entry_at, store_put, without}
 use Rattle.gos_programs.specs.contexts.Renaming.{renamed}
 use Rattle.gos_swaps.specs.doings.Doings.{Doing, DoesAt}
 
--- The store stays; a location gets a number at an index; a new variable of w bits takes a location; a block drops its location.
+-- how many numbers a new location has, and of which width: a variable has one
+pub record Shape : Type 0 where
+  pub count : ℕ
+  pub width : ℕ
+
+abbrev pub shape : ℕ → ℕ → Shape
+shape n w = record { count = n; width = w }
+
+-- The store stays; a location gets a number at an index; a new variable or array takes a location, with zeros; a block drops its
+-- location.
 pub data Effect : Type 0 where
   Stays : Effect
   Writes : (l j k : ℕ) → Effect
-  Opens : (l w : ℕ) → Effect
+  Opens : (l : ℕ) (w : Shape) → Effect
   Closes : (l : ℕ) → Effect
 
 abbrev pub applied : Effect → Store → Store
 applied Stays s = s
 applied (Writes l j k) s = store_put s l j k
-applied (Opens l w) s = variable_at l w 0 ∷ s
+applied (Opens l w) s = array_at l w.width w.count ∷ s
 applied (Closes l) s = without s l
 
 abbrev pub renamed_effect : (ℕ → ℕ) → Effect → Effect

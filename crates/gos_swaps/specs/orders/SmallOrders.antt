@@ -3,7 +3,7 @@
 -- Read first: Orders.
 use Rattle.std.specs.Prelude.{◌≡◌, ℕ, [], ◌∷◌}
 use Rattle.gos_model.specs.Terms.{Term, Skip, Import, Seq, Par, New, Loc, Scope, Wait, Put}
-use Rattle.gos_model.specs.Stores.{variable_at, Store}
+use Rattle.gos_model.specs.Stores.{variable_at, array_at, Store}
 use Rattle.gos_model.specs.Labels.{taken}
 use Rattle.gos_model.specs.Moves.{Running}
 use Rattle.gos_model.specs.SmallPrograms.{c, d, two_commands}
@@ -11,7 +11,7 @@ use Rattle.gos_programs.specs.contexts.SmallContexts.{one_at}
 use Rattle.gos_swaps.specs.doings.Doings.{Computing, Showing, DoesAt}
 use Rattle.gos_swaps.specs.proper.Proper.{PartsApart, IsProper}
 use Rattle.gos_swaps.specs.orders.Alike.{Alike}
-use Rattle.gos_swaps.specs.orders.Effects.{Stays, Writes, Opens, Closes, applied, IsFree, IsOwn}
+use Rattle.gos_swaps.specs.orders.Effects.{shape, Stays, Writes, Opens, Closes, applied, IsFree, IsOwn}
 
 -- `c || d` runs c and then d, or d and then c, and comes to the same
 abbrev pub EitherFirst : Type 0
@@ -74,9 +74,10 @@ abbrev pub EffectsChangeStores : Type 0
 EffectsChangeStores =
     (applied Stays (one_at 0) ≡ one_at 0) × (applied (Writes 0 0 1) (one_at 0) ≡ has_number 1) × (applied (Writes 1 0 1) (one_at 0) ≡ one_at 0)
     × (applied (Writes 0 1 1) (one_at 0) ≡ one_at 0)
-    × (applied (Opens 1 1) (one_at 0) ≡ both_at 1 0) × (applied (Closes 0) (one_at 0) ≡ []) × (applied (Closes 1) (one_at 0) ≡ one_at 0)
+    × (applied (Opens 1 (shape 1 1)) (one_at 0) ≡ both_at 1 0)
+    × (applied (Opens 1 (shape 2 8)) (one_at 0) ≡ array_at 1 8 2 ∷ one_at 0) × (applied (Closes 0) (one_at 0) ≡ []) × (applied (Closes 1) (one_at 0) ≡ one_at 0)
 
 -- only a location that is new is free, and only one of the term is its own
 abbrev pub EffectsAreAllowed : Type 0
 EffectsAreAllowed =
-    IsFree (Opens 1 1) (one_at 0) × (IsFree (Opens 0 1) (one_at 0) → ⊥) × IsOwn (Writes 0 0 1) (Loc 0) × (IsOwn (Writes 1 0 1) (Loc 0) → ⊥)
+    IsFree (Opens 1 (shape 1 1)) (one_at 0) × (IsFree (Opens 0 (shape 1 1)) (one_at 0) → ⊥) × IsOwn (Writes 0 0 1) (Loc 0) × (IsOwn (Writes 1 0 1) (Loc 0) → ⊥)

@@ -5,7 +5,7 @@
 -- part still names.
 use Rattle.std.specs.Prelude.{◌≡◌, ◌⊎◌, ℕ, List, [], Contains, None}
 use Rattle.gos_types.specs.Types.{Type'}
-use Rattle.gos_model.specs.Terms.{Term, Lam, App, Both, Fst, Snd, Seq, Par, If, While, Assign, Deref, New, Not, Bin, Scope, Held, Put}
+use Rattle.gos_model.specs.Terms.{Term, Lam, App, Both, Fst, Snd, Seq, Par, If, While, Assign, Deref, New, Not, Bin, Scope, Held, Put, NewArray}
 use Rattle.gos_model.specs.Typing.{Imports, Typed, Thing, Variable, Place, Apart, things}
 use Rattle.gos_model.specs.Stores.{Store, entry_at}
 use Rattle.gos_model.specs.Substitution.{put_at}
@@ -29,6 +29,7 @@ PartsApart (While m n) = PartsApart m × PartsApart n
 PartsApart (Assign m n) = PartsApart m × PartsApart n
 PartsApart (Deref m) = PartsApart m
 PartsApart (New w m) = PartsApart m
+PartsApart (NewArray n w m) = PartsApart m
 PartsApart (Not m) = PartsApart m
 PartsApart (Bin op m n) = PartsApart m × PartsApart n
 PartsApart (Scope l m) = PartsApart m

@@ -9,7 +9,7 @@ use Rattle.gos_types.specs.Types.{Type', Exp, Var, Pair, Fun}
 use Rattle.gos_types.proofs.ListLemmas.{found_in_front}
 use Rattle.gos_model.specs.Terms as terms
 use Rattle.gos_model.specs.Terms.{Term, Name}
-use Rattle.gos_model.specs.Typing.{Imports, import_type, Named, things, Typed}
+use Rattle.gos_model.specs.Typing.{Imports, import_type, Named, things, array_type, Typed}
 use Rattle.gos_model.specs.Weight.{node_type, or_com, after_fun, left_of, right_of, read_of, op_type}
 use Rattle.gos_check.specs.declared.linear.Split.{Split}
 use Rattle.gos_check.specs.Nodes.{Numbered, Closed, Use, Under, One, Two, If, OfFun, OfNew, OneForm, OfFst, OfSnd, OfDeref, OfNot, TwoForm, OfApp, OfBoth, OfSeq, OfPar, OfWhile, OfAssign, OfBin, Meaning, argument_of, shifted, below, inside_one, inside, meaning, one_term, two_term, type_of_node}
@@ -47,9 +47,11 @@ module _ (i : Imports) where
   more_around g h (terms.Assign m n) t typed = sym typed.1
   more_around g h (terms.Deref m) t (w, e, typed) = ap read_of (more_around g h m (Var w) typed) ∙ sym e
   more_around g h (terms.New w m) t (done, wide, typed) = more_around g (Var w ∷ h) m t typed
+  more_around g h (terms.NewArray n w m) t (done, length, wide, typed) = more_around g (array_type n w ∷ h) m t typed
   more_around g h (terms.Not m) t (w, e, typed) = more_around g h m (Exp w) typed ∙ sym e
   more_around g h (terms.Bin op m n) t (w, e, typed, other) = ap (op_type op) (more_around g h m (Exp w) typed) ∙ sym e
   more_around g h (terms.Loc l) t typed = absurd typed
+  more_around g h (terms.Arr l) t typed = absurd typed
   more_around g h (terms.Scope l m) t typed = absurd typed
   more_around g h (terms.Wait x s) t typed = absurd typed
   more_around g h (terms.Held k op m) t typed = absurd typed

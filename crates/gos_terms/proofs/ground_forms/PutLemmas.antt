@@ -3,8 +3,8 @@ use Rattle.std.specs.Prelude.{◌≡◌, ◌≢◌, ℕ, zero, suc, ◌+◌, ◌
 use Rattle.std.proofs.Common.{refl, sym, ◌∙◌, ap, subst, arith, inl, inr}
 use Rattle.std.proofs.lemmas.List.Elements.{Contains-append_left, Contains-append_right, Contains-append_cases}
 use Rattle.gos_types.specs.Types.{Type', Com, Exp, Var, Pair, Fun}
-use Rattle.gos_model.specs.Terms.{Term, Name, Skip, Lit, Bound, Import, Lam, App, Both, Fst, Snd, Seq, Par, If, While, Assign, Deref, New, Not, Bin, Loc, Scope, Wait, Held, Put}
-use Rattle.gos_model.specs.Typing.{Imports, Thing, Variable, Named, things, Apart, Typed}
+use Rattle.gos_model.specs.Terms.{Term, Name, Skip, Lit, Bound, Import, Lam, App, Both, Fst, Snd, Seq, Par, If, While, Assign, Deref, New, NewArray, Not, Bin, Loc, Arr, Scope, Wait, Held, Put}
+use Rattle.gos_model.specs.Typing.{Imports, Thing, Variable, Named, things, Apart, array_type, Typed}
 use Rattle.gos_model.specs.Substitution.{put_at}
 use Rattle.gos_supplies.proofs.typing.WhenceLemmas.{named}
 use Rattle.gos_supplies.proofs.typing.NameLemmas.{typed_under}
@@ -78,9 +78,11 @@ kept (While m n) e d x y shut h = two_kept e d x m n y h (kept m e d x y shut) (
 kept (Assign m n) e d x y shut h = two_kept e d x m n y h (kept m e d x y shut) (kept n e d x y shut)
 kept (Deref m) e d x y shut h = kept m e d x y shut h
 kept (New w m) e d x y shut h = kept m (suc e) d x y shut (subst (λ (k : ℕ). Contains (things (suc e) (put_at k x m)) y) (further e d) h)
+kept (NewArray c w m) e d x y shut h = kept m (suc e) d x y shut (subst (λ (k : ℕ). Contains (things (suc e) (put_at k x m)) y) (further e d) h)
 kept (Not m) e d x y shut h = kept m e d x y shut h
 kept (Bin op m n) e d x y shut h = two_kept e d x m n y h (kept m e d x y shut) (kept n e d x y shut)
 kept (Loc l) e d x y shut h = inl h
+kept (Arr l) e d x y shut h = inl h
 kept (Scope l m) e d x y shut (zero, small, at) = inl (0, omega arith, at)
 kept (Scope l m) e d x y shut (suc k, small, at) = beside (kept m e d x y shut (k, omega (arith, small), at))
   where
@@ -119,9 +121,11 @@ under_any (While m n) e f x h = of_two (things e m) (things e n) (things f m) (t
 under_any (Assign m n) e f x h = of_two (things e m) (things e n) (things f m) (things f n) (Named x) (under_any m e f x) (under_any n e f x) h
 under_any (Deref m) e f x h = under_any m e f x h
 under_any (New w m) e f x h = under_any m (suc e) (suc f) x h
+under_any (NewArray n w m) e f x h = under_any m (suc e) (suc f) x h
 under_any (Not m) e f x h = under_any m e f x h
 under_any (Bin op m n) e f x h = of_two (things e m) (things e n) (things f m) (things f n) (Named x) (under_any m e f x) (under_any n e f x) h
 under_any (Loc l) e f x h = h
+under_any (Arr l) e f x h = h
 under_any (Scope l m) e f x (zero, small, at) = absurd (cc at)
 under_any (Scope l m) e f x (suc k, small, at) = let (n, less, is) = under_any m e f x (k, omega (arith, small), at) in (suc n, omega (arith, less), is)
 under_any (Wait z s) e f x h = h
@@ -219,9 +223,11 @@ module _ (i : Imports) (x : Term) (a : Type') (closed : Typed i [] x a) where
       (w, e, put_typed m g (Var w) (left_apart x m n free) h, put_typed n g (Exp w) (right_apart x m n free) k)
   put_typed (Deref m) g t free (w, e, h) = (w, e, put_typed m g (Var w) free h)
   put_typed (New w m) g t free (done, wide, h) = (done, wide, put_typed m (Var w ∷ g) t (under_apart x m names free) h)
+  put_typed (NewArray n w m) g t free (done, length, wide, h) = (done, length, wide, put_typed m (array_type n w ∷ g) t (under_apart x m names free) h)
   put_typed (Not m) g t free (w, e, h) = (w, e, put_typed m g (Exp w) free h)
   put_typed (Bin op m n) g t free (w, e, h, k) = (w, e, put_typed m g (Exp w) (left_apart x m n free) h, put_typed n g (Exp w) (right_apart x m n free) k)
   put_typed (Loc l) g t free h = absurd h
+  put_typed (Arr l) g t free h = absurd h
   put_typed (Scope l m) g t free h = absurd h
   put_typed (Wait z s) g t free h = absurd h
   put_typed (Held k op m) g t free h = absurd h

@@ -32,9 +32,11 @@ module _ (t : Term) where
   puts_leaf d (terms.Assign m p) leaf = absurd leaf
   puts_leaf d (terms.Deref m) leaf = absurd leaf
   puts_leaf d (terms.New w m) leaf = absurd leaf
+  puts_leaf d (terms.NewArray n w m) leaf = absurd leaf
   puts_leaf d (terms.Not m) leaf = absurd leaf
   puts_leaf d (terms.Bin op m p) leaf = absurd leaf
   puts_leaf d (terms.Loc j) leaf = absurd leaf
+  puts_leaf d (terms.Arr j) leaf = absurd leaf
   puts_leaf d (terms.Scope j m) leaf = absurd leaf
   puts_leaf d (terms.Wait x s) leaf = absurd leaf
   puts_leaf d (terms.Held k op m) leaf = absurd leaf

@@ -3,8 +3,8 @@ use Rattle.std.specs.Prelude.{◌≡◌, ℕ, suc, ◌<◌, ◌≤◌, Bool, tru
 use Rattle.std.proofs.Common.{refl, ap, arith}
 use Rattle.std.proofs.lemmas.Option.{slice_get_within}
 use Rattle.gos_types.specs.Types.{Type', Com, Exp, Var, Pair, Fun}
-use Rattle.gos_model.specs.Terms.{Term, Skip, Lit, Bound, Import, Lam, App, Both, Fst, Snd, Seq, Par, If, While, Assign, Deref, New, Not, Bin, Loc, Scope, Wait, Held, Put}
-use Rattle.gos_model.specs.Typing.{Imports, Typed}
+use Rattle.gos_model.specs.Terms.{Term, Skip, Lit, Bound, Import, Lam, App, Both, Fst, Snd, Seq, Par, If, While, Assign, Deref, New, NewArray, Not, Bin, Loc, Arr, Scope, Wait, Held, Put}
+use Rattle.gos_model.specs.Typing.{Imports, array_type, Typed}
 use Rattle.gos_model.specs.Substitution.{put_at}
 use Rattle.gos_check.specs.Nodes.{shifted}
 
@@ -35,10 +35,13 @@ put_still i g (Assign m p) n t d l (w, e, f, h) =
     let x = put_still i g m n (Var w) d l f in let y = put_still i g p n (Exp w) d l h in λ k. Assign (x k) (y k)
 put_still i g (Deref m) n t d l (w, e, h) = ap Deref (put_still i g m n (Var w) d l h)
 put_still i g (New w m) n t d l (done, wide, h) = ap (New w) (put_still i (Var w ∷ g) m n t (suc d) (omega (arith, l)) h)
+put_still i g (NewArray c w m) n t d l (done, length, wide, h) =
+    ap (NewArray c w) (put_still i (array_type c w ∷ g) m n t (suc d) (omega (arith, l)) h)
 put_still i g (Not m) n t d l (w, e, h) = ap Not (put_still i g m n (Exp w) d l h)
 put_still i g (Bin op m p) n t d l (w, e, f, h) =
     let x = put_still i g m n (Exp w) d l f in let y = put_still i g p n (Exp w) d l h in λ k. Bin op (x k) (y k)
 put_still i g (Loc j) n t d l h = absurd h
+put_still i g (Arr j) n t d l h = absurd h
 put_still i g (Scope j m) n t d l h = absurd h
 put_still i g (Wait x s) n t d l h = absurd h
 put_still i g (Held k op m) n t d l h = absurd h
@@ -62,9 +65,11 @@ shift_still i (While m p) t h = refl
 shift_still i (Assign m p) t h = refl
 shift_still i (Deref m) t h = refl
 shift_still i (New w m) t h = refl
+shift_still i (NewArray n w m) t h = refl
 shift_still i (Not m) t h = refl
 shift_still i (Bin op m p) t h = refl
 shift_still i (Loc j) t h = refl
+shift_still i (Arr j) t h = refl
 shift_still i (Scope j m) t h = refl
 shift_still i (Wait x s) t h = refl
 shift_still i (Held k op m) t h = refl

@@ -1,5 +1,6 @@
 use Rattle.gos_nodes.proofs.blocks.DriverLemmas.{local_is_server}
-use Rattle.gos_nodes.proofs.blocks.SmallServerLemmas.{others_are_none, type_is_needed, open_is_none}
+use Rattle.gos_nodes.proofs.blocks.ArrayDriverLemmas.{array_is_server}
+use Rattle.gos_nodes.proofs.blocks.SmallServerLemmas.{others_are_none, type_is_needed, open_is_none, array_type_is_needed}
 use Rattle.gos_nodes.proofs.laws.blocks.small_servers.Goals as goal
 
 pub returns-clause-local : goal.returns-clause-local
@@ -13,3 +14,9 @@ returns-clause-supply c = type_is_needed
 
 pub returns-clause-opened : goal.returns-clause-opened
 returns-clause-opened c = open_is_none
+
+pub returns-clause-array : goal.returns-clause-array
+returns-clause-array c = array_is_server
+
+pub returns-clause-lengths : goal.returns-clause-lengths
+returns-clause-lengths c = array_type_is_needed

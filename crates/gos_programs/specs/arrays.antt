@@ -1,0 +1,4 @@
+pub mod Stages
+pub mod LocalArray
+pub mod ArrayWaits
+pub mod SmallLocalArrays
