@@ -1,28 +1,30 @@
 -- A term that is judged has its type by the rules, and keeps the limits.
-use Rattle.std.specs.Prelude.{◌≡◌, ◌<◌, ◌≤◌, ◌^◌, ℕ, List, ◌∷◌, Bool, true, false, Option, Some, None, Ok, Err, if◌then◌else◌, ◌&&◌, nat_lt, nat_le}
-use Rattle.std.proofs.Common.{arith, refl, sym, subst, ◌∙◌}
+use Rattle.std.specs.Prelude.{◌≡◌, ◌<◌, ◌≤◌, ◌^◌, ℕ, List, ◌∷◌, Bool, true, false, Option, Some, None, Ok, Err, if◌then◌else◌, ◌&&◌, ◌||◌, ◌==◌, nat_lt, nat_le}
+use Rattle.std.proofs.Common.{arith, refl, sym, subst, ◌∙◌, inl, inr}
+use Rattle.std.proofs.lemmas.Bool.{and_parts, or_cases, eqb-true}
 use Rattle.std.proofs.lemmas.Bool.Decides.{nat_tests}
 use Rattle.gos_lex.specs.declared.token.Span.{Span}
 use Rattle.gos_types.specs.declared.widths.TheConstants.{GREATEST_WIDTH}
 use Rattle.gos_types.specs.Types.{Type', Com, Exp, Var, Pair, Fun, IsDone}
-use Rattle.gos_syntax.specs.Trees.{Tree, Skip, Lit, Use, Lam, New, App, Both, Fst, Snd, Seq, Par, If, While, Assign, Deref, Not, Bin}
+use Rattle.gos_syntax.specs.Trees.{Tree, Skip, Lit, Use, Lam, New, Array, App, Both, Fst, Snd, Seq, Par, If, While, Assign, Deref, Not, Bin}
 use Rattle.gos_model.specs.Terms.{Name}
 use Rattle.gos_model.specs.Terms as terms
-use Rattle.gos_model.specs.Typing.{Imports, Typed}
+use Rattle.gos_model.specs.Typing.{Imports, IsLength, array_type, Typed}
 use Rattle.gos_types.specs.Widths.{IsWidth, HasWidths}
 use Rattle.gos_model.specs.Weight.{count, node_type}
 use Rattle.gos_model.specs.Sources.{term_of, binder_of, bound_or_import}
-use Rattle.gos_check.specs.Faults.{Found, Width, after}
-use Rattle.gos_check.specs.Written.{is_width, first_of, bad_width, no_bad, small, literal, written, written_width}
+use Rattle.gos_check.specs.Faults.{Found, Width, Length, after}
+use Rattle.gos_check.specs.Written.{is_width, first_of, bad_width, no_bad, small, literal, written, written_width, is_length, written_length}
 use Rattle.gos_check.specs.Scopes.{Binders, type_at, used}
 use Rattle.gos_check.specs.Demands.{application, first_side, second_side, sequence, parallel, choice, looping, assignment, reading, negation, operation, done}
 use Rattle.gos_check.specs.Judging.{place_of, of_two, separate, sized, judged}
+use Rattle.gos_check.specs.declared.written.TheConstants.{ARRAYS}
 use Rattle.gos_check.specs.inner.Walked.{names_of, types_of}
 use Rattle.gos_check.specs.Accepted.{IsSmall, IsWritten, KeepsLimits}
 use Rattle.gos_check.proofs.FoundLemmas.{after_is, small_is, sized_is, done_is, two_is, three_is, separate_is, if_ok}
 use Rattle.gos_check.proofs.RuleLemmas.{ok_is}
 use Rattle.gos_check.proofs.DemandLemmas.{used_is, application_is, first_is, second_is, sequence_is, parallel_is, choice_is, looping_is, assignment_is, reading_is, negation_is, operation_is}
-use Rattle.gos_check.proofs.WeightLemmas.{looked_up, type_there, judged_type}
+use Rattle.gos_check.proofs.WeightLemmas.{looked_up, type_there, array_rule, judged_type}
 use Rattle.gos_check.proofs.ThingLemmas.{apart_in_model}
 
 between_is : (w most : ℕ) → (nat_lt 0 w && nat_le w most) ≡ true → (1 ≤ w) × (w ≤ most)
@@ -66,6 +68,22 @@ unit_is found u h = h
 pub written_width_is : (s : Span) (w : ℕ) → written_width s w ≡ Ok tt → IsWidth w
 written_width_is s w h = width_is w (if_ok (is_width w) tt tt (Width s w 0) h).0
 
+one_length : (n : ℕ) → ((n == 2) || ((n == 4) || ((n == 8) || (n == 16)))) ≡ true → IsLength n
+one_length n h =
+    elim (or_cases (n == 2) ((n == 4) || ((n == 8) || (n == 16))) h) [
+      | inl e ↦ inl (eqb-true n 2 e)
+      | inr k ↦ elim (or_cases (n == 4) ((n == 8) || (n == 16)) k) [
+        | inl e ↦ inr (inl (eqb-true n 4 e))
+        | inr l ↦ elim (or_cases (n == 8) (n == 16) l) [ inl e ↦ inr (inr (inl (eqb-true n 8 e))) | inr e ↦ inr (inr (inr (eqb-true n 16 e))) ]
+      ]
+    ]
+
+-- a length that is accepted is one, and there are arrays
+pub written_length_is : (s : Span) (n : ℕ) → written_length s n ≡ Ok tt → (ARRAYS ≡ true) × IsLength n
+written_length_is s n h =
+    let p = and_parts ARRAYS ((n == 2) || ((n == 4) || ((n == 8) || (n == 16)))) (if_ok (is_length n) tt tt (Length s n) h).0 in
+    (p.0, one_length n p.1)
+
 literal_typed : (s : Span) (k w : ℕ) (t : Type') → literal s k w ≡ Ok t → (t ≡ Exp w) × IsWidth w × (k < 2 ^ w)
 literal_typed s k w t h =
     let p = after_is (written_width s w) (λ _. if nat_lt k (2 ^ w) then Ok (Exp w) else Err (Width s w k)) t h in
@@ -108,6 +126,17 @@ judged_typed i g (New s x w wt m) t h =
       done_at q.0 t r.1 r.0,
       written_width_is wt w p.1,
       at_type i _ _ q.0 t r.1 (judged_typed i (record { name = x; ty = Var w } ∷ g) m q.0 q.1),
+    )
+judged_typed i g (Array s x n u w wt m) t h =
+    let e = sized_is s (after (written_length u n) (array_rule i g x n w wt m)) t h in
+    let o = after_is (written_length u n) (array_rule i g x n w wt m) t e.0 in
+    let p = after_is (written_width wt w) (λ _. after (judged i (record { name = x; ty = array_type n w } ∷ g) m) (λ b. done (place_of m) b)) t o.2 in
+    let q = after_is (judged i (record { name = x; ty = array_type n w } ∷ g) m) (λ b. done (place_of m) b) t p.2 in
+    let r = done_is (place_of m) q.0 t q.2 in (
+      done_at q.0 t r.1 r.0,
+      (written_length_is u n o.1).1,
+      written_width_is wt w p.1,
+      at_type i _ _ q.0 t r.1 (judged_typed i (record { name = x; ty = array_type n w } ∷ g) m q.0 q.1),
     )
 judged_typed i g (App s m n) t h =
     let p = two_is (judged i g m) (judged i g n) (λ a b. separate m n (application (place_of m) a (place_of n) b)) t (sized_is s _ t h).0 in
@@ -213,6 +242,15 @@ judged_keeps i g (New s x w wt m) t h =
     let p = after_is (written_width wt w) _ t e.0 in
     let q = after_is (judged i (record { name = x; ty = Var w } ∷ g) m) (λ b. done (place_of m) b) t p.2 in
     (small_here i g (New s x w wt m) t h e.1, judged_keeps i (record { name = x; ty = Var w } ∷ g) m q.0 q.1)
+judged_keeps i g (Array s x n u w wt m) t h =
+    let e = sized_is s (after (written_length u n) (array_rule i g x n w wt m)) t h in
+    let o = after_is (written_length u n) (array_rule i g x n w wt m) t e.0 in
+    let p = after_is (written_width wt w) (λ _. after (judged i (record { name = x; ty = array_type n w } ∷ g) m) (λ b. done (place_of m) b)) t o.2 in
+    let q = after_is (judged i (record { name = x; ty = array_type n w } ∷ g) m) (λ b. done (place_of m) b) t p.2 in (
+      (written_length_is u n o.1).0,
+      small_here i g (Array s x n u w wt m) t h e.1,
+      judged_keeps i (record { name = x; ty = array_type n w } ∷ g) m q.0 q.1,
+    )
 judged_keeps i g (If s m n o) t h =
     let e = sized_is s _ t h in
     let p = three_is (judged i g m) (judged i g n) (judged i g o) (λ a b c. choice (place_of m) a (place_of n) b (place_of o) c) t e.0 in

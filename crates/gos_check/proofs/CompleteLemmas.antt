@@ -1,28 +1,30 @@
 -- A term that has a type by the rules, and keeps the limits, is judged to have it.
-use Rattle.std.specs.Prelude.{◌≡◌, ◌<◌, ◌≤◌, ◌^◌, ℕ, List, ◌∷◌, true, false, Option, Some, None, Ok, if◌then◌else◌, ◌&&◌, nat_lt, nat_le}
-use Rattle.std.proofs.Common.{arith, refl, sym, ap, subst, ◌∙◌}
+use Rattle.std.specs.Prelude.{◌≡◌, ◌<◌, ◌≤◌, ◌^◌, ℕ, List, ◌∷◌, Bool, true, false, Option, Some, None, Ok, Err, if◌then◌else◌, ◌&&◌, ◌||◌, ◌==◌, nat_lt, nat_le}
+use Rattle.std.proofs.Common.{arith, refl, sym, ap, subst, ◌∙◌, inl, inr}
+use Rattle.std.proofs.lemmas.Bool.{and_from}
 use Rattle.std.proofs.lemmas.Bool.Decides.{nat_tests}
 use Rattle.gos_lex.specs.declared.token.Span.{Span}
 use Rattle.gos_types.specs.declared.widths.TheConstants.{GREATEST_WIDTH}
 use Rattle.gos_types.specs.Types.{Type', Com, Exp, Var, Pair, Fun, IsDone}
-use Rattle.gos_syntax.specs.Trees.{Tree, Skip, Lit, Use, Lam, New, App, Both, Fst, Snd, Seq, Par, If, While, Assign, Deref, Not, Bin}
+use Rattle.gos_syntax.specs.Trees.{Tree, Skip, Lit, Use, Lam, New, Array, App, Both, Fst, Snd, Seq, Par, If, While, Assign, Deref, Not, Bin}
 use Rattle.gos_model.specs.Terms.{Name}
 use Rattle.gos_model.specs.Terms as terms
-use Rattle.gos_model.specs.Typing.{Imports, Typed}
+use Rattle.gos_model.specs.Typing.{Imports, IsLength, array_type, Typed}
 use Rattle.gos_types.specs.Widths.{IsWidth, HasWidths}
 use Rattle.gos_model.specs.Weight.{count, node_type}
 use Rattle.gos_model.specs.Sources.{term_of, binder_of, bound_or_import}
 use Rattle.gos_model.specs.Laws.{NodeHasType}
-use Rattle.gos_check.specs.Faults.{Found, after}
-use Rattle.gos_check.specs.Written.{is_width, bad_width, small, literal, written, written_width}
+use Rattle.gos_check.specs.Faults.{Fault, Length, Found, after}
+use Rattle.gos_check.specs.Written.{is_width, bad_width, small, literal, written, written_width, is_length, written_length}
 use Rattle.gos_check.specs.Scopes.{Binders, type_at, used}
 use Rattle.gos_check.specs.Free.{free, apart}
 use Rattle.gos_check.specs.Demands.{application, first_side, second_side, sequence, parallel, choice, looping, assignment, reading, negation, operation, demanded, done}
 use Rattle.gos_check.specs.Judging.{place_of, of_two, of_three, separate, sized, judged}
+use Rattle.gos_check.specs.declared.written.TheConstants.{ARRAYS}
 use Rattle.gos_check.specs.inner.Walked.{names_of, types_of}
 use Rattle.gos_check.specs.Accepted.{IsSmall, IsWritten, KeepsLimits}
 use Rattle.gos_check.proofs.TypeLemmas.{demanded_same}
-use Rattle.gos_check.proofs.WeightLemmas.{looked_up, type_there}
+use Rattle.gos_check.proofs.WeightLemmas.{looked_up, type_there, array_rule}
 use Rattle.gos_check.proofs.ThingLemmas.{apart_of_model}
 
 pub after_ok : {A B : Type 0} (found : Found A) (next : A → Found B) (a : A) (b : B) → found ≡ Ok a → next a ≡ Ok b → after found next ≡ Ok b
@@ -80,6 +82,21 @@ written_ok s t (h, k) = rw (no_bad_width t h) (small_ok s t k)
 written_width_ok : (s : Span) (w : ℕ) → IsWidth w → written_width s w ≡ Ok tt
 written_width_ok s w h = rw (width_test w h) refl
 
+one_test : (n : ℕ) → IsLength n → ((n == 2) || ((n == 4) || ((n == 8) || (n == 16)))) ≡ true
+one_test n (inl e) = rw e refl
+one_test n (inr (inl e)) = rw e refl
+one_test n (inr (inr (inl e))) = rw e refl
+one_test n (inr (inr (inr e))) = rw e refl
+
+length_test : (n : ℕ) → ARRAYS ≡ true → IsLength n → is_length n ≡ true
+length_test n arrays is = and_from ARRAYS ((n == 2) || ((n == 4) || ((n == 8) || (n == 16)))) arrays (one_test n is)
+
+tested : (test : Bool) (fault : Fault) → test ≡ true → (let f : Found (Unit {0}) = if test then Ok tt else Err fault in f ≡ Ok tt)
+tested test fault h = rw h refl
+
+written_length_ok : (s : Span) (n : ℕ) → ARRAYS ≡ true → IsLength n → written_length s n ≡ Ok tt
+written_length_ok s n arrays is = tested (is_length n) (Length s n) (length_test n arrays is)
+
 literal_ok : (s : Span) (k w : ℕ) → IsWidth w → k < 2 ^ w → literal s k w ≡ Ok (Exp w)
 literal_ok s k w h l = rw (written_width_ok s w h, below k (2 ^ w) l) refl
   where
@@ -131,6 +148,13 @@ typed_judged law i g (New s x w wt m) t h k =
     (after_ok (written_width wt w) _ tt t (written_width_ok wt w h.1)
     (after_ok (judged i r m) (λ b. done (place_of m) b) t t (typed_judged law i r m t h.2 k.1) (done_ok (place_of m) t h.0)))
     (small_type law i (types_of g) (term_of (names_of g) (New s x w wt m)) t h k.0)
+typed_judged law i g (Array s x n u w wt m) t h k =
+    let r = record { name = x; ty = array_type n w } ∷ g in
+    sized_ok s (after (written_length u n) (array_rule i g x n w wt m)) t
+    (after_ok (written_length u n) (array_rule i g x n w wt m) tt t (written_length_ok u n k.0 h.1)
+    (after_ok (written_width wt w) (λ _. after (judged i (record { name = x; ty = array_type n w } ∷ g) m) (λ b. done (place_of m) b)) tt t (written_width_ok wt w h.2)
+    (after_ok (judged i r m) (λ b. done (place_of m) b) t t (typed_judged law i r m t h.3 k.2) (done_ok (place_of m) t h.0))))
+    (small_type law i (types_of g) (term_of (names_of g) (Array s x n u w wt m)) t h k.1)
 typed_judged law i g (App s m n) t h k =
     sized_ok s _ t
     (two_ok (judged i g m) (judged i g n) (λ a b. separate m n (application (place_of m) a (place_of n) b)) (Fun h.0 t) h.0 t

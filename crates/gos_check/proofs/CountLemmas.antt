@@ -35,8 +35,8 @@ type_within items rule i j t (grammar.a_function _ _ _ _ _ p s q) = type_within 
 type_within items rule i j t (grammar.a_base _ _ _ p) = type_within items _ _ _ _ p
 type_within items rule i j t (grammar.a_pair _ _ _ _ _ p s q) = type_within items _ _ _ _ q
 type_within items rule i j t (grammar.a_command _ w) = let k = read_within items i _ w in grind arith
-type_within items rule i j t (grammar.an_expression _ _ w n) = let k = read_within items (i + 1) _ n in grind arith
-type_within items rule i j t (grammar.a_variable _ _ w n) = let k = read_within items (i + 1) _ n in grind arith
+type_within items rule i j t (grammar.an_expression _ _ w n) = let k = read_within items (i + 1) _ n.0 in grind arith
+type_within items rule i j t (grammar.a_variable _ _ w n) = let k = read_within items (i + 1) _ n.0 in grind arith
 type_within items rule i j t (grammar.in_brackets _ k _ o p c) = let l = read_within items k _ c in grind arith
 
 -- a type has no more nodes than tokens
@@ -60,6 +60,7 @@ term_fits items rule i j t (grammar.a_sequence _ k _ a b p s q) =
 term_fits items rule i j t (grammar.a_lambda _ k _ x a m _ _ _ y _ p) =
     let h = type_fits items _ _ _ _ y in let l = term_fits items _ _ _ _ p in grind arith
 term_fits items rule i j t (grammar.a_block _ _ x w m _ _ _ _ _ p) = let l = term_fits items _ _ _ _ p in grind arith
+term_fits items rule i j t (grammar.an_array _ _ x n w m _ _ _ _ _ _ _ _ p) = let l = term_fits items _ _ _ _ p in grind arith
 term_fits items rule i j t (grammar.a_command _ _ _ p) = term_fits items _ _ _ _ p
 term_fits items rule i j t (grammar.both_commands _ k _ a b p s q) =
     let l = term_fits items _ _ _ _ p in let r = term_fits items _ _ _ _ q in grind arith
@@ -107,6 +108,7 @@ types_fit items rule i j t (grammar.a_lambda _ k _ x a m _ _ _ y _ p) b =
     let h = type_fits items _ _ _ _ y in let r = term_fits items _ _ _ _ p in
     (below (types.size a) j (grind arith) b, types_fit items _ _ _ _ p b)
 types_fit items rule i j t (grammar.a_block _ _ x w m _ _ _ _ _ p) b = types_fit items _ _ _ _ p b
+types_fit items rule i j t (grammar.an_array _ _ x n w m _ _ _ _ _ _ _ _ p) b = types_fit items _ _ _ _ p b
 types_fit items rule i j t (grammar.a_command _ _ _ p) b = types_fit items _ _ _ _ p b
 types_fit items rule i j t (grammar.both_commands _ k _ x y p s q) b =
     let r = term_fits items _ _ _ _ q in (types_fit items _ _ _ _ p (below k j (grind arith) b), types_fit items _ _ _ _ q b)

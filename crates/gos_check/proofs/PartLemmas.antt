@@ -1,7 +1,7 @@
 -- A tree and its parts: how many nodes it has, and how it is judged.
 use Rattle.std.specs.Prelude.{◌≡◌, ◌+◌}
 use Rattle.std.proofs.Common.{arith, refl}
-use Rattle.gos_syntax.specs.Trees.{Tree, Skip, Lit, Use, Lam, New, App, Both, Fst, Snd, Seq, Par, If, While, Assign, Deref, Not, Bin}
+use Rattle.gos_syntax.specs.Trees.{Tree, Skip, Lit, Use, Lam, New, Array, App, Both, Fst, Snd, Seq, Par, If, While, Assign, Deref, Not, Bin}
 use Rattle.gos_syntax.specs.Sizes.{size}
 use Rattle.gos_model.specs.Typing.{Imports}
 use Rattle.gos_check.specs.Scopes.{Binders}
@@ -15,6 +15,7 @@ size_parts (Lit s k w) = omega arith
 size_parts (Use s x) = omega arith
 size_parts (Lam s x a t m) = omega arith
 size_parts (New s x w t m) = omega arith
+size_parts (Array s x n u w t m) = omega arith
 size_parts (App s m n) = omega arith
 size_parts (Both s m n) = omega arith
 size_parts (Fst s m) = omega arith
@@ -35,6 +36,7 @@ judged_is i g (Lit s k w) = refl
 judged_is i g (Use s x) = refl
 judged_is i g (Lam s x a t m) = refl
 judged_is i g (New s x w t m) = refl
+judged_is i g (Array s x n u w t m) = refl
 judged_is i g (App s m n) = refl
 judged_is i g (Both s m n) = refl
 judged_is i g (Fst s m) = refl

@@ -3,7 +3,7 @@ use Rattle.std.specs.Prelude.{◌≡◌}
 use Rattle.std.proofs.Common.{refl}
 use Rattle.gos_lex.specs.declared.token.Span.{Span}
 use Rattle.gos_syntax.specs.declared.terms.Form.{Form}
-use Rattle.gos_syntax.specs.declared.terms.Form.TheVariants.{Skip as AtSkip, Lit as AtLit, Name as AtName, Fun', New', App', Pair', Fst', Snd', Seq', Par', If', While', Assign', Deref', Not', Bin'}
+use Rattle.gos_syntax.specs.declared.terms.Form.TheVariants.{Skip as AtSkip, Lit as AtLit, Name as AtName, Fun', New', Array', App', Pair', Fst', Snd', Seq', Par', If', While', Assign', Deref', Not', Bin'}
 use Rattle.gos_syntax.specs.Trees.{tree_of}
 use Rattle.gos_check.specs.Judging.{place_of}
 
@@ -13,6 +13,7 @@ place_is (AtLit value width) span = refl
 place_is (AtName name) span = refl
 place_is (Fun' name ty ty_span p s f) span = refl
 place_is (New' name width width_span p s f) span = refl
+place_is (Array' name length length_span width width_span p s f) span = refl
 place_is (App' p s f q t g) span = refl
 place_is (Pair' p s f q t g) span = refl
 place_is (Fst' p s f) span = refl

@@ -5,6 +5,7 @@ use Rattle.std.proofs.lemmas.Result.{IfOk-weaker}
 use Rattle.gos_lex.specs.declared.token.Span.{Span}
 use Rattle.gos_types.specs.Types.{Type', Fun, type_of}
 use Rattle.gos_syntax.specs.declared.terms.Form.{Form}
+use Rattle.gos_syntax.specs.declared.terms.Term.{Term}
 use Rattle.gos_syntax.specs.Trees.{Tree, tree_of}
 use Rattle.gos_syntax.specs.Sizes.{size}
 use Rattle.gos_model.specs.Typing.{Imports}
@@ -22,7 +23,7 @@ use Rattle.gos_check.specs.Demands.{done, choice}
 use Rattle.gos_check.specs.Judging.{place_of, of_two, of_three, sized, judged}
 use Rattle.gos_check.specs.inner.Rules.{rule_of_one, two_rule, function_found, ruled}
 use Rattle.gos_check.specs.inner.Known.{Finds, IsKnown, IsBounded, IsWhole}
-use Rattle.gos_check.specs.inner.Walked.{weight_of, parts_weight, parts_size, parts_judged}
+use Rattle.gos_check.specs.inner.Walked.{tree, weight_of, parts_weight, parts_size, parts_judged}
 use Rattle.gos_check.proofs.RuleLemmas.{ruled_is}
 use Rattle.gos_check.proofs.PlaceLemmas.{place_is}
 use Rattle.gos_check.proofs.PartLemmas.{size_parts, judged_is}
@@ -53,9 +54,24 @@ pub block_found : (w : Found (Unit {0})) (j : Found Type') (form : Form) (s : Sp
     → after w (λ _. after j (λ b. done (place_of (tree_of form s)) b)) ≡ done s a
 block_found w j form s a h k = rw (h, k, place_is form s) refl
 
+pub array_found : (l w : Found (Unit {0})) (j : Found Type') (form : Form) (s : Span) (a : Type') → l ≡ Ok tt → w ≡ Ok tt → j ≡ Ok a
+    → after l (λ _. after w (λ _. after j (λ b. done (place_of (tree_of form s)) b))) ≡ done s a
+array_found l w j form s a h k p = rw (h, k, p, place_is form s) refl
+
 pub choice_found : (j k l : Found Type') (f g h : Form) (s t u : Span) (a b c : Type') → j ≡ Ok a → k ≡ Ok b → l ≡ Ok c
     → of_three j k l (λ x y z. choice (place_of (tree_of f s)) x (place_of (tree_of g t)) y (place_of (tree_of h u)) z) ≡ choice s a t b u c
 choice_found j k l f g h s t u a b c p q r = rw (p, q, r, place_is f s, place_is g t, place_is h u) refl
+
+-- what a choice makes of terms of the program
+abbrev chosen : Imports → Binders → Term → Term → Term → Found Type'
+chosen i g m n p =
+    of_three (judged i g (tree m)) (judged i g (tree n)) (judged i g (tree p))
+    (λ a b c. choice (place_of (tree m)) a (place_of (tree n)) b (place_of (tree p)) c)
+
+-- the same is found of the same terms
+pub choice_at : (i : Imports) (g : Binders) (answer : Result Judged CheckFault) {m n p a b c : Term} → m ≡ a → n ≡ b → p ≡ c
+    → Finds (chosen i g m n p) answer → Finds (chosen i g a b c) answer
+choice_at i g answer e f h found = subst (λ (x : Found Type'). Finds x answer) (λ k. chosen i g (e k) (f k) (h k)) found
 
 two_there : (rule : TwoParts) (f g : Form) (s t : Span) (a b : Type') (os ps : List Occurrence) → os ≡ free (tree_of f s) → ps ≡ free (tree_of g t)
     → two_rule rule (place_of (tree_of f s)) a (free (tree_of f s)) (place_of (tree_of g t)) b (free (tree_of g t)) ≡ two_rule rule s a os t b ps
@@ -85,9 +101,9 @@ parts_refused i g tree e h =
 
 -- what is known of a whole term
 pub whole_there : (answer : Result Judged CheckFault) (i : Imports) (g : Binders) (tree : Tree) (names : List Occurrence) (weight : ℕ)
-    → names ≡ free tree → weight ≡ parts_weight i g tree → weight ≤ 68 * parts_size tree → Finds (judged i g tree) answer
+    → names ≡ free tree → weight ≡ parts_weight i g tree → weight ≤ 84 * parts_size tree + 16 → Finds (judged i g tree) answer
     → IfOk answer (λ part. (part.free.items ≡ names) × (count (type_of part.ty) ≤ 64) × (part.weight ≡ weight + 4 + count (type_of part.ty)))
-    → IfOk answer (λ part. IsWhole (free tree) (weight_of i g tree) (68 * size tree) part)
+    → IfOk answer (λ part. IsWhole (free tree) (weight_of i g tree) (84 * size tree) part)
 whole_there (Ok part) i g tree names weight h k l found known =
     let weighs = judged_weight i g tree (type_of part.ty) found in
     (known.0 ∙ h, known.1, omega (arith, known.2, weighs, k), omega (arith, known.2, known.1, l, size_parts tree))

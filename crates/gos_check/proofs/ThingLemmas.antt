@@ -3,7 +3,7 @@ use Rattle.std.specs.Prelude.{◌≡◌, ◌⊎◌, ◌<◌, ◌+◌, ◌-◌, �
 use Rattle.std.proofs.Common.{arith, refl, sym, ap, subst, ◌∙◌, inl, inr}
 use Rattle.std.proofs.lemmas.Bool.Decides.{nat_tests}
 use Rattle.std.proofs.lemmas.List.Elements.{Contains-append_left, Contains-append_right, Contains-append_cases}
-use Rattle.gos_syntax.specs.Trees.{Tree, Skip, Lit, Use, Lam, New, App, Both, Fst, Snd, Seq, Par, If, While, Assign, Deref, Not, Bin}
+use Rattle.gos_syntax.specs.Trees.{Tree, Skip, Lit, Use, Lam, New, Array, App, Both, Fst, Snd, Seq, Par, If, While, Assign, Deref, Not, Bin}
 use Rattle.gos_model.specs.Terms.{Name}
 use Rattle.gos_model.specs.Typing.{Thing, Variable, Named, things, Apart}
 use Rattle.gos_model.specs.Sources.{term_of, binder_of, bound_or_import, one_further}
@@ -108,6 +108,7 @@ things_free xs ns (Use s x) t h =
     ]
 things_free xs ns (Lam s x a at m) t h = means_below x xs ns (free m) t (things_free (x ∷ xs) ns m t h)
 things_free xs ns (New s x w wt m) t h = means_below x xs ns (free m) t (things_free (x ∷ xs) ns m t h)
+things_free xs ns (Array s x n u w wt m) t h = means_below x xs ns (free m) t (things_free (x ∷ xs) ns m t h)
 things_free xs ns (App s m n) t h = means_two xs ns _ _ t (either_way _ _ t (things_free xs ns m t) (things_free xs ns n t) h)
 things_free xs ns (Both s m n) t h = means_two xs ns _ _ t (either_way _ _ t (things_free xs ns m t) (things_free xs ns n t) h)
 things_free xs ns (Fst s m) t h = things_free xs ns m t h
@@ -156,6 +157,7 @@ free_things xs ns (Use s y) x (inl e) k =
     (there (thing_of ns x)))
 free_things xs ns (Lam s y a at m) x h k = let q = without_has y (free m) x h in free_things (y ∷ xs) ns m x q.0 (q.1, k)
 free_things xs ns (New s y w wt m) x h k = let q = without_has y (free m) x h in free_things (y ∷ xs) ns m x q.0 (q.1, k)
+free_things xs ns (Array s y n u w wt m) x h k = let q = without_has y (free m) x h in free_things (y ∷ xs) ns m x q.0 (q.1, k)
 free_things xs ns (App s m n) x h k = two_things _ _ _ (free m) (free n) x (λ l. free_things xs ns m x l k) (λ l. free_things xs ns n x l k) h
 free_things xs ns (Both s m n) x h k = two_things _ _ _ (free m) (free n) x (λ l. free_things xs ns m x l k) (λ l. free_things xs ns n x l k) h
 free_things xs ns (Fst s m) x h k = free_things xs ns m x h k

@@ -3,15 +3,17 @@ use Rattle.std.specs.Prelude.{◌≡◌, ℕ, ◌+◌, List, [], ◌∷◌, Bool
 use Rattle.std.specs.Str.{bytes_eq}
 use Rattle.std.proofs.Common.{arith, refl, ap, ◌∙◌, subst}
 use Rattle.std.proofs.lemmas.List.Sums.{sum_by-cons}
+use Rattle.gos_lex.specs.declared.token.Span.{Span}
 use Rattle.gos_types.specs.Types.{Type', Com, Var, Pair, Fun, type_of}
 use Rattle.gos_syntax.specs.Modules.{SeenImport}
-use Rattle.gos_syntax.specs.Trees.{Tree, Skip, Lit, Use, Lam, New, App, Both, Fst, Snd, Seq, Par, If, While, Assign, Deref, Not, Bin}
+use Rattle.gos_syntax.specs.Trees.{Tree, Skip, Lit, Use, Lam, New, Array, App, Both, Fst, Snd, Seq, Par, If, While, Assign, Deref, Not, Bin}
 use Rattle.gos_model.specs.Terms.{Name}
-use Rattle.gos_model.specs.Typing.{Imports, import_type}
+use Rattle.gos_model.specs.Typing.{Imports, import_type, array_type}
 use Rattle.gos_model.specs.Weight.{count, or_com, after_fun, left_of, right_of, read_of, op_type, node_type, nodes_weight}
 use Rattle.gos_model.specs.Sources.{import_of, term_of, binder_of, bound_or_import, one_further, op_of}
 use Rattle.gos_syntax.specs.Sizes.{size}
-use Rattle.gos_check.specs.Written.{literal, written, written_width}
+use Rattle.gos_check.specs.Faults.{Found, after}
+use Rattle.gos_check.specs.Written.{literal, written, written_width, written_length}
 use Rattle.gos_check.specs.Scopes.{Binder, Binders, type_at, used}
 use Rattle.gos_check.specs.Demands.{application, first_side, second_side, sequence, parallel, choice, looping, assignment, reading, negation, operation, done}
 use Rattle.gos_check.specs.Judging.{place_of, separate, judged}
@@ -46,6 +48,11 @@ use_type : (i : Imports) (types : List Type') (x : Name) (o : Option ℕ) → no
 use_type i types x None = refl
 use_type i types x (Some n) = refl
 
+-- what is asked of a block with an array behind its length
+abbrev pub array_rule : Imports → Binders → Name → ℕ → ℕ → Span → Tree → Unit {0} → Found Type'
+array_rule i g x n w wt m _ =
+    after (written_width wt w) (λ _. after (judged i (record { name = x; ty = array_type n w } ∷ g) m) (λ b. done (place_of m) b))
+
 -- the type that weighs a term that is judged is its type
 pub judged_type : (i : Imports) (g : Binders) (tree : Tree) (t : Type') → judged i g tree ≡ Ok t
     → node_type i (types_of g) (term_of (names_of g) tree) ≡ t
@@ -61,6 +68,12 @@ judged_type i g (New s x w wt m) t h =
     let p = after_is (written_width wt w) _ t (sized_is s _ t h).0 in
     let q = after_is (judged i (record { name = x; ty = Var w } ∷ g) m) (λ b. done (place_of m) b) t p.2 in
     judged_type i (record { name = x; ty = Var w } ∷ g) m q.0 q.1 ∙ (done_is (place_of m) q.0 t q.2).1
+judged_type i g (Array s x n u w wt m) t h =
+    let e = sized_is s (after (written_length u n) (array_rule i g x n w wt m)) t h in
+    let o = after_is (written_length u n) (array_rule i g x n w wt m) t e.0 in
+    let p = after_is (written_width wt w) (λ _. after (judged i (record { name = x; ty = array_type n w } ∷ g) m) (λ b. done (place_of m) b)) t o.2 in
+    let q = after_is (judged i (record { name = x; ty = array_type n w } ∷ g) m) (λ b. done (place_of m) b) t p.2 in
+    judged_type i (record { name = x; ty = array_type n w } ∷ g) m q.0 q.1 ∙ (done_is (place_of m) q.0 t q.2).1
 judged_type i g (App s m n) t h =
     let p = two_is (judged i g m) (judged i g n) (λ a b. separate m n (application (place_of m) a (place_of n) b)) t (sized_is s _ t h).0 in
     let q = separate_is m n (application (place_of m) p.0 (place_of n) p.1) t p.4 in
@@ -119,6 +132,7 @@ parts_weigh i g (Lit s k w) = omega arith
 parts_weigh i g (Use s x) = omega (arith, use_weight i (types_of g) x (binder_of (names_of g) x))
 parts_weigh i g (Lam s x a at m) = refl
 parts_weigh i g (New s x w wt m) = refl
+parts_weigh i g (Array s x n u w wt m) = omega arith
 parts_weigh i g (App s m n) = omega arith
 parts_weigh i g (Both s m n) = omega arith
 parts_weigh i g (Fst s m) = refl
@@ -145,6 +159,7 @@ nodes_weigh i g (Lit s k w) = omega arith
 nodes_weigh i g (Use s x) = omega (arith, use_weight i (types_of g) x (binder_of (names_of g) x))
 nodes_weigh i g (Lam s x a at m) = omega (arith, nodes_weigh i (record { name = x; ty = a } ∷ g) m)
 nodes_weigh i g (New s x w wt m) = omega (arith, nodes_weigh i (record { name = x; ty = Var w } ∷ g) m)
+nodes_weigh i g (Array s x n u w wt m) = omega (arith, nodes_weigh i (record { name = x; ty = array_type n w } ∷ g) m)
 nodes_weigh i g (App s m n) = omega (arith, nodes_weigh i g m, nodes_weigh i g n)
 nodes_weigh i g (Both s m n) = omega (arith, nodes_weigh i g m, nodes_weigh i g n)
 nodes_weigh i g (Fst s m) = omega (arith, nodes_weigh i g m)

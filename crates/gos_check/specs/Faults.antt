@@ -25,6 +25,7 @@ pub data Fault : Type 0 where
   TypeTooLarge : (span : Span) (handshakes : ℕ) → Fault
   Repeated : (name : List ℕ) (first second : Span) → Fault
   TooHeavy : (weight : ℕ) → Fault
+  Length : (span : Span) (length : ℕ) → Fault
 
 -- what the program says is wanted, without boxes
 abbrev pub wanted_of : Want → Wanted
@@ -44,6 +45,7 @@ fault_of (faults.Width span width value) = Some (Width span width value)
 fault_of (faults.TypeTooLarge span handshakes) = Some (TypeTooLarge span handshakes)
 fault_of (faults.Repeated name first second) = Some (Repeated name first second)
 fault_of (faults.TooHeavy weight) = Some (TooHeavy weight)
+fault_of (faults.Length span length) = Some (Length span length)
 fault_of faults.NoMemory = None
 
 -- an answer to a question that may have a fault: what was asked for, or the first fault

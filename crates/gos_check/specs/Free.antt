@@ -4,7 +4,7 @@
 use Rattle.std.specs.Prelude.{ℕ, List, [], ◌∷◌, ◌++◌, Option, Some, None, Ok, Err, if◌then◌else◌}
 use Rattle.std.specs.Str.{bytes_eq}
 use Rattle.gos_lex.specs.declared.token.Span.{Span}
-use Rattle.gos_syntax.specs.Trees.{Tree, Skip, Lit, Use, Lam, New, App, Both, Fst, Snd, Seq, Par, If, While, Assign, Deref, Not, Bin}
+use Rattle.gos_syntax.specs.Trees.{Tree, Skip, Lit, Use, Lam, New, Array, App, Both, Fst, Snd, Seq, Par, If, While, Assign, Deref, Not, Bin}
 use Rattle.gos_check.specs.declared.free.Occurrence.{Occurrence}
 use Rattle.gos_check.specs.Faults.{Shared, Found}
 
@@ -39,6 +39,7 @@ free (Lit s k w) = []
 free (Use s x) = record { name = x; span = s } ∷ []
 free (Lam s x a t m) = without x (free m)
 free (New s x w t m) = without x (free m)
+free (Array s x n u w t m) = without x (free m)
 free (App s m n) = joined (free m) (free n)
 free (Both s m n) = joined (free m) (free n)
 free (Fst s m) = free m

@@ -1,15 +1,15 @@
 -- The type of a term, or its first fault.
 --
--- Read first: Written, Scopes, Free, Demands. The faults of a node come in this order: those of its written type, width or
--- literal; those of its parts from left to right; those of its own demands from left to right; a name that is free in both
+-- Read first: Written, Scopes, Free, Demands. The faults of a node come in this order: those of its written type, length, width or
+-- literal, the length before the width; those of its parts from left to right; those of its own demands from left to right; a name that is free in both
 -- parts of an application or of `||`; a type with too many handshakes.
-use Rattle.std.specs.Prelude.{◌∷◌, Ok}
+use Rattle.std.specs.Prelude.{◌≡◌, ℕ, List, ◌∷◌, Ok, Err}
 use Rattle.gos_lex.specs.declared.token.Span.{Span}
 use Rattle.gos_types.specs.Types.{Type', Com, Var, Pair, Fun}
-use Rattle.gos_syntax.specs.Trees.{Tree, Skip, Lit, Use, Lam, New, App, Both, Fst, Snd, Seq, Par, If, While, Assign, Deref, Not, Bin}
-use Rattle.gos_model.specs.Typing.{Imports}
-use Rattle.gos_check.specs.Faults.{Found, after}
-use Rattle.gos_check.specs.Written.{small, written, written_width, literal}
+use Rattle.gos_syntax.specs.Trees.{Tree, Skip, Lit, Use, Lam, New, Array, App, Both, Fst, Snd, Seq, Par, If, While, Assign, Deref, Not, Bin}
+use Rattle.gos_model.specs.Typing.{Imports, array_type}
+use Rattle.gos_check.specs.Faults.{Length, Found, after}
+use Rattle.gos_check.specs.Written.{small, written, written_width, written_length, literal}
 use Rattle.gos_check.specs.Scopes.{Binders, type_at, used}
 use Rattle.gos_check.specs.Free.{free, apart}
 use Rattle.gos_check.specs.Demands.{done, application, first_side, second_side, sequence, parallel, choice, looping, assignment, reading, negation, operation}
@@ -21,6 +21,7 @@ place_of (Lit s k w) = s
 place_of (Use s x) = s
 place_of (Lam s x a t m) = s
 place_of (New s x w t m) = s
+place_of (Array s x n u w t m) = s
 place_of (App s m n) = s
 place_of (Both s m n) = s
 place_of (Fst s m) = s
@@ -58,6 +59,9 @@ judged i g (Use s x) = sized s (used s x (type_at i g x))
 judged i g (Lam s x a t m) = sized s (after (written t a) (λ _. after (judged i (record { name = x; ty = a } ∷ g) m) (λ b. Ok (Fun a b))))
 judged i g (New s x w t m) =
     sized s (after (written_width t w) (λ _. after (judged i (record { name = x; ty = Var w } ∷ g) m) (λ b. done (place_of m) b)))
+judged i g (Array s x n u w t m) =
+    sized s (after (written_length u n) (λ _. after (written_width t w) (λ _.
+    after (judged i (record { name = x; ty = array_type n w } ∷ g) m) (λ b. done (place_of m) b))))
 judged i g (App s m n) = sized s (of_two (judged i g m) (judged i g n) (λ a b. separate m n (application (place_of m) a (place_of n) b)))
 judged i g (Both s m n) = sized s (of_two (judged i g m) (judged i g n) (λ a b. Ok (Pair a b)))
 judged i g (Fst s m) = sized s (after (judged i g m) (λ a. first_side (place_of m) a))
@@ -71,3 +75,8 @@ judged i g (Assign s m n) = sized s (of_two (judged i g m) (judged i g n) (λ a 
 judged i g (Deref s m) = sized s (after (judged i g m) (λ a. reading (place_of m) a))
 judged i g (Not s m) = sized s (after (judged i g m) (λ a. negation (place_of m) a))
 judged i g (Bin s op m n) = sized s (of_two (judged i g m) (judged i g n) (λ a b. operation op (place_of m) a (place_of n) b))
+
+-- as long as there are no arrays, a block with one is refused for its length
+abbrev pub ArraysAreRefused : Type 0
+ArraysAreRefused =
+    (i : Imports) (g : Binders) (s u v : Span) (x : List ℕ) (n w : ℕ) (m : Tree) → judged i g (Array s x n u w v m) ≡ Err (Length u n)

@@ -99,13 +99,14 @@ choice_after splits names m n c =
 abbrev pub choice_result : Result → Result → Result → Result
 choice_result a b c = choice_after (inner_splits a b) (inner_names a b) a.node b.node c
 
--- a tree under imports and binders, from a number on
+-- a tree under imports and binders, from a number on; no block with an array is accepted, so what stands for one is not asked
 abbrev pub numbered : Imports → Binders → ℕ → Tree → Result
 numbered i g n (trees.Skip s) = closed_result Com terms.Skip n
 numbered i g n (trees.Lit s k w) = closed_result (Exp w) (terms.Lit k w) n
 numbered i g n (trees.Use s x) = use_result (or_com (type_at i g x)) x n
 numbered i g n (trees.Lam s x a t m) = binder_result OfFun x a (numbered i (record { name = x; ty = a } ∷ g) n m)
 numbered i g n (trees.New s x w t m) = binder_result (OfNew w) x (Var w) (numbered i (record { name = x; ty = Var w } ∷ g) n m)
+numbered i g n (trees.Array s x k u w t m) = closed_result Com terms.Skip n
 numbered i g n (trees.App s l r) = two_result OfApp (numbered i g n l) (numbered i g (numbered i g n l).next r)
 numbered i g n (trees.Both s l r) = two_result OfBoth (numbered i g n l) (numbered i g (numbered i g n l).next r)
 numbered i g n (trees.Fst s m) = one_result OfFst (numbered i g n m)

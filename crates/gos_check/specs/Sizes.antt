@@ -2,7 +2,7 @@
 use Rattle.std.specs.Prelude.{◌^◌, ◌<◌, List, [], ◌∷◌, length}
 use Rattle.gos_types.specs.Types.{Type', type_of}
 use Rattle.gos_types.specs.Types as types
-use Rattle.gos_syntax.specs.Trees.{Tree, Skip, Lit, Use, Lam, New, App, Both, Fst, Snd, Seq, Par, If, While, Assign, Deref, Not, Bin, tree_of}
+use Rattle.gos_syntax.specs.Trees.{Tree, Skip, Lit, Use, Lam, New, Array, App, Both, Fst, Snd, Seq, Par, If, While, Assign, Deref, Not, Bin, tree_of}
 use Rattle.gos_syntax.specs.Sizes.{size}
 use Rattle.gos_syntax.specs.Modules.{SeenImport, SeenModule}
 
@@ -17,6 +17,7 @@ WritesCountable (Lit s value width) = Unit {0}
 WritesCountable (Use s name) = Unit {0}
 WritesCountable (Lam s name ty ty_span body) = IsCountable ty × WritesCountable body
 WritesCountable (New s name width width_span body) = WritesCountable body
+WritesCountable (Array s name length length_span width width_span body) = WritesCountable body
 WritesCountable (App s a b) = WritesCountable a × WritesCountable b
 WritesCountable (Both s a b) = WritesCountable a × WritesCountable b
 WritesCountable (Fst s a) = WritesCountable a

@@ -1,12 +1,13 @@
--- Widths, literals, and types as they are written.
+-- Widths, lengths, literals, and types as they are written.
 --
--- Read first: Faults. Widths are 1 to the greatest, and a type has at most 64 handshakes.
-use Rattle.std.specs.Prelude.{ℕ, ◌^◌, Bool, ◌&&◌, Option, Some, None, Ok, Err, nat_lt, nat_le, if◌then◌else◌}
+-- Read first: Faults. Widths are 1 to the greatest, arrays have 2, 4, 8 or 16 numbers, and a type has at most 64 handshakes.
+use Rattle.std.specs.Prelude.{ℕ, ◌^◌, Bool, ◌&&◌, ◌||◌, ◌==◌, Option, Some, None, Ok, Err, nat_lt, nat_le, if◌then◌else◌}
 use Rattle.gos_lex.specs.declared.token.Span.{Span}
 use Rattle.gos_types.specs.declared.widths.TheConstants.{GREATEST_WIDTH}
 use Rattle.gos_types.specs.Types.{Type', Com, Exp, Var, Pair, Fun}
 use Rattle.gos_model.specs.Weight.{count}
-use Rattle.gos_check.specs.Faults.{Width, TypeTooLarge, Found, after}
+use Rattle.gos_check.specs.declared.written.TheConstants.{ARRAYS}
+use Rattle.gos_check.specs.Faults.{Width, TypeTooLarge, Length, Found, after}
 
 -- whether a number is a width
 abbrev pub is_width : ℕ → Bool
@@ -41,6 +42,14 @@ written span t = after (no_bad span (bad_width t)) (λ _. small span t)
 -- the written width of a variable
 abbrev pub written_width : Span → ℕ → Found (Unit {0})
 written_width span w = if is_width w then Ok tt else Err (Width span w 0)
+
+-- whether an array may have so many numbers; where there are no arrays none may
+abbrev pub is_length : ℕ → Bool
+is_length n = ARRAYS && ((n == 2) || ((n == 4) || ((n == 8) || (n == 16))))
+
+-- the written length of an array
+abbrev pub written_length : Span → ℕ → Found (Unit {0})
+written_length span n = if is_length n then Ok tt else Err (Length span n)
 
 -- a literal: its width, and then its value
 abbrev pub literal : Span → ℕ → ℕ → Found Type'

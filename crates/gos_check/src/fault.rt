@@ -78,6 +78,12 @@ pub enum CheckFault {
     TooHeavy {
         weight: u64,
     },
+    /// An array of so many numbers, where arrays have 2, 4, 8 or 16; as long as there are no arrays, of any length.
+    #[error("length {length} at {span:?}")]
+    Length {
+        span: Span,
+        length: u32,
+    },
     /// Memory was refused. This says nothing of the module.
     #[error("out of memory")]
     NoMemory,

@@ -129,6 +129,27 @@ pub(crate) fn typed_block(
     })
 }
 
+// A block with an array of so many numbers, whose body is typed and stands at this place.
+pub(crate) fn typed_array(
+    alloc: Global,
+    name: &Name,
+    span: Span,
+    length: u32,
+    body: Judged,
+) -> Result<Judged, CheckFault>
+    requires outcome { count (type_of body.ty) ≤ 64 }
+    requires weight { length + body.weight < 2 ^ 64 }
+    ensures found { Finds (done span (type_of body.ty)) result }
+    ensures known { IfOk result (λ part. IsKnown (without name.now body.free.items) (length + body.weight) part) }
+{
+    let block = typed_block(alloc, name, span, body)?;
+    Ok(Judged {
+        ty: block.ty,
+        free: block.free,
+        weight: u64::from(length) + block.weight,
+    })
+}
+
 // A form of one part.
 pub(crate) fn typed_one(rule: OnePart, span: Span, part: Judged) -> Result<Judged, CheckFault>
     requires { count (type_of part.ty) ≤ 64 }

@@ -8,10 +8,11 @@
 ghost use Rattle.std.specs.Prelude.{◌+◌, ◌*◌, ◌^◌, ◌<◌, [], ◌∷◌, map, Ok, IfOk};
 ghost use Rattle.gos_types.specs.Types.{type_of, Fun, Var};
 ghost use Rattle.gos_model.specs.Sources.{import_of};
+ghost use Rattle.gos_model.specs.Typing.{array_type};
 ghost use Rattle.gos_syntax.specs.Sizes.{size};
 ghost use Rattle.gos_check.specs.Sizes.{IsCountable, WritesCountable, AreCountable};
 ghost use Rattle.gos_check.specs.Faults.{after};
-ghost use Rattle.gos_check.specs.Written.{written, written_width};
+ghost use Rattle.gos_check.specs.Written.{written, written_width, written_length};
 ghost use Rattle.gos_check.specs.Scopes.{type_at, used};
 ghost use Rattle.gos_check.specs.Free.{free, joined, without};
 ghost use Rattle.gos_check.specs.Demands.{done, choice};
@@ -22,13 +23,13 @@ ghost use Rattle.gos_check.specs.inner.Known.{Finds, IsKnown, IsBounded, IsWhole
 ghost use Rattle.gos_check.specs.inner.Walked.{tree, BindCountable, weight_of, parts_weight, parts_size, parts_judged};
 
 use crate::fault::CheckFault;
-use crate::forms::{OnePart, TwoParts};
+use crate::forms::{OnePart, TwoParts, array_type};
 use crate::judged::{
-    Judged, closed, counted, typed_block, typed_choice, typed_function, typed_literal, typed_name,
-    typed_one, typed_two,
+    Judged, closed, counted, typed_array, typed_block, typed_choice, typed_function, typed_literal,
+    typed_name, typed_one, typed_two,
 };
 use crate::scope::Scope;
-use crate::written::{written, written_width};
+use crate::written::{written, written_length, written_width};
 use gos_lex::{Name, Span};
 use gos_syntax::{Form, Import, Term};
 use gos_types::Ty;
@@ -48,7 +49,7 @@ pub(crate) fn judge(
     requires types { WritesCountable (tree term.now) }
     ensures found { Finds (judged (map import_of imports.now) (binders_of scope.now) (tree term.now)) result }
     ensures known { IfOk result (λ part. IsWhole (free (tree term.now))
-        (weight_of (map import_of imports.now) (binders_of scope.now) (tree term.now)) (68 * size (tree term.now)) part) }
+        (weight_of (map import_of imports.now) (binders_of scope.now) (tree term.now)) (84 * size (tree term.now)) part) }
 {
     let part = judge_form(alloc, imports, scope, term)?;
     counted(term.span, part)
@@ -68,7 +69,7 @@ fn judge_form(
     requires types { WritesCountable (tree term.now) }
     ensures found { Finds (parts_judged (map import_of imports.now) (binders_of scope.now) (tree term.now)) result }
     ensures known { IfOk result (λ part. IsBounded (free (tree term.now))
-        (parts_weight (map import_of imports.now) (binders_of scope.now) (tree term.now)) (68 * parts_size (tree term.now)) part) }
+        (parts_weight (map import_of imports.now) (binders_of scope.now) (tree term.now)) (84 * parts_size (tree term.now) + 16) part) }
 {
     match &term.form {
         Form::Skip => Ok(closed(alloc, Ty::Com)),
@@ -86,6 +87,25 @@ fn judge_form(
             width_span,
             body,
         } => judge_block(alloc, imports, scope, name, *width, *width_span, body),
+        Form::Array {
+            name,
+            length,
+            length_span,
+            width,
+            width_span,
+            body,
+        } => {
+            let length = (*length, *length_span);
+            judge_array(
+                alloc,
+                imports,
+                scope,
+                name,
+                length,
+                (*width, *width_span),
+                body,
+            )
+        }
         Form::App(m, n) => judge_two(alloc, imports, scope, TwoParts::Application, m, n),
         Form::Pair(m, n) => judge_two(alloc, imports, scope, TwoParts::Product, m, n),
         Form::Fst(m) => judge_one(alloc, imports, scope, OnePart::First, m),
@@ -144,7 +164,7 @@ fn judge_function(
         (tree body.now)) (λ b. Ok (Fun (type_of ty.now) b)))) result }
     ensures known { IfOk result (λ part. IsBounded (without name.now (free (tree body.now)))
         (weight_of (map import_of imports.now) (record { name = name.now; ty = type_of ty.now } ∷ binders_of scope.now)
-        (tree body.now)) (68 * size (tree body.now)) part) }
+        (tree body.now)) (84 * size (tree body.now) + 16) part) }
 {
     written(ty_span, ty)?;
     let inner = Scope::Binder {
@@ -176,7 +196,7 @@ fn judge_block(
         (tree body.now)) (λ b. done (place_of (tree body.now)) b))) result }
     ensures known { IfOk result (λ part. IsBounded (without name.now (free (tree body.now)))
         (weight_of (map import_of imports.now) (record { name = name.now; ty = Var width } ∷ binders_of scope.now)
-        (tree body.now)) (68 * size (tree body.now)) part) }
+        (tree body.now)) (84 * size (tree body.now) + 16) part) }
 {
     written_width(width_span, width)?;
     let variable = Ty::Var(width);
@@ -187,6 +207,40 @@ fn judge_block(
     };
     let judged = judge(alloc, imports, &inner, body)?;
     typed_block(alloc, &*name, body.span, judged)
+}
+
+// A block with an array, with its length and its width, each with its place.
+#[cycle(judging)]
+fn judge_array(
+    alloc: Global,
+    imports: &[Import],
+    scope: &Scope,
+    name: &Name,
+    length: (u32, Span),
+    width: (u32, Span),
+    body: &Term,
+) -> Result<Judged, CheckFault>
+    requires imports { AreCountable imports.now }
+    requires scope { BindCountable (binders_of scope.now) }
+    requires size { size (tree body.now) + 1 < 2 ^ 32 }
+    requires types { WritesCountable (tree body.now) }
+    ensures found { Finds (after (written_length length.1 length.0) (λ _. after (written_width width.1 width.0) (λ _.
+        after (judged (map import_of imports.now) (record { name = name.now; ty = array_type length.0 width.0 } ∷ binders_of scope.now)
+        (tree body.now)) (λ b. done (place_of (tree body.now)) b)))) result }
+    ensures known { IfOk result (λ part. IsBounded (without name.now (free (tree body.now)))
+        (length.0 + weight_of (map import_of imports.now) (record { name = name.now; ty = array_type length.0 width.0 } ∷ binders_of scope.now)
+        (tree body.now)) (84 * size (tree body.now) + 16) part) }
+{
+    written_length(length.1, length.0)?;
+    written_width(width.1, width.0)?;
+    let array = array_type(alloc, length.0, width.0)?;
+    let inner = Scope::Binder {
+        name: &*name,
+        ty: &array,
+        outer: &*scope,
+    };
+    let judged = judge(alloc, imports, &inner, body)?;
+    typed_array(alloc, &*name, body.span, length.0, judged)
 }
 
 // A form of one part.
@@ -205,7 +259,7 @@ fn judge_one(
     ensures found { Finds (after (judged (map import_of imports.now) (binders_of scope.now) (tree m.now)) (λ a.
         rule_of_one rule (place_of (tree m.now)) a)) result }
     ensures known { IfOk result (λ part. IsBounded (free (tree m.now))
-        (weight_of (map import_of imports.now) (binders_of scope.now) (tree m.now)) (68 * size (tree m.now)) part) }
+        (weight_of (map import_of imports.now) (binders_of scope.now) (tree m.now)) (84 * size (tree m.now) + 16) part) }
 {
     let part = judge(alloc, imports, scope, m)?;
     typed_one(rule, m.span, part)
@@ -232,7 +286,7 @@ fn judge_two(
     ensures known { IfOk result (λ part. IsBounded (joined (free (tree m.now)) (free (tree n.now)))
         (weight_of (map import_of imports.now) (binders_of scope.now) (tree m.now)
         + weight_of (map import_of imports.now) (binders_of scope.now) (tree n.now))
-        (68 * (size (tree m.now) + size (tree n.now))) part) }
+        (84 * (size (tree m.now) + size (tree n.now)) + 16) part) }
 {
     let left = judge(alloc, imports, scope, m)?;
     let right = judge(alloc, imports, scope, n)?;
@@ -263,7 +317,7 @@ fn judge_choice(
         (weight_of (map import_of imports.now) (binders_of scope.now) (tree m.now)
         + weight_of (map import_of imports.now) (binders_of scope.now) (tree n.now)
         + weight_of (map import_of imports.now) (binders_of scope.now) (tree p.now))
-        (68 * (size (tree m.now) + size (tree n.now) + size (tree p.now))) part) }
+        (84 * (size (tree m.now) + size (tree n.now) + size (tree p.now)) + 16) part) }
 {
     let test = judge(alloc, imports, scope, m)?;
     let yes = judge(alloc, imports, scope, n)?;

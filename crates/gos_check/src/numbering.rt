@@ -120,6 +120,8 @@ fn number(
             body,
             ..
         } => number_block(alloc, imports, scope, next, name, *width, body),
+        // `check` accepts none.
+        Form::Array { .. } => closed(alloc, next, Ty::Com, NodeForm::Skip),
         Form::App(m, n) => number_two(alloc, imports, scope, next, TwoParts::Application, m, n),
         Form::Pair(m, n) => number_two(alloc, imports, scope, next, TwoParts::Product, m, n),
         Form::Fst(m) => number_one(alloc, imports, scope, next, OnePart::First, m),

@@ -1,15 +1,18 @@
-// Widths, literals, and types as they are written.
+// Widths, lengths, literals, and types as they are written.
 
 ghost use Rattle.std.specs.Prelude.{◌≡◌, ◌<◌, ◌≤◌, IfOk, IfErr};
 ghost use Rattle.gos_types.specs.Types.{type_of, Exp};
 ghost use Rattle.gos_model.specs.Weight.{count};
 ghost use Rattle.gos_check.specs.Sizes.{IsCountable};
 ghost use Rattle.gos_check.specs.Faults.{Refuses};
-ghost use Rattle.gos_check.specs.Written.{is_width, first_of, bad_width, small, written, written_width, literal};
+ghost use Rattle.gos_check.specs.Written.{is_width, first_of, bad_width, small, written, written_width, is_length, written_length, literal};
 
 use crate::fault::CheckFault;
 use gos_lex::Span;
 use gos_types::{Ty, count, fits, is_width};
+
+/// Whether there are arrays. There are none before their circuits are: until then each block with an array is refused.
+pub const ARRAYS: bool = false;
 
 // How many handshakes a type may have.
 const MAX_HANDSHAKES: u64 = 64;
@@ -89,6 +92,26 @@ pub(crate) fn written_width(span: Span, width: u32) -> Result<(), CheckFault>
             width,
             value: 0,
         })
+    }
+}
+
+// Whether an array may have so many numbers.
+fn is_length(length: u32) -> bool
+    ensures { result ≡ is_length length }
+{
+    ARRAYS && (length == 2 || length == 4 || length == 8 || length == 16)
+}
+
+// Whether the written length of an array is one.
+pub(crate) fn written_length(span: Span, length: u32) -> Result<(), CheckFault>
+    ensures ok { IfOk result (λ _. written_length span length ≡ Ok tt) }
+    ensures few { IfOk result (λ _. length ≤ 16) }
+    ensures err { IfErr result (λ e. Refuses (written_length span length) e) }
+{
+    if is_length(length) {
+        Ok(())
+    } else {
+        Err(CheckFault::Length { span, length })
     }
 }
 

@@ -133,13 +133,52 @@ fn prints_what_reads_as_the_same_module(rt: HostRuntime) -> Result<(), Fail> {
     Ok(())
 }
 
+#[test]
+fn prints_an_array(rt: HostRuntime) -> Result<(), Fail> {
+    let source = b"export new a[4]:8 in (a 1:2 := 7:8 ; !(a 1:2)) : exp 8";
+    let wanted = b"export new a[4] : 8 in ((a 1:2) := 7:8) ; (!(a 1:2)) : exp 8\n";
+    let text = printed(rt.alloc(), source)?;
+    assert!(rt; text.as_slice() == wanted.as_slice());
+    let again = printed(rt.alloc(), text.as_slice())?;
+    assert!(rt; again.as_slice() == wanted.as_slice());
+    Ok(())
+}
+
+// The length of a block with an array, and its width, each with its place.
+fn array_of(term: &Term) -> Option<(u32, Span, u32, Span)> {
+    match &term.form {
+        Form::Array {
+            length,
+            length_span,
+            width,
+            width_span,
+            ..
+        } => Some((*length, *length_span, *width, *width_span)),
+        _ => None,
+    }
+}
+
+#[test]
+fn reads_an_array(rt: HostRuntime) -> Result<(), Fail> {
+    let module = read(rt.alloc(), b"export new a[4] : 08 in skip : com")?;
+    assert!(rt; stands(&module.body, 7, 28));
+    assert!(rt; array_of(&module.body) == Some((4, at(13, 14), 8, at(18, 20))));
+    Ok(())
+}
+
 // Texts that are no modules, and where each goes wrong.
-const WRONG: [(&[u8], usize); 5] = [
+const WRONG: [(&[u8], usize); 10] = [
     (b"", 0),
     (b"export skip com", 12),
     (b"export (skip : com", 13),
     (b"export skip : ", 14),
     (b"export skip : com com", 18),
+    (b"export new x(2) : 8 in skip : com", 12),
+    (b"export new x[2 : 8 in skip : com", 15),
+    // Widths and lengths have 32 bits at most.
+    (b"export new x[4294967296] : 8 in skip : com", 13),
+    (b"export skip : exp 4294967296", 18),
+    (b"export 4294967296:4294967296 : exp 1", 18),
 ];
 
 #[test]

@@ -45,6 +45,17 @@ fn reads_names_and_numbers_past_a_comment(rt: HostRuntime) {
     assert!(rt; has_tokens(rt.alloc(), b"x_1:=007# 9 $\n->in1", &wanted));
 }
 
+#[test]
+fn reads_a_length_and_the_greatest_numeral(rt: HostRuntime) {
+    let wanted = [
+        token(TokenKind::Name, 0, 1),
+        token(TokenKind::Sign(Sign::OpenSquare), 1, 2),
+        token(TokenKind::Number(u64::MAX), 2, 22),
+        token(TokenKind::Sign(Sign::CloseSquare), 22, 23),
+    ];
+    assert!(rt; has_tokens(rt.alloc(), b"a[18446744073709551615]", &wanted));
+}
+
 // Whether a text has no tokens, for this fault.
 fn has_fault(alloc: Global, text: &[u8], wanted: LexFault) -> bool {
     match scan(alloc, text) {
@@ -57,7 +68,7 @@ fn has_fault(alloc: Global, text: &[u8], wanted: LexFault) -> bool {
 fn names_the_place_of_a_fault(rt: HostRuntime) {
     let alloc = rt.alloc();
     assert!(rt; has_fault(alloc, b"skip $", LexFault::Byte { at: 5 }));
-    assert!(rt; has_fault(alloc, b"x 4294967296", LexFault::Number { at: 2 }));
+    assert!(rt; has_fault(alloc, b"x 18446744073709551616", LexFault::Number { at: 2 }));
     assert!(rt; has_fault(alloc, [b'x'; 256].as_slice(), LexFault::Name { at: 0 }));
 }
 

@@ -21,6 +21,7 @@ enum Told<'a> {
     TypeTooLarge(Span, u64),
     Repeated(&'a [u8], Span, Span),
     TooHeavy(u64),
+    Length(Span, u32),
     NoMemory,
 }
 
@@ -43,6 +44,7 @@ fn tell<'a>(fault: &'a CheckFault) -> Told<'a> {
             second,
         } => Told::Repeated(name.bytes(), *first, *second),
         CheckFault::TooHeavy { weight } => Told::TooHeavy(*weight),
+        CheckFault::Length { span, length } => Told::Length(*span, *length),
         CheckFault::NoMemory => Told::NoMemory,
     }
 }
@@ -92,7 +94,7 @@ fn worked_sources_have_weights(rt: HostRuntime) -> Result<(), Fail> {
 }
 
 // Sources, and the fault that each is told.
-const FAULTS: [(&[u8], Told<'static>); 15] = [
+const FAULTS: [(&[u8], Told<'static>); 17] = [
     (
         b"export (fun x : com . x) d : com",
         Told::Unbound(b"d", Span { from: 25, to: 26 }),
@@ -137,6 +139,15 @@ const FAULTS: [(&[u8], Told<'static>); 15] = [
     (
         b"import c : com import c : com export c : com",
         Told::Repeated(b"c", Span { from: 7, to: 8 }, Span { from: 22, to: 23 }),
+    ),
+    (
+        b"export new a[3] : 65 in skip : com",
+        Told::Length(Span { from: 13, to: 14 }, 3),
+    ),
+    // There are no arrays yet.
+    (
+        b"export new a[4] : 8 in skip : com",
+        Told::Length(Span { from: 13, to: 14 }, 4),
     ),
     // Of two faults the first is told: the repeated name, the written width, the left part.
     (

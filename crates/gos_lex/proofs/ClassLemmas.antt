@@ -61,6 +61,8 @@ class_of_word from words.Var = refl
 class_of_sign : (from : ℕ) (sign : Sign) → class_of from (sign_text sign) ≡ AToken (kinds.Sign sign)
 class_of_sign from signs.Open = refl
 class_of_sign from signs.Close = refl
+class_of_sign from signs.OpenSquare = refl
+class_of_sign from signs.CloseSquare = refl
 class_of_sign from signs.Comma = refl
 class_of_sign from signs.Dot = refl
 class_of_sign from signs.Colon = refl

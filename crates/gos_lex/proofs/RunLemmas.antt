@@ -42,6 +42,8 @@ no_sign : (b : ℕ) (bytes : List ℕ) → (begins_name b || is_ascii_digit b) �
 no_sign b bytes h =
     let e40 : nat_eq b 40 ≡ false = grind arith in
     let e41 : nat_eq b 41 ≡ false = grind arith in
+    let e91 : nat_eq b 91 ≡ false = grind arith in
+    let e93 : nat_eq b 93 ≡ false = grind arith in
     let e44 : nat_eq b 44 ≡ false = grind arith in
     let e46 : nat_eq b 46 ≡ false = grind arith in
     let e58 : nat_eq b 58 ≡ false = grind arith in
@@ -55,7 +57,7 @@ no_sign b bytes h =
     let e60 : nat_eq b 60 ≡ false = grind arith in
     let e33 : nat_eq b 33 ≡ false = grind arith in
     let e42 : nat_eq b 42 ≡ false = grind arith in
-    rw (e40, e41, e44, e46, e58, e59, e124, e38, e94, e43, e45, e61, e60, e33, e42) refl
+    rw (e40, e41, e91, e93, e44, e46, e58, e59, e124, e38, e94, e43, e45, e61, e60, e33, e42) refl
 
 name_no_sign : (b : ℕ) (bytes : List ℕ) → begins_name b ≡ true → is_sign (b ∷ bytes) ≡ false
 name_no_sign b bytes h = no_sign b bytes (ap (λ (t : Bool). t || is_ascii_digit b) h)

@@ -12,6 +12,8 @@ use Rattle.gos_lex.specs.Signs.{sign_text, all_signs, is_sign}
 text_is_short : (s : Sign) → length (sign_text s) ≤ 2
 text_is_short signs.Open = omega arith
 text_is_short signs.Close = omega arith
+text_is_short signs.OpenSquare = omega arith
+text_is_short signs.CloseSquare = omega arith
 text_is_short signs.Comma = omega arith
 text_is_short signs.Dot = omega arith
 text_is_short signs.Colon = omega arith

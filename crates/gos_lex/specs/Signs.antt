@@ -9,6 +9,8 @@ use Rattle.gos_lex.specs.declared.sign.Sign.TheVariants as signs
 abbrev pub sign_text : Sign → List ℕ
 sign_text signs.Open = codes "("
 sign_text signs.Close = codes ")"
+sign_text signs.OpenSquare = codes "["
+sign_text signs.CloseSquare = codes "]"
 sign_text signs.Comma = codes ","
 sign_text signs.Dot = codes "."
 sign_text signs.Colon = codes ":"
@@ -29,8 +31,9 @@ sign_text signs.Arrow = codes "->"
 -- each sign once
 abbrev pub all_signs : List Sign
 all_signs =
-    signs.Open ∷ signs.Close ∷ signs.Comma ∷ signs.Dot ∷ signs.Colon ∷ signs.Semicolon ∷ signs.Assign ∷ signs.Parallel ∷ signs.Or
-    ∷ signs.And ∷ signs.Xor ∷ signs.Plus ∷ signs.Minus ∷ signs.Equal ∷ signs.Less ∷ signs.Bang ∷ signs.Star ∷ signs.Arrow ∷ []
+    signs.Open ∷ signs.Close ∷ signs.OpenSquare ∷ signs.CloseSquare ∷ signs.Comma ∷ signs.Dot ∷ signs.Colon ∷ signs.Semicolon
+    ∷ signs.Assign ∷ signs.Parallel ∷ signs.Or ∷ signs.And ∷ signs.Xor ∷ signs.Plus ∷ signs.Minus ∷ signs.Equal ∷ signs.Less
+    ∷ signs.Bang ∷ signs.Star ∷ signs.Arrow ∷ []
 
 -- the bytes are one of the signs
 abbrev pub is_sign : List ℕ → Bool

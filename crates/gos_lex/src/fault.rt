@@ -12,7 +12,7 @@ pub enum LexFault {
     /// At `at` stands a byte, outside comments, with which no token begins.
     #[error("no token begins at {at}")]
     Byte { at: usize },
-    /// At `at` begins a numeral whose value is above 4,294,967,295.
+    /// At `at` begins a numeral whose value is above 18,446,744,073,709,551,615.
     #[error("the number at {at} is too great")]
     Number { at: usize },
     /// At `at` begins a name of more than 255 bytes.

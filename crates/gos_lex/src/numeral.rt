@@ -4,8 +4,8 @@ ghost use Rattle.std.specs.Prelude.{◌≡◌, ◌+◌, ◌-◌, ◌*◌, ◌<�
 ghost use Rattle.std.specs.Char.{is_ascii_digit};
 ghost use Rattle.gos_lex.specs.Numerals.{is_numeral, value_of};
 
-/// The greatest value of a numeral.
-pub const GREATEST_NUMERAL: u64 = 4_294_967_295;
+/// The greatest value of a numeral: that of 64 bits.
+pub const GREATEST_NUMERAL: u64 = u64::MAX;
 
 // The value of the digits, where a numeral may have it.
 pub(crate) fn number_of(bytes: &[u8]) -> Option<u64>

@@ -10,6 +10,10 @@ pub enum Sign {
     Open,
     /// `)`
     Close,
+    /// `[`
+    OpenSquare,
+    /// `]`
+    CloseSquare,
     /// `,`
     Comma,
     /// `.`
@@ -45,9 +49,11 @@ pub enum Sign {
 }
 
 // Each sign once.
-const SIGNS: [Sign; 18] = [
+const SIGNS: [Sign; 20] = [
     Sign::Open,
     Sign::Close,
+    Sign::OpenSquare,
+    Sign::CloseSquare,
     Sign::Comma,
     Sign::Dot,
     Sign::Colon,
@@ -74,6 +80,8 @@ impl Sign {
         match self {
             Sign::Open => b"(",
             Sign::Close => b")",
+            Sign::OpenSquare => b"[",
+            Sign::CloseSquare => b"]",
             Sign::Comma => b",",
             Sign::Dot => b".",
             Sign::Colon => b":",

@@ -11,8 +11,8 @@ use Rattle.gos_syntax.specs.Items.{Item, seen, reading_at, span_of}
 use Rattle.gos_syntax.specs.Trees as trees
 use Rattle.gos_syntax.specs.Trees.{Tree}
 use Rattle.gos_syntax.specs.Grammar as rules
-use Rattle.gos_syntax.specs.Grammar.{HasWord, HasSign, HasNumber, IsTerm}
-use Rattle.gos_syntax.specs.Symbols.{Fits, SomeName, SomeNumber, Symbol, Part, sign, number, IsRule, Term, Atom, AtomTail, an_atom, skipping, a_literal, a_use, in_brackets, one_term, two_terms}
+use Rattle.gos_syntax.specs.Grammar.{HasWord, HasSign, HasNumber, HasSmall, IsTerm}
+use Rattle.gos_syntax.specs.Symbols.{Fits, SomeName, SomeNumber, Symbol, Part, sign, small, IsRule, Term, Atom, AtomTail, an_atom, skipping, a_literal, a_use, in_brackets, one_term, two_terms}
 use Rattle.gos_syntax.specs.Spelling.{Leads, IsRead, Stops}
 use Rattle.gos_syntax.specs.inner.Beginnings.{IsNoPrefix}
 use Rattle.gos_syntax.specs.inner.Phrases.{IsTermAnswer}
@@ -30,15 +30,15 @@ atom_passed (Ok read) no_prefix answer =
 atom_passed (Err stop) no_prefix answer = record { read = tt; refused = stops_after (leads_by an_atom no_prefix) answer.refused }
 
 -- atom = numeral ":" numeral
-pub value_leads : {items : List Item} {i value : ℕ} → HasNumber items i value → Leads items (Part Atom ∷ []) i (sign signs.Colon ∷ number ∷ []) (i + 1)
+pub value_leads : {items : List Item} {i value : ℕ} → HasNumber items i value → Leads items (Part Atom ∷ []) i (sign signs.Colon ∷ small ∷ []) (i + 1)
 value_leads {value = value} is = past_token a_literal (value, is)
 
 pub colon_leads : {items : List Item} {i value t : ℕ} → HasNumber items i value → HasSign items (i + 1) signs.Colon → t ≡ i + 1 + 1
-    → Leads items (Part Atom ∷ []) i (number ∷ []) t
+    → Leads items (Part Atom ∷ []) i (small ∷ []) t
 colon_leads is colon e = leads_then (value_leads is) (leads_token_to e colon)
 
 pub literal_read : {items : List Item} {i value width t : ℕ} → HasNumber items i value → HasSign items (i + 1) signs.Colon → t ≡ i + 1 + 1
-    → HasNumber items t width → IsRead items Atom i (i + 3)
+    → HasSmall items t width → IsRead items Atom i (i + 3)
 literal_read {width = width} is colon e is_width = leads_then (colon_leads is colon e) (leads_token_to (omega (arith, e)) (width, is_width))
 
 -- atom = "(" term [ "," term ] ")"
@@ -80,11 +80,11 @@ no_atom_stops source at within no_skip no_number no_name no_open = stops_at_part
     none _ in_brackets told = no_open told
 
 -- a literal, a term in brackets and a pair are derived
-pub literal_derived : {items : List Item} {i t value width : ℕ} → HasNumber items i value → HasSign items (i + 1) signs.Colon → t ≡ i + 1 + 1 → HasNumber items t width
+pub literal_derived : {items : List Item} {i t value width : ℕ} → HasNumber items i value → HasSign items (i + 1) signs.Colon → t ≡ i + 1 + 1 → HasSmall items t width
     → IsTerm items rules.Atom i (i + 3) (trees.Lit (span_of items i (i + 3)) value width)
 literal_derived {items} {i} {t} {value} {width} is colon e is_width =
     let second : t ≡ i + 2 = omega (arith, e) in
-    rules.a_literal i value width is colon (subst (λ (n : ℕ). HasNumber items n width) second is_width)
+    rules.a_literal i value width is colon (subst (λ (n : ℕ). HasSmall items n width) second is_width)
 
 pub inner_derived : {items : List Item} {i j k : ℕ} {a : Tree} → HasSign items i signs.Open → IsTerm items rules.Term (i + 1) j a → HasSign items j signs.Close → k ≡ j + 1
     → IsTerm items rules.Atom i k a

@@ -1,5 +1,5 @@
 -- Whatever symbols are still wanted behind some items, there are items that they ask for: the shortest, for each phrase.
-use Rattle.std.proofs.Common.{◌≡◌, ℕ, ◌+◌, List, [], ◌∷◌, ◌++◌, length, Some, None, refl, sym, subst}
+use Rattle.std.proofs.Common.{◌≡◌, ℕ, ◌+◌, List, [], ◌∷◌, ◌++◌, length, Some, None, refl, sym, subst, arith}
 use Rattle.std.proofs.lemmas.List.{append_assoc, length-append}
 use Rattle.gos_lex.specs.Tokens.{Reading, AName, ANumber, AWord, ASign}
 use Rattle.gos_syntax.specs.declared.terms.Op.TheVariants as ops
@@ -7,7 +7,7 @@ use Rattle.gos_syntax.specs.declared.operators.Level.TheVariants as levels
 use Rattle.gos_syntax.specs.Operators.{sign_of}
 use Rattle.gos_syntax.specs.Items.{Item, reading_at}
 use Rattle.gos_syntax.specs.Symbols as symbols
-use Rattle.gos_syntax.specs.Symbols.{Class, TheWord, TheSign, SomeName, SomeNumber, SomeOperator, Fits, Phrase, Module, Whole, WholeTail, Product, ProductTail, Base, Term, TermTail, Par, ParTail, Cmd, CmdTail, Rel, RelTail, Bits, BitsTail, Sum, SumTail, App, AppTail, Pre, Atom, AtomTail, Symbol, Token, Part, IsRule}
+use Rattle.gos_syntax.specs.Symbols.{Class, TheWord, TheSign, SomeName, SomeNumber, SomeSmall, SomeOperator, Fits, Phrase, Module, Whole, WholeTail, Product, ProductTail, Base, Term, BlockTail, TermTail, Par, ParTail, Cmd, CmdTail, Rel, RelTail, Bits, BitsTail, Sum, SumTail, App, AppTail, Pre, Atom, AtomTail, Symbol, Token, Part, IsRule}
 use Rattle.gos_syntax.specs.Spelling.{Spells, at_end, with_token, by_rule}
 
 -- behind any items there are more that these symbols ask for
@@ -23,6 +23,7 @@ fitting class = (record { reading = (reading_for class).0; span = record { from 
     reading_for (TheSign sign) = (ASign sign, refl)
     reading_for SomeName = (AName [], ([], refl))
     reading_for SomeNumber = (ANumber 0, (0, refl))
+    reading_for SomeSmall = (ANumber 0, (0, (refl, omega arith)))
     reading_for (SomeOperator levels.Comparing) = (ASign (sign_of ops.Eq), (ops.Eq, refl, refl))
     reading_for (SomeOperator levels.OnBits) = (ASign (sign_of ops.And), (ops.And, refl, refl))
     reading_for (SomeOperator levels.Adding) = (ASign (sign_of ops.Add), (ops.Add, refl, refl))
@@ -101,6 +102,8 @@ completes_phrase Product rest c = completes_product rest c
 completes_phrase ProductTail rest c = completes_rule rest symbols.no_factor c
 completes_phrase Base rest c = completes_base rest c
 completes_phrase Term rest c = completes_term rest c
+completes_phrase BlockTail rest c =
+    completes_rule rest symbols.a_local (completes_token _ _ (completes_token _ _ (completes_token _ _ (completes_term rest c))))
 completes_phrase TermTail rest c = completes_rule rest symbols.no_next c
 completes_phrase Par rest c = completes_par rest c
 completes_phrase ParTail rest c = completes_rule rest symbols.no_branch c

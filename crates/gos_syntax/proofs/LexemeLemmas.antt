@@ -12,6 +12,7 @@ use Rattle.gos_lex.specs.declared.sign.Sign.{Sign}
 use Rattle.gos_lex.specs.declared.sign.Sign.TheVariants as signs
 use Rattle.gos_lex.specs.declared.token.TokenKind.{TokenKind}
 use Rattle.gos_lex.specs.declared.token.TokenKind.TheVariants as kinds
+use Rattle.gos_lex.specs.declared.numeral.TheConstants.{GREATEST_NUMERAL}
 use Rattle.gos_lex.specs.Bytes.{is_blank, begins_name, continues_name}
 use Rattle.gos_lex.specs.Names.{spells_name, IsName}
 use Rattle.gos_lex.specs.Numerals.{is_numeral, value_after, value_of}
@@ -148,7 +149,7 @@ decimal_writes = decimal_by_steps Writes one more
           omega (arith, last, front),
     )
 
-pub number_lexed : (n : ℕ) (rest : List ℕ) → n ≤ 4294967295 → StopsAt is_ascii_digit rest → IsLexed (decimal n) (kinds.Number n) rest
+pub number_lexed : (n : ℕ) (rest : List ℕ) → n ≤ GREATEST_NUMERAL → StopsAt is_ascii_digit rest → IsLexed (decimal n) (kinds.Number n) rest
 number_lexed n rest small stops =
     let writes = decimal_writes n (omega (arith, small)) in
     digits_lexed (decimal n) rest (kinds.Number n) writes.0 stops (writes.0, writes.1, small)
@@ -191,6 +192,8 @@ alone c kind rest lexeme none no_gap of_kind =
 pub sign_lexed : (sign : Sign) (rest : List ℕ) → EndsSign sign rest → IsLexed (sign_text sign) (kinds.Sign sign) rest
 sign_lexed signs.Open rest ends = alone 40 (kinds.Sign signs.Open) rest refl (λ b more. refl) (refl, λ e. omega (arith, e)) refl
 sign_lexed signs.Close rest ends = alone 41 (kinds.Sign signs.Close) rest refl (λ b more. refl) (refl, λ e. omega (arith, e)) refl
+sign_lexed signs.OpenSquare rest ends = alone 91 (kinds.Sign signs.OpenSquare) rest refl (λ b more. refl) (refl, λ e. omega (arith, e)) refl
+sign_lexed signs.CloseSquare rest ends = alone 93 (kinds.Sign signs.CloseSquare) rest refl (λ b more. refl) (refl, λ e. omega (arith, e)) refl
 sign_lexed signs.Comma rest ends = alone 44 (kinds.Sign signs.Comma) rest refl (λ b more. refl) (refl, λ e. omega (arith, e)) refl
 sign_lexed signs.Dot rest ends = alone 46 (kinds.Sign signs.Dot) rest refl (λ b more. refl) (refl, λ e. omega (arith, e)) refl
 sign_lexed signs.Colon rest ends =
@@ -221,6 +224,8 @@ space_ends signs.Or rest = refl
 space_ends signs.Minus rest = refl
 space_ends signs.Open rest = tt
 space_ends signs.Close rest = tt
+space_ends signs.OpenSquare rest = tt
+space_ends signs.CloseSquare rest = tt
 space_ends signs.Comma rest = tt
 space_ends signs.Dot rest = tt
 space_ends signs.Semicolon rest = tt
@@ -245,5 +250,5 @@ digits_end (b ∷ bytes) rest numeral =
     no_equal : (b : ℕ) → is_ascii_digit b ≡ true → nat_eq b 61 ≡ false
     no_equal b digit = grind arith
 
-pub number_ends : (n : ℕ) (rest : List ℕ) → n ≤ 4294967295 → EndsSign signs.Colon (decimal n ++ rest)
+pub number_ends : (n : ℕ) (rest : List ℕ) → n ≤ GREATEST_NUMERAL → EndsSign signs.Colon (decimal n ++ rest)
 number_ends n rest small = digits_end (decimal n) rest (decimal_writes n (omega (arith, small))).0

@@ -1,7 +1,7 @@
 -- What is spelled is derived by the grammar: by induction on what is spelled.
 --
 -- A phrase means that its rule derives it. A tail means that it completes whatever was derived before it.
-use Rattle.std.proofs.Common.{◌≡◌, ℕ, ◌+◌, List, [], ◌∷◌, ◌++◌, refl, sym, subst, None}
+use Rattle.std.proofs.Common.{◌≡◌, ℕ, ◌+◌, List, [], ◌∷◌, ◌++◌, refl, sym, subst, arith, None}
 use Rattle.gos_lex.specs.declared.word.Word.TheVariants as words
 use Rattle.gos_lex.specs.declared.sign.Sign.TheVariants as signs
 use Rattle.gos_types.specs.Types as types
@@ -11,11 +11,11 @@ use Rattle.gos_syntax.specs.Trees as trees
 use Rattle.gos_syntax.specs.Trees.{Tree}
 use Rattle.gos_syntax.specs.ModuleTrees.{ImportTree, ModuleTree}
 use Rattle.gos_syntax.specs.Grammar as grammar
-use Rattle.gos_syntax.specs.Grammar.{HasSign, IsType, IsTerm, TypeRule, Rule}
+use Rattle.gos_syntax.specs.Grammar.{HasWord, HasSign, HasName, IsType, IsTerm, TypeRule, Rule}
 use Rattle.gos_syntax.specs.ParsedModules.{IsImport, IsModuleAt, IsModule}
 use Rattle.gos_syntax.specs.Symbols as symbols
-use Rattle.gos_syntax.specs.Symbols.{Fits, Phrase, Module, Whole, WholeTail, Product, ProductTail, Base, Term, TermTail, Par, ParTail, Cmd, CmdTail, Rel, RelTail, Bits, BitsTail, Sum, SumTail, App, AppTail, Pre, Atom, AtomTail, Symbol, Token, Part, IsRule}
-use Rattle.gos_syntax.proofs.StepLemmas.{two, three, four, five, there}
+use Rattle.gos_syntax.specs.Symbols.{Fits, Phrase, Module, Whole, WholeTail, Product, ProductTail, Base, Term, BlockTail, TermTail, Par, ParTail, Cmd, CmdTail, Rel, RelTail, Bits, BitsTail, Sum, SumTail, App, AppTail, Pre, Atom, AtomTail, Symbol, Token, Part, IsRule}
+use Rattle.gos_syntax.proofs.StepLemmas.{two, three, there}
 use Rattle.gos_syntax.specs.Spelling.{Spells, at_end, with_token, by_rule}
 
 -- some type is derived from these items
@@ -43,6 +43,7 @@ Meaning items Product i j = TypeFrom items grammar.Product i j
 Meaning items ProductTail i j = TypeGoesOn items grammar.Base grammar.Product i j
 Meaning items Base i j = TypeFrom items grammar.Base i j
 Meaning items Term i j = TermFrom items grammar.Term i j
+Meaning items BlockTail i j = (h : ℕ) (name : List ℕ) → i ≡ h + 2 → HasWord items h words.New → HasName items (h + 1) name → TermFrom items grammar.Term h j
 Meaning items TermTail i j = TermGoesOn items grammar.Par grammar.Term i j
 Meaning items Par i j = TermFrom items grammar.Par i j
 Meaning items ParTail i j = TermGoesOn items grammar.Cmd grammar.Par i j
@@ -81,6 +82,34 @@ term_at items rule h i j e t = subst (λ (n : ℕ). TermFrom items rule n j) e t
 -- a term that ends at a place that is written otherwise
 term_to : (items : List Item) (rule : Rule) (h i j : ℕ) → i ≡ j → TermFrom items rule h i → TermFrom items rule h j
 term_to items rule h i j e t = subst (λ (n : ℕ). TermFrom items rule h n) e t
+
+-- a block with a variable, from what stands behind its name
+local_from : (items : List Item) (i k : ℕ) → HasSign items i signs.Colon → Fits (reading_at items (i + 1)) symbols.SomeSmall
+    → HasWord items (i + 1 + 1) words.In → TermFrom items grammar.Term (i + 1 + 1 + 1) k → Meaning items BlockTail i k
+local_from items i k colon wide in_word b h name e word named =
+    let is_colon = there items (symbols.TheSign signs.Colon) i (h + 2) e colon in
+    let number = there items symbols.SomeSmall (i + 1) (h + 3) (omega (arith, e)) wide in
+    let is_in = there items (symbols.TheWord words.In) (i + 1 + 1) (h + 4) (omega (arith, e)) in_word in
+    let inner = term_at items grammar.Term (i + 1 + 1 + 1) (h + 5) k (omega (arith, e)) b in (
+      trees.New (span_of items h k) name number.0 (span_of items (h + 3) (h + 4)) inner.0,
+      grammar.a_block h k name number.0 inner.0 word named is_colon number.1 is_in inner.1,
+    )
+
+-- a block with an array, from what stands behind its name
+array_from : (items : List Item) (i k : ℕ) → HasSign items i signs.OpenSquare → Fits (reading_at items (i + 1)) symbols.SomeSmall
+    → HasSign items (i + 1 + 1) signs.CloseSquare → HasSign items (i + 1 + 1 + 1) signs.Colon → Fits (reading_at items (i + 1 + 1 + 1 + 1)) symbols.SomeSmall
+    → HasWord items (i + 1 + 1 + 1 + 1 + 1) words.In → TermFrom items grammar.Term (i + 1 + 1 + 1 + 1 + 1 + 1) k → Meaning items BlockTail i k
+array_from items i k opened many closed colon wide in_word b h name e word named =
+    let is_open = there items (symbols.TheSign signs.OpenSquare) i (h + 2) e opened in
+    let length = there items symbols.SomeSmall (i + 1) (h + 3) (omega (arith, e)) many in
+    let is_close = there items (symbols.TheSign signs.CloseSquare) (i + 1 + 1) (h + 4) (omega (arith, e)) closed in
+    let is_colon = there items (symbols.TheSign signs.Colon) (i + 1 + 1 + 1) (h + 5) (omega (arith, e)) colon in
+    let number = there items symbols.SomeSmall (i + 1 + 1 + 1 + 1) (h + 6) (omega (arith, e)) wide in
+    let is_in = there items (symbols.TheWord words.In) (i + 1 + 1 + 1 + 1 + 1) (h + 7) (omega (arith, e)) in_word in
+    let inner = term_at items grammar.Term (i + 1 + 1 + 1 + 1 + 1 + 1) (h + 8) k (omega (arith, e)) b in (
+      trees.Array (span_of items h k) name length.0 (span_of items (h + 3) (h + 4)) number.0 (span_of items (h + 6) (h + 7)) inner.0,
+      grammar.an_array h k name length.0 number.0 inner.0 word named is_open length.1 is_close is_colon number.1 is_in inner.1,
+    )
 
 -- what a rule asks for means its phrase
 rule_means : (items : List Item) (phrase : Phrase) (body : List Symbol) → IsRule phrase body
@@ -140,18 +169,10 @@ rule_means items phrase body symbols.a_lambda rest i (word, ((name, named), (col
       ),
       m,
     )
-rule_means items phrase body symbols.a_block rest i (word, ((name, named), (colon, (wide, (in_word, (k, b, m)))))) =
-    let is_colon = there items (symbols.TheSign signs.Colon) _ _ (sym (two i)) colon in
-    let number = there items symbols.SomeNumber _ _ (sym (three i)) wide in
-    let is_in = there items (symbols.TheWord words.In) _ _ (sym (four i)) in_word in
-    let inner = term_at items grammar.Term _ _ k (sym (five i)) b in (
-      k,
-      (
-        trees.New (span_of items i k) name number.0 (span_of items (i + 3) (i + 4)) inner.0,
-        grammar.a_block i k name number.0 inner.0 word named is_colon number.1 is_in inner.1,
-      ),
-      m,
-    )
+rule_means items phrase body symbols.a_block rest i (word, ((name, named), (k, goes, m))) = (k, goes i name (sym (two i)) word named, m)
+rule_means items phrase body symbols.a_local rest i (colon, (wide, (in_word, (k, b, m)))) = (k, local_from items i k colon wide in_word b, m)
+rule_means items phrase body symbols.an_array rest i (opened, (many, (closed, (colon, (wide, (in_word, (k, b, m))))))) =
+    (k, array_from items i k opened many closed colon wide in_word b, m)
 rule_means items phrase body symbols.a_sequence rest i (j, a, (k, goes, m)) = (k, goes i a, m)
 rule_means items phrase body symbols.a_next rest i (semicolon, (k, b, m)) =
     (k, λ h a. (trees.Seq (span_of items h k) a.0 b.0, grammar.a_sequence h i k a.0 b.0 a.1 semicolon b.1), m)
@@ -196,7 +217,7 @@ rule_means items phrase body symbols.an_atom rest i (j, a, m) = (j, (a.0, gramma
 rule_means items phrase body symbols.skipping rest i (word, m) =
     (i + 1, (trees.Skip (span_of items i (i + 1)), grammar.skipping i word), m)
 rule_means items phrase body symbols.a_literal rest i ((value, number), (colon, (wide, m))) =
-    let width = there items symbols.SomeNumber _ _ (sym (two i)) wide in (
+    let width = there items symbols.SomeSmall _ _ (sym (two i)) wide in (
       i + 1 + 1 + 1,
       term_to items grammar.Atom i _ _ (three i) (trees.Lit (span_of items i (i + 3)) value width.0, grammar.a_literal i value width.0 number colon width.1),
       m,

@@ -9,7 +9,7 @@ use Rattle.gos_syntax.specs.declared.terms.Op.TheVariants as ops
 use Rattle.gos_syntax.specs.Operators.{sign_of}
 use Rattle.gos_syntax.specs.Items.{Item, reading_at}
 use Rattle.gos_syntax.specs.OneAnswer.{HasOneTree}
-use Rattle.gos_syntax.specs.Symbols.{Class, TheWord, TheSign, SomeName, SomeNumber, SomeOperator, Fits, Phrase, Module, Symbol, Part, IsRule, an_import, an_export, a_type, an_outcome, no_outcome, a_product, a_factor, no_factor, a_command_type, an_expression_type, a_variable_type, a_type_in_brackets, a_lambda, a_block, a_sequence, a_next, no_next, a_parallel, a_branch, no_branch, a_choice, a_loop, an_assignment, a_value, no_value, a_relation, a_comparison, no_comparison, some_bits, more_bits, no_bits, a_sum, a_summand, no_summand, an_application, an_argument, no_argument, a_negation, a_reading, a_first_part, a_second_part, an_atom, skipping, a_literal, a_use, in_brackets, one_term, two_terms}
+use Rattle.gos_syntax.specs.Symbols.{Class, TheWord, TheSign, SomeName, SomeNumber, SomeSmall, SomeOperator, Fits, Phrase, Module, Symbol, Part, IsRule, an_import, an_export, a_type, an_outcome, no_outcome, a_product, a_factor, no_factor, a_command_type, an_expression_type, a_variable_type, a_type_in_brackets, a_lambda, a_block, a_local, an_array, a_sequence, a_next, no_next, a_parallel, a_branch, no_branch, a_choice, a_loop, an_assignment, a_value, no_value, a_relation, a_comparison, no_comparison, some_bits, more_bits, no_bits, a_sum, a_summand, no_summand, an_application, an_argument, no_argument, a_negation, a_reading, a_first_part, a_second_part, an_atom, skipping, a_literal, a_use, in_brackets, one_term, two_terms}
 use Rattle.gos_syntax.specs.Spelling.{Spells, at_end, with_token, by_rule, EndsBefore, IsClear}
 use Rattle.gos_syntax.proofs.RuleLemmas.{tells, apart, leads_by}
 use Rattle.gos_syntax.proofs.SpellingLemmas.{module_spelled}
@@ -52,6 +52,7 @@ said_once (TheWord word) r one other = refl
 said_once (TheSign sign) r one other = refl
 said_once SomeName r one other = name_once r one.0 other.0 one.1 other.1
 said_once SomeNumber r one other = number_once r one.0 other.0 one.1 other.1
+said_once SomeSmall r one other = number_once r one.0 other.0 one.1.0 other.1.0
 said_once (SomeOperator level) r one other =
     sym (sign_back one.0) ∙ ap op_of (sign_once r (sign_of one.0) (sign_of other.0) one.1 other.1) ∙ sign_back other.0
 
@@ -71,6 +72,8 @@ same_rule a_variable_type a_variable_type = refl
 same_rule a_type_in_brackets a_type_in_brackets = refl
 same_rule a_lambda a_lambda = refl
 same_rule a_block a_block = refl
+same_rule a_local a_local = refl
+same_rule an_array an_array = refl
 same_rule a_sequence a_sequence = refl
 same_rule a_next a_next = refl
 same_rule no_next no_next = refl

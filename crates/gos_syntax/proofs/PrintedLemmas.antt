@@ -19,8 +19,9 @@ use Rattle.gos_syntax.specs.ModuleText.{is_atom}
 use Rattle.gos_syntax.specs.ModuleTokens.{enclosed, type_tokens, as_operand, tokens_of, imports_tokens, module_tokens}
 use Rattle.gos_syntax.specs.Unplaced.{nowhere, unplaced, unplaced_import}
 use Rattle.gos_syntax.specs.Symbols.{TheWord, TheSign}
+use Rattle.gos_syntax.specs.Writable.{IsWritableTree, AreWritable}
 use Rattle.gos_syntax.specs.ReadsBack.{ReadsBack}
-use Rattle.gos_syntax.proofs.StepLemmas.{two, three, four, five, there, number_there}
+use Rattle.gos_syntax.proofs.StepLemmas.{two, three, four, five, six, seven, eight, there, small_there}
 use Rattle.gos_syntax.proofs.AgreeLemmas.{none_past}
 use Rattle.gos_syntax.proofs.BetweenLemmas.{Between, between_both, between_all}
 use Rattle.gos_syntax.proofs.PrintedTypeLemmas.{type_reads, whole_at}
@@ -191,94 +192,109 @@ application_found items s i k j a b first second =
     (to_sum items i j (trees.App s a b)
     (trees.App (span_of items i j) x.0 y.0, grammar.one_more_operand i k j x.0 y.0 x.1 y.1, λ n. trees.App nowhere (x.2 n) (y.2 n)))
 
--- the printed tokens of a term are that term, places aside
-term_reads : (items : List Item) (t : Tree) (i j : ℕ) → Between items i (tokens_of t) j → Found items (own (is_atom t)) i j t
-term_reads items (trees.Skip s) i j (skip, e) =
+-- the printed tokens of a term that can be written are that term, places aside
+term_reads : (items : List Item) (t : Tree) → IsWritableTree t → (i j : ℕ) → Between items i (tokens_of t) j → Found items (own (is_atom t)) i j t
+term_reads items (trees.Skip s) is i j (skip, e) =
     found_to items grammar.Atom i (i + 1) j (trees.Skip s) e (trees.Skip (span_of items i (i + 1)), grammar.skipping i skip, refl)
-term_reads items (trees.Lit s value width) i j (numeral, (colon, (wide, e))) =
+term_reads items (trees.Lit s value width) (valued, small) i j (numeral, (colon, (wide, e))) =
     found_to items grammar.Atom i (i + 3) j (trees.Lit s value width) (three i ∙ e)
-    (trees.Lit (span_of items i (i + 3)) value width, grammar.a_literal i value width numeral colon (number_there items width _ _ (sym (two i)) wide), refl)
-term_reads items (trees.Use s name) i j (named, e) =
+    (trees.Lit (span_of items i (i + 3)) value width, grammar.a_literal i value width numeral colon (small_there items width _ _ (sym (two i)) (wide, small)), refl)
+term_reads items (trees.Use s name) is i j (named, e) =
     found_to items grammar.Atom i (i + 1) j (trees.Use s name) e (trees.Use (span_of items i (i + 1)) name, grammar.a_name i name named, refl)
-term_reads items (trees.Lam s name ty ty_span body) i j (fun, (named, (colon, between))) =
+term_reads items (trees.Lam s name ty ty_span body) (is, numerals, inner_is) i j (fun, (named, (colon, between))) =
     let (k, typed, (dotted, inner)) = between_both items (i + 1 + 1 + 1) j (type_tokens ty) (ASign signs.Dot ∷ tokens_of body) between in
     let is_colon = there items (TheSign signs.Colon) _ _ (sym (two i)) colon in
-    let whole = whole_at items (i + 1 + 1 + 1) (i + 3) k ty (sym (three i)) typed in
-    let x = standing items (is_atom body) (k + 1) j body (term_reads items body (k + 1) j inner) in (
+    let whole = whole_at items (i + 1 + 1 + 1) (i + 3) k ty numerals (sym (three i)) typed in
+    let x = standing items (is_atom body) (k + 1) j body (term_reads items body inner_is (k + 1) j inner) in (
       trees.Lam (span_of items i j) name ty (span_of items (i + 3) k) x.0,
       grammar.a_lambda i k j name ty x.0 fun named is_colon whole dotted x.1,
       λ n. trees.Lam nowhere name ty nowhere (x.2 n),
     )
-term_reads items (trees.New s name width width_span body) i j (new, (named, (colon, (wide, (in_word, inner))))) =
+term_reads items (trees.New s name width width_span body) (is, small, inner_is) i j (new, (named, (colon, (wide, (in_word, inner))))) =
     let is_colon = there items (TheSign signs.Colon) _ _ (sym (two i)) colon in
-    let is_width = number_there items width _ _ (sym (three i)) wide in
+    let is_width = small_there items width _ _ (sym (three i)) (wide, small) in
     let is_in = there items (TheWord words.In) _ _ (sym (four i)) in_word in
-    let found = standing items (is_atom body) (i + 1 + 1 + 1 + 1 + 1) j body (term_reads items body (i + 1 + 1 + 1 + 1 + 1) j inner) in
+    let found = standing items (is_atom body) (i + 1 + 1 + 1 + 1 + 1) j body (term_reads items body inner_is (i + 1 + 1 + 1 + 1 + 1) j inner) in
     let x : Found items grammar.Term (i + 5) j body = subst (λ (n : ℕ). Found items grammar.Term n j body) (sym (five i)) found in (
       trees.New (span_of items i j) name width (span_of items (i + 3) (i + 4)) x.0,
       grammar.a_block i j name width x.0 new named is_colon is_width is_in x.1,
       λ n. trees.New nowhere name width nowhere (x.2 n),
     )
-term_reads items (trees.App s a b) i j between =
+term_reads items (trees.Array s name length length_span width width_span body) (is, short, small, inner_is) i j
+    (new, (named, (opened, (many, (closed, (colon, (wide, (in_word, inner)))))))) =
+    let is_open = there items (TheSign signs.OpenSquare) _ _ (sym (two i)) opened in
+    let is_length = small_there items length _ _ (sym (three i)) (many, short) in
+    let is_close = there items (TheSign signs.CloseSquare) _ _ (sym (four i)) closed in
+    let is_colon = there items (TheSign signs.Colon) _ _ (sym (five i)) colon in
+    let is_width = small_there items width _ _ (sym (six i)) (wide, small) in
+    let is_in = there items (TheWord words.In) _ _ (sym (seven i)) in_word in
+    let at : ℕ = i + 1 + 1 + 1 + 1 + 1 + 1 + 1 + 1 in
+    let found = standing items (is_atom body) at j body (term_reads items body inner_is at j inner) in
+    let x : Found items grammar.Term (i + 8) j body = subst (λ (n : ℕ). Found items grammar.Term n j body) (sym (eight i)) found in (
+      trees.Array (span_of items i j) name length (span_of items (i + 3) (i + 4)) width (span_of items (i + 6) (i + 7)) x.0,
+      grammar.an_array i j name length width x.0 new named is_open is_length is_close is_colon is_width is_in x.1,
+      λ n. trees.Array nowhere name length nowhere width nowhere (x.2 n),
+    )
+term_reads items (trees.App s a b) (is_a, is_b) i j between =
     let (k, first, second) = between_both items i j (as_operand a (tokens_of a)) (as_operand b (tokens_of b)) between in
     application_found items s i k j a b
-    (operand items (is_atom a) (tokens_of a) a (λ g h inner. term_reads items a g h inner) i k first)
-    (operand items (is_atom b) (tokens_of b) b (λ g h inner. term_reads items b g h inner) k j second)
-term_reads items (trees.Both s a b) i j (opened, between) =
+    (operand items (is_atom a) (tokens_of a) a (λ g h inner. term_reads items a is_a g h inner) i k first)
+    (operand items (is_atom b) (tokens_of b) b (λ g h inner. term_reads items b is_b g h inner) k j second)
+term_reads items (trees.Both s a b) (is_a, is_b) i j (opened, between) =
     let (k, first, (comma, more)) = between_both items (i + 1) j (tokens_of a) (ASign signs.Comma ∷ tokens_of b ++ ASign signs.Close ∷ []) between in
     let (l, second, (closed, e)) = between_both items (k + 1) j (tokens_of b) (ASign signs.Close ∷ []) more in
-    let x = standing items (is_atom a) (i + 1) k a (term_reads items a (i + 1) k first) in
-    let y = standing items (is_atom b) (k + 1) l b (term_reads items b (k + 1) l second) in
+    let x = standing items (is_atom a) (i + 1) k a (term_reads items a is_a (i + 1) k first) in
+    let y = standing items (is_atom b) (k + 1) l b (term_reads items b is_b (k + 1) l second) in
     found_to items grammar.Atom i (l + 1) j (trees.Both s a b) e (
       trees.Both (span_of items i (l + 1)) x.0 y.0,
       grammar.a_pair i k l x.0 y.0 opened x.1 comma y.1 closed,
       λ n. trees.Both nowhere (x.2 n) (y.2 n),
     )
-term_reads items (trees.Fst s a) i j (fst_word, between) =
-    let x = to_pre items (i + 1) j a (operand items (is_atom a) (tokens_of a) a (λ g h inner. term_reads items a g h inner) (i + 1) j between) in
+term_reads items (trees.Fst s a) is_a i j (fst_word, between) =
+    let x = to_pre items (i + 1) j a (operand items (is_atom a) (tokens_of a) a (λ g h inner. term_reads items a is_a g h inner) (i + 1) j between) in
     pre_term items i j (trees.Fst s a) (trees.Fst (span_of items i j) x.0, grammar.a_first_part i j x.0 fst_word x.1, λ n. trees.Fst nowhere (x.2 n))
-term_reads items (trees.Snd s a) i j (snd_word, between) =
-    let x = to_pre items (i + 1) j a (operand items (is_atom a) (tokens_of a) a (λ g h inner. term_reads items a g h inner) (i + 1) j between) in
+term_reads items (trees.Snd s a) is_a i j (snd_word, between) =
+    let x = to_pre items (i + 1) j a (operand items (is_atom a) (tokens_of a) a (λ g h inner. term_reads items a is_a g h inner) (i + 1) j between) in
     pre_term items i j (trees.Snd s a) (trees.Snd (span_of items i j) x.0, grammar.a_second_part i j x.0 snd_word x.1, λ n. trees.Snd nowhere (x.2 n))
-term_reads items (trees.Seq s a b) i j between =
+term_reads items (trees.Seq s a b) (is_a, is_b) i j between =
     sequence_found items s i j a b
-    (around items (ASign signs.Semicolon) _ _ a b (operand items (is_atom a) (tokens_of a) a (λ g h inner. term_reads items a g h inner))
-    (operand items (is_atom b) (tokens_of b) b (λ g h inner. term_reads items b g h inner)) i j between)
-term_reads items (trees.Par s a b) i j between =
+    (around items (ASign signs.Semicolon) _ _ a b (operand items (is_atom a) (tokens_of a) a (λ g h inner. term_reads items a is_a g h inner))
+    (operand items (is_atom b) (tokens_of b) b (λ g h inner. term_reads items b is_b g h inner)) i j between)
+term_reads items (trees.Par s a b) (is_a, is_b) i j between =
     parallel_found items s i j a b
-    (around items (ASign signs.Parallel) _ _ a b (operand items (is_atom a) (tokens_of a) a (λ g h inner. term_reads items a g h inner))
-    (operand items (is_atom b) (tokens_of b) b (λ g h inner. term_reads items b g h inner)) i j between)
-term_reads items (trees.If s a b c) i j (if_word, between) =
+    (around items (ASign signs.Parallel) _ _ a b (operand items (is_atom a) (tokens_of a) a (λ g h inner. term_reads items a is_a g h inner))
+    (operand items (is_atom b) (tokens_of b) b (λ g h inner. term_reads items b is_b g h inner)) i j between)
+term_reads items (trees.If s a b c) (is_a, (is_b, is_c)) i j (if_word, between) =
     let (k, first, (then_word, more)) = between_both items (i + 1) j (as_operand a (tokens_of a)) (AWord words.Then ∷ as_operand b (tokens_of b) ++ (AWord words.Else ∷ as_operand c (tokens_of c))) between in
     let (l, second, (else_word, third)) = between_both items (k + 1) j (as_operand b (tokens_of b)) (AWord words.Else ∷ as_operand c (tokens_of c)) more in
-    let x = as_term items (i + 1) k a (operand items (is_atom a) (tokens_of a) a (λ g h inner. term_reads items a g h inner) (i + 1) k first) in
-    let y = as_cmd items (k + 1) l b (operand items (is_atom b) (tokens_of b) b (λ g h inner. term_reads items b g h inner) (k + 1) l second) in
-    let z = as_cmd items (l + 1) j c (operand items (is_atom c) (tokens_of c) c (λ g h inner. term_reads items c g h inner) (l + 1) j third) in
+    let x = as_term items (i + 1) k a (operand items (is_atom a) (tokens_of a) a (λ g h inner. term_reads items a is_a g h inner) (i + 1) k first) in
+    let y = as_cmd items (k + 1) l b (operand items (is_atom b) (tokens_of b) b (λ g h inner. term_reads items b is_b g h inner) (k + 1) l second) in
+    let z = as_cmd items (l + 1) j c (operand items (is_atom c) (tokens_of c) c (λ g h inner. term_reads items c is_c g h inner) (l + 1) j third) in
     cmd_term items i j (trees.If s a b c) (
       trees.If (span_of items i j) x.0 y.0 z.0,
       grammar.a_choice i k l j x.0 y.0 z.0 if_word x.1 then_word y.1 else_word z.1,
       λ n. trees.If nowhere (x.2 n) (y.2 n) (z.2 n),
     )
-term_reads items (trees.While s a b) i j (while_word, between) =
+term_reads items (trees.While s a b) (is_a, is_b) i j (while_word, between) =
     let (k, first, (do_word, second)) = between_both items (i + 1) j (as_operand a (tokens_of a)) (AWord words.Do ∷ as_operand b (tokens_of b)) between in
-    let x = as_term items (i + 1) k a (operand items (is_atom a) (tokens_of a) a (λ g h inner. term_reads items a g h inner) (i + 1) k first) in
-    let y = as_cmd items (k + 1) j b (operand items (is_atom b) (tokens_of b) b (λ g h inner. term_reads items b g h inner) (k + 1) j second) in
+    let x = as_term items (i + 1) k a (operand items (is_atom a) (tokens_of a) a (λ g h inner. term_reads items a is_a g h inner) (i + 1) k first) in
+    let y = as_cmd items (k + 1) j b (operand items (is_atom b) (tokens_of b) b (λ g h inner. term_reads items b is_b g h inner) (k + 1) j second) in
     cmd_term items i j (trees.While s a b)
     (trees.While (span_of items i j) x.0 y.0, grammar.a_loop i k j x.0 y.0 while_word x.1 do_word y.1, λ n. trees.While nowhere (x.2 n) (y.2 n))
-term_reads items (trees.Assign s a b) i j between =
+term_reads items (trees.Assign s a b) (is_a, is_b) i j between =
     assignment_found items s i j a b
-    (around items (ASign signs.Assign) _ _ a b (operand items (is_atom a) (tokens_of a) a (λ g h inner. term_reads items a g h inner))
-    (operand items (is_atom b) (tokens_of b) b (λ g h inner. term_reads items b g h inner)) i j between)
-term_reads items (trees.Deref s a) i j (bang, between) =
-    let x = to_pre items (i + 1) j a (operand items (is_atom a) (tokens_of a) a (λ g h inner. term_reads items a g h inner) (i + 1) j between) in
+    (around items (ASign signs.Assign) _ _ a b (operand items (is_atom a) (tokens_of a) a (λ g h inner. term_reads items a is_a g h inner))
+    (operand items (is_atom b) (tokens_of b) b (λ g h inner. term_reads items b is_b g h inner)) i j between)
+term_reads items (trees.Deref s a) is_a i j (bang, between) =
+    let x = to_pre items (i + 1) j a (operand items (is_atom a) (tokens_of a) a (λ g h inner. term_reads items a is_a g h inner) (i + 1) j between) in
     pre_term items i j (trees.Deref s a) (trees.Deref (span_of items i j) x.0, grammar.a_reading i j x.0 bang x.1, λ n. trees.Deref nowhere (x.2 n))
-term_reads items (trees.Not s a) i j (not_word, between) =
-    let x = to_pre items (i + 1) j a (operand items (is_atom a) (tokens_of a) a (λ g h inner. term_reads items a g h inner) (i + 1) j between) in
+term_reads items (trees.Not s a) is_a i j (not_word, between) =
+    let x = to_pre items (i + 1) j a (operand items (is_atom a) (tokens_of a) a (λ g h inner. term_reads items a is_a g h inner) (i + 1) j between) in
     pre_term items i j (trees.Not s a) (trees.Not (span_of items i j) x.0, grammar.a_negation i j x.0 not_word x.1, λ n. trees.Not nowhere (x.2 n))
-term_reads items (trees.Bin s op a b) i j between =
+term_reads items (trees.Bin s op a b) (is_a, is_b) i j between =
     operation_found items s op i j a b
-    (around items (ASign (sign_of op)) _ _ a b (operand items (is_atom a) (tokens_of a) a (λ g h inner. term_reads items a g h inner))
-    (operand items (is_atom b) (tokens_of b) b (λ g h inner. term_reads items b g h inner)) i j between)
+    (around items (ASign (sign_of op)) _ _ a b (operand items (is_atom a) (tokens_of a) a (λ g h inner. term_reads items a is_a g h inner))
+    (operand items (is_atom b) (tokens_of b) b (λ g h inner. term_reads items b is_b g h inner)) i j between)
 
 -- imports that are these, places aside
 record ImportsFound (items : List Item) (i j : ℕ) (imports : List ImportTree) : Type 0 where
@@ -286,11 +302,11 @@ record ImportsFound (items : List Item) (i j : ℕ) (imports : List ImportTree) 
   are : AreImports items i j found
   same : map unplaced_import found ≡ map unplaced_import imports
 
-imports_read : (items : List Item) (imports : List ImportTree) (i j : ℕ) → Between items i (imports_tokens imports) j → ImportsFound items i j imports
-imports_read items [] i j between = record { found = []; are = between; same = refl }
-imports_read items (first ∷ others) i j (import_word, (named, (colon, between))) =
+imports_read : (items : List Item) (imports : List ImportTree) → AreWritable imports → (i j : ℕ) → Between items i (imports_tokens imports) j → ImportsFound items i j imports
+imports_read items [] are i j between = record { found = []; are = between; same = refl }
+imports_read items (first ∷ others) (is_first, (numerals, are)) i j (import_word, (named, (colon, between))) =
     let (k, typed, more) = between_both items (i + 1 + 1 + 1) j (type_tokens first.ty) (imports_tokens others) between in
-    let rest = imports_read items others k j more in
+    let rest = imports_read items others are k j more in
     let found : ImportTree = record { name = first.name; name_span = span_of items (i + 1) (i + 2); ty = first.ty; ty_span = span_of items (i + 3) k } in
     let is : IsImport items i k found =
     record {
@@ -298,21 +314,21 @@ imports_read items (first ∷ others) i j (import_word, (named, (colon, between)
       name = named;
       name_span = refl;
       colon = there items (TheSign signs.Colon) _ _ (sym (two i)) colon;
-      ty = whole_at items (i + 1 + 1 + 1) (i + 3) k first.ty (sym (three i)) typed;
+      ty = whole_at items (i + 1 + 1 + 1) (i + 3) k first.ty numerals (sym (three i)) typed;
       ty_span = refl;
     } in
     record { found = found ∷ rest.found; are = (k, is, rest.are); same = λ n. unplaced_import first ∷ rest.same n }
 
--- the printed tokens of a module are that module, places aside
+-- the printed tokens of a module that can be written are that module, places aside
 pub module_reads : (items : List Item) (made : ModuleTree) → ReadsBack items made
-module_reads items made e =
+module_reads items made is e =
     let end : ℕ = length items in
     let last : List Reading = ASign signs.Colon ∷ type_tokens made.result in
     let (k, imported, (export_word, between)) =
     between_both items 0 end (imports_tokens made.imports) (AWord words.Export ∷ tokens_of made.body ++ last) (between_all items (module_tokens made) e) in
     let (l, inner, (colon, typed)) = between_both items (k + 1) end (tokens_of made.body) last between in
-    let imports = imports_read items made.imports 0 k imported in
-    let x = standing items (is_atom made.body) (k + 1) l made.body (term_reads items made.body (k + 1) l inner) in
+    let imports = imports_read items made.imports is.imports 0 k imported in
+    let x = standing items (is_atom made.body) (k + 1) l made.body (term_reads items made.body is.body (k + 1) l inner) in
     let again : ModuleTree = record { imports = imports.found; body = x.0; result = made.result; result_span = span_of items (l + 1) end } in
     let whole : IsModuleAt items 0 end again =
     record {
@@ -322,7 +338,7 @@ module_reads items made e =
       colon = l;
       body = x.1;
       sign = colon;
-      result = type_reads items grammar.Whole made.result (l + 1) end typed;
+      result = type_reads items grammar.Whole made.result is.result (l + 1) end typed;
       result_span = refl;
     } in (
       again,

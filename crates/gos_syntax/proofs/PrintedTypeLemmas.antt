@@ -8,6 +8,7 @@ use Rattle.gos_syntax.specs.Items.{Item}
 use Rattle.gos_syntax.specs.Grammar as grammar
 use Rattle.gos_syntax.specs.Grammar.{IsType, TypeRule}
 use Rattle.gos_syntax.specs.ModuleTokens.{enclosed, type_tokens_at, type_tokens}
+use Rattle.gos_syntax.specs.Writable.{HasNumerals}
 use Rattle.gos_syntax.proofs.StepLemmas.{two}
 use Rattle.gos_syntax.proofs.BetweenLemmas.{Between, between_both}
 
@@ -55,19 +56,19 @@ function_at items grammar.Product a b one other i j between =
     grammar.a_base i j (types.Fun a b) (type_in_brackets items _ (types.Fun a b) (function_reads items _ _ a b one other) i j between)
 function_at items grammar.Base a b one other i j between = type_in_brackets items _ (types.Fun a b) (function_reads items _ _ a b one other) i j between
 
--- the printed tokens of a type are that type
-pub type_reads : (items : List Item) (rule : TypeRule) (ty : Type') → ReadAsType items rule (type_tokens_at rule ty) ty
-type_reads items rule types.Com i j (com_word, e) =
+-- the printed tokens of a type with small numerals are that type
+pub type_reads : (items : List Item) (rule : TypeRule) (ty : Type') → HasNumerals ty → ReadAsType items rule (type_tokens_at rule ty) ty
+type_reads items rule types.Com small i j (com_word, e) =
     base_at items rule i j types.Com (type_to items grammar.Base i (i + 1) j types.Com e (grammar.a_command i com_word))
-type_reads items rule (types.Exp w) i j (exp_word, (width, e)) =
-    base_at items rule i j (types.Exp w) (type_to items grammar.Base i (i + 2) j (types.Exp w) (two i ∙ e) (grammar.an_expression i w exp_word width))
-type_reads items rule (types.Var w) i j (var_word, (width, e)) =
-    base_at items rule i j (types.Var w) (type_to items grammar.Base i (i + 2) j (types.Var w) (two i ∙ e) (grammar.a_variable i w var_word width))
-type_reads items rule (types.Pair a b) i j between =
-    pair_at items rule a b (λ h k inner. type_reads items grammar.Base a h k inner) (λ h k inner. type_reads items grammar.Product b h k inner) i j between
-type_reads items rule (types.Fun a b) i j between =
-    function_at items rule a b (λ h k inner. type_reads items grammar.Product a h k inner) (λ h k inner. type_reads items grammar.Whole b h k inner) i j between
+type_reads items rule (types.Exp w) small i j (exp_word, (width, e)) =
+    base_at items rule i j (types.Exp w) (type_to items grammar.Base i (i + 2) j (types.Exp w) (two i ∙ e) (grammar.an_expression i w exp_word (width, small)))
+type_reads items rule (types.Var w) small i j (var_word, (width, e)) =
+    base_at items rule i j (types.Var w) (type_to items grammar.Base i (i + 2) j (types.Var w) (two i ∙ e) (grammar.a_variable i w var_word (width, small)))
+type_reads items rule (types.Pair a b) (one, other) i j between =
+    pair_at items rule a b (λ h k inner. type_reads items grammar.Base a one h k inner) (λ h k inner. type_reads items grammar.Product b other h k inner) i j between
+type_reads items rule (types.Fun a b) (one, other) i j between =
+    function_at items rule a b (λ h k inner. type_reads items grammar.Product a one h k inner) (λ h k inner. type_reads items grammar.Whole b other h k inner) i j between
 
 -- a whole type that begins at a place that is written otherwise
-pub whole_at : (items : List Item) (h i j : ℕ) (ty : Type') → h ≡ i → Between items h (type_tokens ty) j → IsType items grammar.Whole i j ty
-whole_at items h i j ty e between = subst (λ (n : ℕ). IsType items grammar.Whole n j ty) e (type_reads items grammar.Whole ty h j between)
+pub whole_at : (items : List Item) (h i j : ℕ) (ty : Type') → HasNumerals ty → h ≡ i → Between items h (type_tokens ty) j → IsType items grammar.Whole i j ty
+whole_at items h i j ty small e between = subst (λ (n : ℕ). IsType items grammar.Whole n j ty) e (type_reads items grammar.Whole ty small h j between)

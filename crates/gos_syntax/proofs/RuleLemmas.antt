@@ -11,7 +11,7 @@ use Rattle.gos_syntax.specs.declared.operators.Level.{Level}
 use Rattle.gos_syntax.specs.declared.operators.Level.TheVariants as levels
 use Rattle.gos_syntax.specs.Operators.{sign_of, level_of}
 use Rattle.gos_syntax.specs.Items.{Item, reading_at, Agree}
-use Rattle.gos_syntax.specs.Symbols.{Class, TheWord, TheSign, SomeOperator, Fits, Phrase, Module, Whole, WholeTail, Product, ProductTail, Base, Term, TermTail, Par, ParTail, Cmd, CmdTail, Rel, RelTail, Bits, BitsTail, Sum, SumTail, App, AppTail, Pre, Atom, AtomTail, Symbol, Token, Part, IsRule, an_import, an_export, a_type, an_outcome, no_outcome, a_product, a_factor, no_factor, a_command_type, an_expression_type, a_variable_type, a_type_in_brackets, a_lambda, a_block, a_sequence, a_next, no_next, a_parallel, a_branch, no_branch, a_choice, a_loop, an_assignment, a_value, no_value, a_relation, a_comparison, no_comparison, some_bits, more_bits, no_bits, a_sum, a_summand, no_summand, an_application, an_argument, no_argument, a_negation, a_reading, a_first_part, a_second_part, an_atom, skipping, a_literal, a_use, in_brackets, one_term, two_terms}
+use Rattle.gos_syntax.specs.Symbols.{Class, TheWord, TheSign, SomeOperator, Fits, Phrase, Module, Whole, WholeTail, Product, ProductTail, Base, Term, TermTail, Par, ParTail, Cmd, CmdTail, Rel, RelTail, Bits, BitsTail, Sum, SumTail, App, AppTail, Pre, Atom, AtomTail, Symbol, Token, Part, IsRule, an_import, an_export, a_type, an_outcome, no_outcome, a_product, a_factor, no_factor, a_command_type, an_expression_type, a_variable_type, a_type_in_brackets, a_lambda, a_block, a_local, an_array, a_sequence, a_next, no_next, a_parallel, a_branch, no_branch, a_choice, a_loop, an_assignment, a_value, no_value, a_relation, a_comparison, no_comparison, some_bits, more_bits, no_bits, a_sum, a_summand, no_summand, an_application, an_argument, no_argument, a_negation, a_reading, a_first_part, a_second_part, an_atom, skipping, a_literal, a_use, in_brackets, one_term, two_terms}
 use Rattle.gos_syntax.specs.Spelling.{Spells, at_end, with_token, by_rule, begins_operand, looseness, reach, EndsBefore, IsClear, Leads, Misses}
 use Rattle.gos_syntax.specs.inner.Beginnings.{IsNoBinder, IsNoControl, IsNoPrefix}
 use Rattle.gos_syntax.proofs.LeadsLemmas.{token_spelled, phrase_spelled, SpelledBy, leads_before}
@@ -49,6 +49,8 @@ apart r a_variable_type a_variable_type one other = refl
 apart r a_type_in_brackets a_type_in_brackets one other = refl
 apart r a_lambda a_lambda one other = refl
 apart r a_block a_block one other = refl
+apart r a_local a_local one other = refl
+apart r an_array an_array one other = refl
 apart r a_sequence a_sequence one other = refl
 apart r a_next a_next one other = refl
 apart r no_next no_next one other = refl
@@ -264,6 +266,8 @@ clear_by a_factor rest ends = (ends, tt)
 clear_by a_type_in_brackets rest ends = (ends_before_sign Whole signs.Close _ (omega arith), tt)
 clear_by a_lambda rest ends = (ends_before_sign Whole signs.Dot _ (omega arith), (ends, tt))
 clear_by a_block rest ends = (ends, tt)
+clear_by a_local rest ends = (ends, tt)
+clear_by an_array rest ends = (ends, tt)
 clear_by a_sequence rest ends = (ends_before_part Par TermTail rest (omega arith) ends, (ends, tt))
 clear_by a_next rest ends = (ends, tt)
 clear_by a_parallel rest ends = (ends_before_part Cmd ParTail rest (omega arith) ends, (ends, tt))

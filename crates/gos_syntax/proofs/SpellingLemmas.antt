@@ -13,7 +13,7 @@ use Rattle.gos_syntax.specs.Grammar.{IsType, IsTerm, TypeRule, Rule}
 use Rattle.gos_syntax.specs.ParsedModules.{AreImports, IsModule}
 use Rattle.gos_syntax.specs.Symbols as symbols
 use Rattle.gos_syntax.specs.Symbols.{Class, Fits, Phrase, Module, Whole, Product, Base, Term, Par, Cmd, Rel, Bits, BitsTail, Sum, SumTail, App, AppTail, Pre, Atom, Symbol, Token, Part, IsRule}
-use Rattle.gos_syntax.proofs.StepLemmas.{two, three, four, five, there, number_there}
+use Rattle.gos_syntax.proofs.StepLemmas.{two, three, four, five, six, seven, eight, there, small_there}
 use Rattle.gos_syntax.specs.Spelling.{Spells, at_end, with_token, by_rule}
 
 -- the rule is chosen
@@ -91,10 +91,23 @@ term_spelled items rule i j tree (grammar.a_block _ _ name width _ word named co
     chosen symbols.a_block
     (passed word
     (passed (name, named)
+    (chosen symbols.a_local
     (passed (there items (symbols.TheSign signs.Colon) _ _ (two i) colon)
-    (passed (width, number_there items width _ _ (three i) number)
+    (passed (width, small_there items width _ _ (three i) number)
     (passed (there items (symbols.TheWord words.In) _ _ (four i) in_word)
-    (moved _ _ (five i) (term_spelled items _ _ _ _ body _ s)))))))
+    (moved _ _ (five i) (term_spelled items _ _ _ _ body _ s))))))))
+term_spelled items rule i j tree (grammar.an_array _ _ name length width _ word named open_sign many close colon number in_word body) rest s =
+    chosen symbols.a_block
+    (passed word
+    (passed (name, named)
+    (chosen symbols.an_array
+    (passed (there items (symbols.TheSign signs.OpenSquare) _ _ (two i) open_sign)
+    (passed (length, small_there items length _ _ (three i) many)
+    (passed (there items (symbols.TheSign signs.CloseSquare) _ _ (four i) close)
+    (passed (there items (symbols.TheSign signs.Colon) _ _ (five i) colon)
+    (passed (width, small_there items width _ _ (six i) number)
+    (passed (there items (symbols.TheWord words.In) _ _ (seven i) in_word)
+    (moved _ _ (eight i) (term_spelled items _ _ _ _ body _ s)))))))))))
 term_spelled items rule i j tree (grammar.a_command _ _ _ a) rest s =
     chosen symbols.a_parallel (term_spelled items _ _ _ _ a _ (chosen symbols.no_branch s))
 term_spelled items rule i j tree (grammar.both_commands _ _ _ _ _ a parallel b) rest s =
@@ -145,7 +158,7 @@ term_spelled items rule i j tree (grammar.skipping _ word) rest s = chosen symbo
 term_spelled items rule i j tree (grammar.a_literal _ value width number colon wide) rest s =
     chosen symbols.a_literal
     (passed (value, number)
-    (passed colon (passed (width, number_there items width _ _ (two i) wide) (moved _ _ (three i) s))))
+    (passed colon (passed (width, small_there items width _ _ (two i) wide) (moved _ _ (three i) s))))
 term_spelled items rule i j tree (grammar.a_name _ name named) rest s = chosen symbols.a_use (passed (name, named) s)
 term_spelled items rule i j tree (grammar.in_brackets _ _ _ open_sign a close) rest s =
     chosen symbols.in_brackets (passed open_sign (term_spelled items _ _ _ _ a _ (chosen symbols.one_term (passed close s))))

@@ -1,5 +1,5 @@
 -- The printed text of a module is written token by token: by induction on what is printed.
-use Rattle.std.proofs.Common.{None, ◌≡◌, ◌⊎◌, inl, inr, ℕ, ◌≤◌, Bool, true, false, not, List, [], ◌∷◌, ◌++◌, map, codes, refl, sym, ◌∙◌, ap, subst}
+use Rattle.std.proofs.Common.{None, ◌≡◌, ◌⊎◌, inl, inr, ℕ, ◌≤◌, Bool, true, false, not, List, [], ◌∷◌, ◌++◌, map, codes, refl, sym, ◌∙◌, ap, subst, arith}
 use Rattle.std.proofs.lemmas.List.{append_assoc, append-nil}
 use Rattle.std.specs.Char.{is_ascii_digit}
 use Rattle.std.specs.Fmt.{decimal}
@@ -14,6 +14,7 @@ use Rattle.gos_lex.specs.Bytes.{continues_name}
 use Rattle.gos_lex.specs.Names.{IsName}
 use Rattle.gos_lex.specs.Words.{word_text}
 use Rattle.gos_lex.specs.Signs.{sign_text}
+use Rattle.gos_lex.specs.declared.numeral.TheConstants.{GREATEST_NUMERAL}
 use Rattle.gos_lex.specs.Tokens.{Reading, AName, ANumber, AWord, ASign, reading_as, reading_of, readings_of, Reads}
 use Rattle.gos_types.specs.Types as types
 use Rattle.gos_types.specs.Types.{Type', type_of}
@@ -26,6 +27,7 @@ use Rattle.gos_syntax.specs.Trees.{Tree, tree_of}
 use Rattle.gos_syntax.specs.Modules.{SeenImport, SeenModule}
 use Rattle.gos_syntax.specs.ModuleTrees.{import_tree, module_tree}
 use Rattle.gos_syntax.specs.Grammar as grammar
+use Rattle.gos_syntax.specs.Grammar.{IsSmall}
 use Rattle.gos_syntax.specs.ModuleText.{is_atom, text_of, operand_text, import_text, imports_text, module_text}
 use Rattle.gos_syntax.specs.ModuleTokens.{enclosed, type_tokens_at, type_tokens, as_operand, tokens_of, imports_tokens, module_tokens}
 use Rattle.gos_syntax.specs.Writable.{HasNumerals, IsWritableTree, AreWritable, IsWritable}
@@ -35,24 +37,35 @@ use Rattle.gos_syntax.proofs.WrittenLemmas.{IsLexed, Written, nothing, a_blank, 
 use Rattle.gos_syntax.proofs.LexemeLemmas.{StopsAt, word_lexed, name_lexed, number_lexed, sign_lexed, space_ends, number_ends}
 use Rattle.gos_syntax.proofs.PrintedLemmas.{module_reads}
 
--- What may stand behind a term or a type: nothing, a space, a line feed, a closing bracket or a comma.
+-- What may stand behind a name, a numeral, a term or a type: nothing, a space, a line feed, a closing bracket, a comma, or a
+-- square bracket.
 abbrev Ended : List ℕ → Type 0
 Ended [] = Unit {0}
-Ended (b ∷ rest) = (b ≡ 32) ⊎ ((b ≡ 10) ⊎ ((b ≡ 41) ⊎ (b ≡ 44)))
+Ended (b ∷ rest) = (b ≡ 32) ⊎ ((b ≡ 10) ⊎ ((b ≡ 41) ⊎ ((b ≡ 44) ⊎ ((b ≡ 91) ⊎ (b ≡ 93)))))
 
 -- one of these bytes fails a test that they all fail
-fails : (test : ℕ → Bool) → test 32 ≡ false → test 10 ≡ false → test 41 ≡ false → test 44 ≡ false → (rest : List ℕ) → Ended rest → StopsAt test rest
-fails test a b c d [] ended = tt
-fails test a b c d (byte ∷ rest) (inl e) = ap test e ∙ a
-fails test a b c d (byte ∷ rest) (inr (inl e)) = ap test e ∙ b
-fails test a b c d (byte ∷ rest) (inr (inr (inl e))) = ap test e ∙ c
-fails test a b c d (byte ∷ rest) (inr (inr (inr e))) = ap test e ∙ d
+record Fails (test : ℕ → Bool) : Type 0 where
+  space : test 32 ≡ false
+  line_feed : test 10 ≡ false
+  close : test 41 ≡ false
+  comma : test 44 ≡ false
+  open_square : test 91 ≡ false
+  close_square : test 93 ≡ false
+
+fails : (test : ℕ → Bool) → Fails test → (rest : List ℕ) → Ended rest → StopsAt test rest
+fails test all [] ended = tt
+fails test all (byte ∷ rest) (inl e) = ap test e ∙ all.space
+fails test all (byte ∷ rest) (inr (inl e)) = ap test e ∙ all.line_feed
+fails test all (byte ∷ rest) (inr (inr (inl e))) = ap test e ∙ all.close
+fails test all (byte ∷ rest) (inr (inr (inr (inl e)))) = ap test e ∙ all.comma
+fails test all (byte ∷ rest) (inr (inr (inr (inr (inl e))))) = ap test e ∙ all.open_square
+fails test all (byte ∷ rest) (inr (inr (inr (inr (inr e))))) = ap test e ∙ all.close_square
 
 name_ended : (rest : List ℕ) → Ended rest → StopsAt continues_name rest
-name_ended = fails continues_name refl refl refl refl
+name_ended = fails continues_name record { space = refl; line_feed = refl; close = refl; comma = refl; open_square = refl; close_square = refl }
 
 number_ended : (rest : List ℕ) → Ended rest → StopsAt is_ascii_digit rest
-number_ended = fails is_ascii_digit refl refl refl refl
+number_ended = fails is_ascii_digit record { space = refl; line_feed = refl; close = refl; comma = refl; open_square = refl; close_square = refl }
 
 -- a text is written as these tokens, whatever stands behind it
 abbrev Before : List ℕ → List Reading → Type 0
@@ -127,10 +140,30 @@ space = record { ends = λ rest. inl refl; written = λ rest more written. a_bla
 comma : Between (codes ", ") (ASign signs.Comma ∷ [])
 comma =
     record {
-      ends = λ rest. inr (inr (inr refl));
+      ends = λ rest. inr (inr (inr (inl refl)));
       written =
           λ rest more written.
           a_token (sign_text signs.Comma) (32 ∷ rest) (kinds.Sign signs.Comma) more (sign_lexed signs.Comma (32 ∷ rest) tt) (a_blank 32 rest more refl written);
+    }
+
+-- around the length of an array
+open_square : Between (codes "[") (ASign signs.OpenSquare ∷ [])
+open_square =
+    record {
+      ends = λ rest. inr (inr (inr (inr (inl refl))));
+      written =
+          λ rest more written.
+          a_token (sign_text signs.OpenSquare) rest (kinds.Sign signs.OpenSquare) more (sign_lexed signs.OpenSquare rest tt) written;
+    }
+
+close_square : Between (codes "] : ") (ASign signs.CloseSquare ∷ ASign signs.Colon ∷ [])
+close_square =
+    record {
+      ends = λ rest. inr (inr (inr (inr (inr refl))));
+      written =
+          λ rest more written.
+          a_token (sign_text signs.CloseSquare) (codes " : " ++ rest) (kinds.Sign signs.CloseSquare) (ASign signs.Colon ∷ more)
+          (sign_lexed signs.CloseSquare (codes " : " ++ rest) tt) ((sign_spaced signs.Colon).written rest more written);
     }
 
 opened : Before (codes "(") (ASign signs.Open ∷ [])
@@ -145,8 +178,11 @@ word_writes word rest more ended written = a_token (word_text word) rest (kinds.
 name_writes : (name : List ℕ) → IsName name → Writes name (AName name ∷ [])
 name_writes name is rest more ended written = a_token name rest kinds.Name more (name_lexed name rest is (name_ended rest ended)) written
 
-number_writes : (n : ℕ) → n ≤ 4294967295 → Writes (decimal n) (ANumber n ∷ [])
+number_writes : (n : ℕ) → n ≤ GREATEST_NUMERAL → Writes (decimal n) (ANumber n ∷ [])
 number_writes n small rest more ended written = a_token (decimal n) rest (kinds.Number n) more (number_lexed n rest small (number_ended rest ended)) written
+
+small_writes : (n : ℕ) → IsSmall n → Writes (decimal n) (ANumber n ∷ [])
+small_writes n small = number_writes n (omega (arith, small))
 
 -- in brackets, where they are needed
 in_brackets : (needed : Bool) (text : List ℕ) (tokens : List Reading) → Writes text tokens → Writes (bracketed needed text) (enclosed needed tokens)
@@ -164,10 +200,10 @@ type_writes : (ty : Type') → HasNumerals ty → TypeWrites ty
 type_writes types.Com numerals =
     record { whole = word_writes words.Com; product = word_writes words.Com; base = word_writes words.Com }
 type_writes (types.Exp w) small =
-    let writes = prefixed (codes "exp ") (decimal w) (AWord words.Exp ∷ []) (ANumber w ∷ []) (word_then words.Exp) (number_writes w small) in
+    let writes = prefixed (codes "exp ") (decimal w) (AWord words.Exp ∷ []) (ANumber w ∷ []) (word_then words.Exp) (small_writes w small) in
     record { whole = writes; product = writes; base = writes }
 type_writes (types.Var w) small =
-    let writes = prefixed (codes "var ") (decimal w) (AWord words.Var ∷ []) (ANumber w ∷ []) (word_then words.Var) (number_writes w small) in
+    let writes = prefixed (codes "var ") (decimal w) (AWord words.Var ∷ []) (ANumber w ∷ []) (word_then words.Var) (small_writes w small) in
     record { whole = writes; product = writes; base = writes }
 type_writes (types.Pair a b) (small_a, small_b) =
     let writes =
@@ -194,15 +230,15 @@ prefix_writes : (front : List ℕ) (token : Reading) (a : Tree) → Before front
 prefix_writes front token a before writes = prefixed front (operand_text a) (token ∷ []) (as_operand a (tokens_of a)) before (operand_writes a writes)
 
 -- a literal is written without blanks
-literal_writes : (value width : ℕ) → value ≤ 4294967295 → width ≤ 4294967295
+literal_writes : (value width : ℕ) → value ≤ GREATEST_NUMERAL → IsSmall width
     → Writes (decimal value ++ codes ":" ++ decimal width) (ANumber value ∷ ASign signs.Colon ∷ ANumber width ∷ [])
 literal_writes value width small narrow rest more ended written =
-    let last : Written (decimal width ++ rest) (ANumber width ∷ more) = number_writes width narrow rest more ended written in
+    let last : Written (decimal width ++ rest) (ANumber width ∷ more) = small_writes width narrow rest more ended written in
     regrouped (append_assoc (decimal value ++ codes ":") (decimal width) rest ∙ append_assoc (decimal value) (codes ":") (decimal width ++ rest)) refl
     (a_token (decimal value) (58 ∷ (decimal width ++ rest)) (kinds.Number value) (ASign signs.Colon ∷ ANumber width ∷ more)
     (number_lexed value (58 ∷ (decimal width ++ rest)) small refl)
     (a_token (sign_text signs.Colon) (decimal width ++ rest) (kinds.Sign signs.Colon) (ANumber width ∷ more)
-    (sign_lexed signs.Colon (decimal width ++ rest) (number_ends width rest narrow)) last))
+    (sign_lexed signs.Colon (decimal width ++ rest) (number_ends width rest (omega (arith, narrow)))) last))
 
 -- an operation, between two spaces
 operation_writes : (op : Op) (a b : Tree) → Writes (text_of a) (tokens_of a) → Writes (text_of b) (tokens_of b)
@@ -227,7 +263,18 @@ term_writes (trees.Lam s name ty ty_span body) (is, numerals, inner) =
 term_writes (trees.New s name width width_span body) (is, narrow, inner) =
     joined (codes "new " ++ name ++ codes " : " ++ decimal width) (codes " in ") (text_of body) (AWord words.New ∷ AName name ∷ ASign signs.Colon ∷ ANumber width ∷ []) (AWord words.In ∷ []) (tokens_of body)
     (joined (codes "new " ++ name) (codes " : ") (decimal width) (AWord words.New ∷ AName name ∷ []) (ASign signs.Colon ∷ []) (ANumber width ∷ [])
-    (prefixed (codes "new ") name (AWord words.New ∷ []) (AName name ∷ []) (word_then words.New) (name_writes name is)) (sign_spaced signs.Colon) (number_writes width narrow))
+    (prefixed (codes "new ") name (AWord words.New ∷ []) (AName name ∷ []) (word_then words.New) (name_writes name is)) (sign_spaced signs.Colon) (small_writes width narrow))
+    (word_spaced words.In) (term_writes body inner)
+term_writes (trees.Array s name length length_span width width_span body) (is, short, narrow, inner) =
+    let named : List Reading = AWord words.New ∷ AName name ∷ [] in
+    let long : List Reading = AWord words.New ∷ AName name ∷ ASign signs.OpenSquare ∷ ANumber length ∷ [] in
+    let wide : List Reading =
+    AWord words.New ∷ AName name ∷ ASign signs.OpenSquare ∷ ANumber length ∷ ASign signs.CloseSquare ∷ ASign signs.Colon ∷ ANumber width ∷ [] in
+    joined (codes "new " ++ name ++ codes "[" ++ decimal length ++ codes "] : " ++ decimal width) (codes " in ") (text_of body) wide (AWord words.In ∷ []) (tokens_of body)
+    (joined (codes "new " ++ name ++ codes "[" ++ decimal length) (codes "] : ") (decimal width) long (ASign signs.CloseSquare ∷ ASign signs.Colon ∷ []) (ANumber width ∷ [])
+    (joined (codes "new " ++ name) (codes "[") (decimal length) named (ASign signs.OpenSquare ∷ []) (ANumber length ∷ [])
+    (prefixed (codes "new ") name (AWord words.New ∷ []) (AName name ∷ []) (word_then words.New) (name_writes name is)) open_square (small_writes length short))
+    close_square (small_writes width narrow))
     (word_spaced words.In) (term_writes body inner)
 term_writes (trees.App s a b) (is_a, is_b) = around a b (codes " ") [] (term_writes a is_a) (term_writes b is_b) space
 term_writes (trees.Both s a b) (is_a, is_b) =
@@ -304,7 +351,7 @@ pub module_prints : (made : SeenModule) → PrintsBack made
 module_prints made is =
     let text : List ℕ = module_text made in
     let read = written_reads text (module_tokens (module_tree made)) (module_written made is) in
-    let again = module_reads (items_of text read.tokens) (module_tree made) (items_read text read.tokens ∙ read.same) in
+    let again = module_reads (items_of text read.tokens) (module_tree made) is (items_read text read.tokens ∙ read.same) in
     let same : (tokens : List Token) → Reads text 0 tokens None → read.tokens ≡ tokens =
     λ tokens reads. (reads_in_one_way text read.tokens tokens None None read.reads reads).0 in
     ((read.tokens, read.reads), λ tokens reads. subst (λ (ts : List Token). IsAgain (items_of text ts) (module_tree made)) (same tokens reads) again)

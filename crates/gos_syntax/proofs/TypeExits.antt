@@ -4,15 +4,15 @@ use Rattle.gos_lex.specs.declared.sign.Sign.TheVariants as signs
 use Rattle.gos_types.specs.Types.{Type'}
 use Rattle.gos_syntax.specs.Items.{Item, reading_at}
 use Rattle.gos_syntax.specs.Grammar as rules
-use Rattle.gos_syntax.specs.Grammar.{HasSign, HasNumber, IsType}
-use Rattle.gos_syntax.specs.Symbols.{Class, Fits, Token, Part, sign, number, IsRule, Whole, Base, a_type_in_brackets}
+use Rattle.gos_syntax.specs.Grammar.{HasSign, HasSmall, IsType}
+use Rattle.gos_syntax.specs.Symbols.{Class, Fits, Token, Part, sign, small, IsRule, Whole, Base, a_type_in_brackets}
 use Rattle.gos_syntax.specs.Spelling.{Leads, IsRead}
 use Rattle.gos_syntax.proofs.LeadsLemmas.{leads_then, leads_token_to, leads_part}
 use Rattle.gos_syntax.proofs.RuleExits.{past_token}
 
--- base = "exp" numeral | "var" numeral
-pub width_read : {items : List Item} {class : Class} {i w : ℕ} (rule : IsRule Base (Token class ∷ number ∷ [])) → Fits (reading_at items i) class
-    → HasNumber items (i + 1) w → IsRead items Base i (i + 2)
+-- base = "exp" small | "var" small
+pub width_read : {items : List Item} {class : Class} {i w : ℕ} (rule : IsRule Base (Token class ∷ small ∷ [])) → Fits (reading_at items i) class
+    → HasSmall items (i + 1) w → IsRead items Base i (i + 2)
 width_read {w = w} rule is width = leads_then (past_token rule is) (leads_token_to (omega arith) (w, width))
 
 -- base = "(" type ")"

@@ -14,7 +14,7 @@ use Rattle.gos_syntax.specs.ParsedModules.{AreImports, IsModule}
 use Rattle.gos_syntax.specs.Symbols as symbols
 use Rattle.gos_syntax.specs.Symbols.{Module, Whole, WholeTail, Product, ProductTail, Base, Term, TermTail, Par, ParTail, Cmd, CmdTail, Rel, RelTail, Bits, BitsTail, Sum, SumTail, App, AppTail, Pre, Atom, AtomTail, Symbol, Part, word, sign, name}
 use Rattle.gos_syntax.specs.Spelling.{Spells, at_end}
-use Rattle.gos_syntax.proofs.StepLemmas.{two, three, five}
+use Rattle.gos_syntax.proofs.StepLemmas.{two, three, five, eight}
 use Rattle.gos_syntax.proofs.SpellingLemmas.{chosen, passed, moved, type_phrase, type_spelled, phrase_of, repeated, term_spelled, imports_spelled, module_spelled}
 use Rattle.gos_syntax.proofs.Values.{Values, made_by, value}
 
@@ -88,9 +88,16 @@ term_value items rule i j tree (grammar.a_lambda _ k _ named ty x fun is colon d
     ∙ type_value items grammar.Whole (i + 3) k ty d last (passed dotted inner)
     ∙ ap (λ (v : Values (Part Term ∷ rest)). type_then grammar.Whole last k ty (tt, v)) (term_value items grammar.Term (k + 1) j x b rest s))
 term_value items rule i j tree (grammar.a_block _ _ named width x new is colon wide in_word b) rest s =
-    ap (λ (v : Values (Part Term ∷ rest)). made_by items symbols.a_block rest i (tt, (named, (tt, (width, (tt, v))))))
+    ap (λ (v : Values (Part Term ∷ rest)).
+    made_by items symbols.a_block rest i (tt, (named, made_by items symbols.a_local rest (i + 1 + 1) (tt, (width, (tt, v))))))
     (value_moved items (Part Term ∷ rest) (i + 5) _ (five i) (term_spelled items grammar.Term (i + 5) j x b rest s)
     ∙ term_value items grammar.Term (i + 5) j x b rest s)
+term_value items rule i j tree (grammar.an_array _ _ named length width x new is opened many closed colon wide in_word b) rest s =
+    ap (λ (v : Values (Part Term ∷ rest)).
+    made_by items symbols.a_block rest i
+    (tt, (named, made_by items symbols.an_array rest (i + 1 + 1) (tt, (length, (tt, (tt, (width, (tt, v)))))))))
+    (value_moved items (Part Term ∷ rest) (i + 8) _ (eight i) (term_spelled items grammar.Term (i + 8) j x b rest s)
+    ∙ term_value items grammar.Term (i + 8) j x b rest s)
 term_value items rule i j tree (grammar.a_command _ _ _ a) rest s =
     ap (made_by items symbols.a_parallel rest i) (term_value items grammar.Cmd i j tree a (Part ParTail ∷ rest) (chosen symbols.no_branch s))
 term_value items rule i j tree (grammar.both_commands _ k _ x y a parallel b) rest s =

@@ -9,7 +9,7 @@ use Rattle.gos_syntax.specs.Trees as trees
 use Rattle.gos_syntax.specs.Trees.{Tree}
 use Rattle.gos_syntax.specs.ModuleTrees.{ImportTree, ModuleTree}
 use Rattle.gos_syntax.specs.Symbols as symbols
-use Rattle.gos_syntax.specs.Symbols.{Class, TheWord, TheSign, SomeName, SomeNumber, SomeOperator, Fits, Phrase, Module, Whole, WholeTail, Product, ProductTail, Base, Term, TermTail, Par, ParTail, Cmd, CmdTail, Rel, RelTail, Bits, BitsTail, Sum, SumTail, App, AppTail, Pre, Atom, AtomTail, Symbol, Token, Part, IsRule}
+use Rattle.gos_syntax.specs.Symbols.{Class, TheWord, TheSign, SomeName, SomeNumber, SomeSmall, SomeOperator, Fits, Phrase, Module, Whole, WholeTail, Product, ProductTail, Base, Term, BlockTail, TermTail, Par, ParTail, Cmd, CmdTail, Rel, RelTail, Bits, BitsTail, Sum, SumTail, App, AppTail, Pre, Atom, AtomTail, Symbol, Token, Part, IsRule}
 use Rattle.gos_syntax.specs.Spelling.{Spells, at_end, with_token, by_rule}
 
 -- what a token of a class says
@@ -18,6 +18,7 @@ Said (TheWord word) = Unit {0}
 Said (TheSign sign) = Unit {0}
 Said SomeName = List ℕ
 Said SomeNumber = ℕ
+Said SomeSmall = ℕ
 Said (SomeOperator level) = Op
 
 abbrev pub said : (class : Class) (r : Option Reading) → Fits r class → Said class
@@ -25,9 +26,11 @@ said (TheWord word) r fits = tt
 said (TheSign sign) r fits = tt
 said SomeName r fits = fits.0
 said SomeNumber r fits = fits.0
+said SomeSmall r fits = fits.0
 said (SomeOperator level) r fits = fits.0
 
--- What is made of a phrase. A tail makes something of the item at which its phrase began, and what was made before it.
+-- What is made of a phrase. A tail makes something of the item at which its phrase began, and what was made before it: that of
+-- a block has a name before it.
 abbrev pub Made : Phrase → Type 0
 Made Module = ModuleTree
 Made Whole = Type'
@@ -36,6 +39,7 @@ Made Product = Type'
 Made ProductTail = Type' → Type'
 Made Base = Type'
 Made Term = Tree
+Made BlockTail = ℕ → List ℕ → Tree
 Made TermTail = ℕ → Tree → Tree
 Made Par = Tree
 Made ParTail = ℕ → Tree → Tree
@@ -79,8 +83,11 @@ made_by items symbols.a_variable_type rest i (word, (w, vs)) = ((i + 2, types.Va
 made_by items symbols.a_type_in_brackets rest i (open_sign, ((j, a), (close, vs))) = ((j + 1, a), vs)
 made_by items symbols.a_lambda rest i (word, (name, (colon, ((j, ty), (dot, ((k, b), vs)))))) =
     ((k, trees.Lam (span_of items i k) name ty (span_of items (i + 3) j) b), vs)
-made_by items symbols.a_block rest i (word, (name, (colon, (width, (in_word, ((k, b), vs)))))) =
-    ((k, trees.New (span_of items i k) name width (span_of items (i + 3) (i + 4)) b), vs)
+made_by items symbols.a_block rest i (word, (name, ((k, go), vs))) = ((k, go i name), vs)
+made_by items symbols.a_local rest i (colon, (width, (in_word, ((k, b), vs)))) =
+    ((k, λ h name. trees.New (span_of items h k) name width (span_of items (h + 3) (h + 4)) b), vs)
+made_by items symbols.an_array rest i (open_sign, (length, (close, (colon, (width, (in_word, ((k, b), vs))))))) =
+    ((k, λ h name. trees.Array (span_of items h k) name length (span_of items (h + 3) (h + 4)) width (span_of items (h + 6) (h + 7)) b), vs)
 made_by items symbols.a_sequence rest i ((j, a), ((k, go), vs)) = ((k, go i a), vs)
 made_by items symbols.a_next rest i (semicolon, ((k, b), vs)) = ((k, λ h a. trees.Seq (span_of items h k) a b), vs)
 made_by items symbols.no_next rest i vs = ((i, λ h a. a), vs)

@@ -6,9 +6,9 @@
 --     module = { "import" name ":" type } "export" term ":" type
 --     type   = prod [ "->" type ]
 --     prod   = base [ "*" prod ]
---     base   = "com" | "exp" numeral | "var" numeral | "(" type ")"
+--     base   = "com" | "exp" small | "var" small | "(" type ")"
 --     term   = "fun" name ":" type "." term
---            | "new" name ":" numeral "in" term
+--            | "new" name [ "[" small "]" ] ":" small "in" term
 --            | par [ ";" term ]
 --     par    = cmd [ "||" par ]
 --     cmd    = "if" term "then" cmd "else" cmd
@@ -19,10 +19,11 @@
 --     sum    = app { ( "+" | "-" ) app }
 --     app    = pre { pre }
 --     pre    = ( "not" | "!" | "fst" | "snd" ) pre | atom
---     atom   = "skip" | numeral ":" numeral | name | "(" term [ "," term ] ")"
+--     atom   = "skip" | numeral ":" small | name | "(" term [ "," term ] ")"
 --
--- What is repeated in braces groups to the left, so these rules begin with themselves.
-use Rattle.std.specs.Prelude.{◌≡◌, ℕ, ◌+◌, List, Some}
+-- What is repeated in braces groups to the left, so these rules begin with themselves. A width and a length are small
+-- numerals: those of 32 bits.
+use Rattle.std.specs.Prelude.{◌≡◌, ℕ, ◌+◌, ◌≤◌, List, Some}
 use Rattle.gos_lex.specs.declared.word.Word.{Word}
 use Rattle.gos_lex.specs.declared.word.Word.TheVariants as words
 use Rattle.gos_lex.specs.declared.sign.Sign.{Sign}
@@ -54,6 +55,14 @@ HasName items i name = reading_at items i ≡ Some (AName name)
 abbrev pub HasNumber : List Item → ℕ → ℕ → Type 0
 HasNumber items i value = reading_at items i ≡ Some (ANumber value)
 
+-- a number of 32 bits
+abbrev pub IsSmall : ℕ → Type 0
+IsSmall n = n ≤ 4294967295
+
+-- the item of this number is a small numeral of this value
+abbrev pub HasSmall : List Item → ℕ → ℕ → Type 0
+HasSmall items i value = HasNumber items i value × IsSmall value
+
 -- the rules of types
 pub data TypeRule : Type 0 where
   Whole Product Base : TypeRule
@@ -69,8 +78,8 @@ pub data IsType (items : List Item) : TypeRule → ℕ → ℕ → Type' → Typ
       → IsType items Base i j a → HasSign items j signs.Star → IsType items Product (j + 1) k b
       → IsType items Product i k (types.Pair a b)
   a_command : (i : ℕ) → HasWord items i words.Com → IsType items Base i (i + 1) types.Com
-  an_expression : (i w : ℕ) → HasWord items i words.Exp → HasNumber items (i + 1) w → IsType items Base i (i + 2) (types.Exp w)
-  a_variable : (i w : ℕ) → HasWord items i words.Var → HasNumber items (i + 1) w → IsType items Base i (i + 2) (types.Var w)
+  an_expression : (i w : ℕ) → HasWord items i words.Exp → HasSmall items (i + 1) w → IsType items Base i (i + 2) (types.Exp w)
+  a_variable : (i w : ℕ) → HasWord items i words.Var → HasSmall items (i + 1) w → IsType items Base i (i + 2) (types.Var w)
   in_brackets : (i j : ℕ) (a : Type')
       → HasSign items i signs.Open → IsType items Whole (i + 1) j a → HasSign items j signs.Close
       → IsType items Base i (j + 1) a
@@ -91,8 +100,13 @@ pub data IsTerm (items : List Item) : Rule → ℕ → ℕ → Tree → Type 0 w
       → IsTerm items Term i k (trees.Lam (span_of items i k) name ty (span_of items (i + 3) j) body)
   a_block : (i j : ℕ) (name : List ℕ) (width : ℕ) (body : Tree)
       → HasWord items i words.New → HasName items (i + 1) name → HasSign items (i + 2) signs.Colon
-      → HasNumber items (i + 3) width → HasWord items (i + 4) words.In → IsTerm items Term (i + 5) j body
+      → HasSmall items (i + 3) width → HasWord items (i + 4) words.In → IsTerm items Term (i + 5) j body
       → IsTerm items Term i j (trees.New (span_of items i j) name width (span_of items (i + 3) (i + 4)) body)
+  an_array : (i j : ℕ) (name : List ℕ) (length width : ℕ) (body : Tree)
+      → HasWord items i words.New → HasName items (i + 1) name → HasSign items (i + 2) signs.OpenSquare
+      → HasSmall items (i + 3) length → HasSign items (i + 4) signs.CloseSquare → HasSign items (i + 5) signs.Colon
+      → HasSmall items (i + 6) width → HasWord items (i + 7) words.In → IsTerm items Term (i + 8) j body
+      → IsTerm items Term i j (trees.Array (span_of items i j) name length (span_of items (i + 3) (i + 4)) width (span_of items (i + 6) (i + 7)) body)
   a_command : (i j : ℕ) (a : Tree) → IsTerm items Cmd i j a → IsTerm items Par i j a
   both_commands : (i j k : ℕ) (a b : Tree)
       → IsTerm items Cmd i j a → HasSign items j signs.Parallel → IsTerm items Par (j + 1) k b
@@ -137,7 +151,7 @@ pub data IsTerm (items : List Item) : Rule → ℕ → ℕ → Tree → Type 0 w
       → HasWord items i words.Snd → IsTerm items Pre (i + 1) j a → IsTerm items Pre i j (trees.Snd (span_of items i j) a)
   skipping : (i : ℕ) → HasWord items i words.Skip → IsTerm items Atom i (i + 1) (trees.Skip (span_of items i (i + 1)))
   a_literal : (i value width : ℕ)
-      → HasNumber items i value → HasSign items (i + 1) signs.Colon → HasNumber items (i + 2) width
+      → HasNumber items i value → HasSign items (i + 1) signs.Colon → HasSmall items (i + 2) width
       → IsTerm items Atom i (i + 3) (trees.Lit (span_of items i (i + 3)) value width)
   a_name : (i : ℕ) (name : List ℕ) → HasName items i name → IsTerm items Atom i (i + 1) (trees.Use (span_of items i (i + 1)) name)
   in_brackets : (i j : ℕ) (a : Tree)

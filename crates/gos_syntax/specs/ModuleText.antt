@@ -8,7 +8,7 @@ use Rattle.gos_types.specs.Types.{type_of}
 use Rattle.gos_types.specs.TypeText.{bracketed, type_text}
 use Rattle.gos_syntax.specs.Operators.{sign_of}
 use Rattle.gos_syntax.specs.Modules.{SeenImport, SeenModule}
-use Rattle.gos_syntax.specs.Trees.{Tree, Skip, Lit, Use, Lam, New, App, Both, Fst, Snd, Seq, Par, If, While, Assign, Deref, Not, Bin, tree_of}
+use Rattle.gos_syntax.specs.Trees.{Tree, Skip, Lit, Use, Lam, New, Array, App, Both, Fst, Snd, Seq, Par, If, While, Assign, Deref, Not, Bin, tree_of}
 
 -- whether a term is an atom of the grammar
 abbrev pub is_atom : Tree → Bool
@@ -29,6 +29,8 @@ text_of (Lit s value width) = decimal value ++ codes ":" ++ decimal width
 text_of (Use s name) = name
 text_of (Lam s name ty ty_span body) = codes "fun " ++ name ++ codes " : " ++ type_text ty ++ codes " . " ++ text_of body
 text_of (New s name width width_span body) = codes "new " ++ name ++ codes " : " ++ decimal width ++ codes " in " ++ text_of body
+text_of (Array s name length length_span width width_span body) =
+    codes "new " ++ name ++ codes "[" ++ decimal length ++ codes "] : " ++ decimal width ++ codes " in " ++ text_of body
 text_of (App s a b) = as_operand a (text_of a) ++ codes " " ++ as_operand b (text_of b)
 text_of (Both s a b) = codes "(" ++ text_of a ++ codes ", " ++ text_of b ++ codes ")"
 text_of (Fst s a) = codes "fst " ++ as_operand a (text_of a)

@@ -8,7 +8,7 @@ use Rattle.gos_lex.specs.Tokens.{Reading, AName, ANumber, AWord, ASign}
 use Rattle.gos_types.specs.Types as types
 use Rattle.gos_types.specs.Types.{Type'}
 use Rattle.gos_syntax.specs.Operators.{sign_of}
-use Rattle.gos_syntax.specs.Trees.{Tree, Skip, Lit, Use, Lam, New, App, Both, Fst, Snd, Seq, Par, If, While, Assign, Deref, Not, Bin}
+use Rattle.gos_syntax.specs.Trees.{Tree, Skip, Lit, Use, Lam, New, Array, App, Both, Fst, Snd, Seq, Par, If, While, Assign, Deref, Not, Bin}
 use Rattle.gos_syntax.specs.ModuleTrees.{ImportTree, ModuleTree}
 use Rattle.gos_syntax.specs.Grammar.{TypeRule, Whole, Product, Base}
 use Rattle.gos_syntax.specs.ModuleText.{is_atom}
@@ -54,6 +54,9 @@ tokens_of (Lam s name ty ty_span body) =
     AWord words.Fun ∷ AName name ∷ ASign signs.Colon ∷ type_tokens ty ++ ASign signs.Dot ∷ tokens_of body
 tokens_of (New s name width width_span body) =
     AWord words.New ∷ AName name ∷ ASign signs.Colon ∷ ANumber width ∷ AWord words.In ∷ tokens_of body
+tokens_of (Array s name length length_span width width_span body) =
+    AWord words.New ∷ AName name ∷ ASign signs.OpenSquare ∷ ANumber length ∷ ASign signs.CloseSquare ∷ ASign signs.Colon
+    ∷ ANumber width ∷ AWord words.In ∷ tokens_of body
 tokens_of (App s a b) = as_operand a (tokens_of a) ++ as_operand b (tokens_of b)
 tokens_of (Both s a b) = ASign signs.Open ∷ tokens_of a ++ (ASign signs.Comma ∷ tokens_of b ++ ASign signs.Close ∷ [])
 tokens_of (Fst s a) = AWord words.Fst ∷ as_operand a (tokens_of a)

@@ -21,9 +21,9 @@ readings items = map (λ item. item.reading) items
 abbrev pub IsAgain : List Item → ModuleTree → Type 0
 IsAgain items made = (again : ModuleTree) × IsModule items again × (unplaced_module again ≡ unplaced_module made)
 
--- items that are read as the tokens of a module are that module
+-- items that are read as the tokens of a module that can be written are that module
 abbrev pub ReadsBack : List Item → ModuleTree → Type 0
-ReadsBack items made = readings items ≡ module_tokens made → IsAgain items made
+ReadsBack items made = IsWritable made → readings items ≡ module_tokens made → IsAgain items made
 
 -- The printed text of a module that can be written has tokens, and they are that module.
 abbrev pub PrintsBack : SeenModule → Type 0

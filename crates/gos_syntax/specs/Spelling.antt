@@ -10,7 +10,7 @@ use Rattle.gos_lex.specs.Tokens.{Reading, AName, ANumber, AWord, ASign}
 use Rattle.gos_syntax.specs.declared.fault.Stop.{Stop}
 use Rattle.gos_syntax.specs.declared.fault.Stop.TheVariants as stops
 use Rattle.gos_syntax.specs.Items.{Item, reading_at, Agree}
-use Rattle.gos_syntax.specs.Symbols.{Class, Fits, Phrase, Module, Whole, WholeTail, Product, ProductTail, Base, Term, TermTail, Par, ParTail, Cmd, CmdTail, Rel, RelTail, Bits, BitsTail, Sum, SumTail, App, AppTail, Pre, Atom, AtomTail, Symbol, Token, Part, IsRule}
+use Rattle.gos_syntax.specs.Symbols.{Class, Fits, Phrase, Module, Whole, WholeTail, Product, ProductTail, Base, Term, BlockTail, TermTail, Par, ParTail, Cmd, CmdTail, Rel, RelTail, Bits, BitsTail, Sum, SumTail, App, AppTail, Pre, Atom, AtomTail, Symbol, Token, Part, IsRule}
 
 -- the items from number i on, to the last one, are what these symbols ask for
 pub data Spells (items : List Item) : List Symbol → ℕ → Type 0 where
@@ -67,6 +67,7 @@ reach Product = 1
 reach ProductTail = 1
 reach Base = 0
 reach Term = 7
+reach BlockTail = 7
 reach TermTail = 7
 reach Par = 6
 reach ParTail = 6

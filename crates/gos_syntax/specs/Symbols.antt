@@ -13,12 +13,13 @@ use Rattle.gos_syntax.specs.declared.terms.Op.{Op}
 use Rattle.gos_syntax.specs.declared.operators.Level.{Level}
 use Rattle.gos_syntax.specs.declared.operators.Level.TheVariants as levels
 use Rattle.gos_syntax.specs.Operators.{sign_of, level_of}
+use Rattle.gos_syntax.specs.Grammar.{IsSmall}
 
 -- what a token is asked to be
 pub data Class : Type 0 where
   TheWord : (word : Word) → Class
   TheSign : (sign : Sign) → Class
-  SomeName SomeNumber : Class
+  SomeName SomeNumber SomeSmall : Class
   SomeOperator : (level : Level) → Class
 
 -- a token is what it is asked to be
@@ -27,13 +28,14 @@ Fits r (TheWord word) = r ≡ Some (AWord word)
 Fits r (TheSign sign) = r ≡ Some (ASign sign)
 Fits r SomeName = (name : List ℕ) × (r ≡ Some (AName name))
 Fits r SomeNumber = (value : ℕ) × (r ≡ Some (ANumber value))
+Fits r SomeSmall = (value : ℕ) × ((r ≡ Some (ANumber value)) × IsSmall value)
 Fits r (SomeOperator level) = (op : Op) × (r ≡ Some (ASign (sign_of op))) × (level_of op ≡ level)
 
 -- the phrases; a tail is what may still follow its phrase's beginning
 pub data Phrase : Type 0 where
   Module : Phrase
   Whole WholeTail Product ProductTail Base : Phrase
-  Term TermTail Par ParTail Cmd CmdTail Rel RelTail Bits BitsTail Sum SumTail App AppTail Pre Atom AtomTail : Phrase
+  Term BlockTail TermTail Par ParTail Cmd CmdTail Rel RelTail Bits BitsTail Sum SumTail App AppTail Pre Atom AtomTail : Phrase
 
 -- what a rule asks for next
 pub data Symbol : Type 0 where
@@ -53,6 +55,9 @@ name = Token SomeName
 abbrev pub number : Symbol
 number = Token SomeNumber
 
+abbrev pub small : Symbol
+small = Token SomeSmall
+
 abbrev pub operator : Level → Symbol
 operator level = Token (SomeOperator level)
 
@@ -67,11 +72,13 @@ pub data IsRule : Phrase → List Symbol → Type 0 where
   a_factor : IsRule ProductTail (sign signs.Star ∷ Part Product ∷ [])
   no_factor : IsRule ProductTail []
   a_command_type : IsRule Base (word words.Com ∷ [])
-  an_expression_type : IsRule Base (word words.Exp ∷ number ∷ [])
-  a_variable_type : IsRule Base (word words.Var ∷ number ∷ [])
+  an_expression_type : IsRule Base (word words.Exp ∷ small ∷ [])
+  a_variable_type : IsRule Base (word words.Var ∷ small ∷ [])
   a_type_in_brackets : IsRule Base (sign signs.Open ∷ Part Whole ∷ sign signs.Close ∷ [])
   a_lambda : IsRule Term (word words.Fun ∷ name ∷ sign signs.Colon ∷ Part Whole ∷ sign signs.Dot ∷ Part Term ∷ [])
-  a_block : IsRule Term (word words.New ∷ name ∷ sign signs.Colon ∷ number ∷ word words.In ∷ Part Term ∷ [])
+  a_block : IsRule Term (word words.New ∷ name ∷ Part BlockTail ∷ [])
+  a_local : IsRule BlockTail (sign signs.Colon ∷ small ∷ word words.In ∷ Part Term ∷ [])
+  an_array : IsRule BlockTail (sign signs.OpenSquare ∷ small ∷ sign signs.CloseSquare ∷ sign signs.Colon ∷ small ∷ word words.In ∷ Part Term ∷ [])
   a_sequence : IsRule Term (Part Par ∷ Part TermTail ∷ [])
   a_next : IsRule TermTail (sign signs.Semicolon ∷ Part Term ∷ [])
   no_next : IsRule TermTail []
@@ -101,7 +108,7 @@ pub data IsRule : Phrase → List Symbol → Type 0 where
   a_second_part : IsRule Pre (word words.Snd ∷ Part Pre ∷ [])
   an_atom : IsRule Pre (Part Atom ∷ [])
   skipping : IsRule Atom (word words.Skip ∷ [])
-  a_literal : IsRule Atom (number ∷ sign signs.Colon ∷ number ∷ [])
+  a_literal : IsRule Atom (number ∷ sign signs.Colon ∷ small ∷ [])
   a_use : IsRule Atom (name ∷ [])
   in_brackets : IsRule Atom (sign signs.Open ∷ Part Term ∷ Part AtomTail ∷ [])
   one_term : IsRule AtomTail (sign signs.Close ∷ [])

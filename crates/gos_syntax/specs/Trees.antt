@@ -6,7 +6,7 @@ use Rattle.gos_lex.specs.declared.token.Span.{Span}
 use Rattle.gos_types.specs.Types.{Type', type_of}
 use Rattle.gos_syntax.specs.declared.terms.Op.{Op}
 use Rattle.gos_syntax.specs.declared.terms.Form.{Form}
-use Rattle.gos_syntax.specs.declared.terms.Form.TheVariants.{Skip as AtSkip, Lit as AtLit, Name as AtName, Fun', New', App', Pair', Fst', Snd', Seq', Par', If', While', Assign', Deref', Not', Bin'}
+use Rattle.gos_syntax.specs.declared.terms.Form.TheVariants.{Skip as AtSkip, Lit as AtLit, Name as AtName, Fun', New', Array', App', Pair', Fst', Snd', Seq', Par', If', While', Assign', Deref', Not', Bin'}
 
 -- a term with its place in the text
 pub data Tree : Type 0 where
@@ -15,6 +15,7 @@ pub data Tree : Type 0 where
   Use : (span : Span) (name : List ℕ) → Tree
   Lam : (span : Span) (name : List ℕ) (ty : Type') (ty_span : Span) (body : Tree) → Tree
   New : (span : Span) (name : List ℕ) (width : ℕ) (width_span : Span) (body : Tree) → Tree
+  Array : (span : Span) (name : List ℕ) (length : ℕ) (length_span : Span) (width : ℕ) (width_span : Span) (body : Tree) → Tree
   App : (span : Span) (a b : Tree) → Tree
   Both : (span : Span) (a b : Tree) → Tree
   Fst : (span : Span) (a : Tree) → Tree
@@ -35,6 +36,7 @@ tree_of (AtLit value width) span = Lit span value width
 tree_of (AtName name) span = Use span name
 tree_of (Fun' name ty ty_span p s f) span = Lam span name (type_of ty) ty_span (tree_of f s)
 tree_of (New' name width width_span p s f) span = New span name width width_span (tree_of f s)
+tree_of (Array' name length length_span width width_span p s f) span = Array span name length length_span width width_span (tree_of f s)
 tree_of (App' p s f q t g) span = App span (tree_of f s) (tree_of g t)
 tree_of (Pair' p s f q t g) span = Both span (tree_of f s) (tree_of g t)
 tree_of (Fst' p s f) span = Fst span (tree_of f s)

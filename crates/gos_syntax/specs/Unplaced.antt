@@ -3,7 +3,7 @@
 -- Read first: Trees, ModuleTrees.
 use Rattle.std.specs.Prelude.{map}
 use Rattle.gos_lex.specs.declared.token.Span.{Span}
-use Rattle.gos_syntax.specs.Trees.{Tree, Skip, Lit, Use, Lam, New, App, Both, Fst, Snd, Seq, Par, If, While, Assign, Deref, Not, Bin}
+use Rattle.gos_syntax.specs.Trees.{Tree, Skip, Lit, Use, Lam, New, Array, App, Both, Fst, Snd, Seq, Par, If, While, Assign, Deref, Not, Bin}
 use Rattle.gos_syntax.specs.ModuleTrees.{ImportTree, ModuleTree}
 
 -- the place of everything whose place is left out
@@ -17,6 +17,7 @@ unplaced (Lit s value width) = Lit nowhere value width
 unplaced (Use s name) = Use nowhere name
 unplaced (Lam s name ty ty_span body) = Lam nowhere name ty nowhere (unplaced body)
 unplaced (New s name width width_span body) = New nowhere name width nowhere (unplaced body)
+unplaced (Array s name length length_span width width_span body) = Array nowhere name length nowhere width nowhere (unplaced body)
 unplaced (App s a b) = App nowhere (unplaced a) (unplaced b)
 unplaced (Both s a b) = Both nowhere (unplaced a) (unplaced b)
 unplaced (Fst s a) = Fst nowhere (unplaced a)

@@ -6,14 +6,16 @@
 //
 // The ways of a rule are compiled into the rule's function, so that deep nesting takes no more of the stack for them.
 
-ghost use Rattle.std.specs.Prelude.{◌<◌, ◌≤◌, length};
+ghost use Rattle.std.specs.Prelude.{◌≡◌, ◌<◌, ◌≤◌, length};
 ghost use Rattle.gos_lex.specs.declared.word.Word.TheVariants as words;
 ghost use Rattle.gos_lex.specs.declared.sign.Sign.TheVariants as signs;
+ghost use Rattle.gos_lex.specs.declared.token.Span.{Span};
 ghost use Rattle.gos_syntax.specs.Items.{seen, Stands, reading_at};
+ghost use Rattle.gos_syntax.specs.Trees.{tree_of};
 ghost use Rattle.gos_syntax.specs.Grammar.{HasWord, HasSign, HasNumber, Term as ATerm, Par, Cmd, Rel, Bits, Sum, App, Pre, Atom};
 ghost use Rattle.gos_syntax.specs.inner.Beginnings.{IsNoBinder, IsNoControl};
 ghost use Rattle.gos_syntax.specs.inner.Phrases.{IsTermAnswer, IsNodeAnswer};
-ghost use Rattle.gos_syntax.specs.inner.Heads.{IsParameterAnswer, IsLocalAnswer};
+ghost use Rattle.gos_syntax.specs.inner.Heads.{IsParameterAnswer, IsLengthAnswer, IsLocalAnswer, block_tree};
 
 use crate::fault::Stop;
 use crate::operators::Level;
@@ -31,12 +33,50 @@ pub(crate) struct Parameter {
     ty_span: Span,
 }
 
-// What stands before the body of a block.
+// How many numbers an array has, as it is written.
+#[derive(Clone, Copy)]
+pub(crate) struct ArrayLength {
+    value: u32,
+    span: Span,
+}
+
+// What stands before the body of a block. A variable has no length.
 #[derive(Drop)]
 pub(crate) struct Local {
     name: Name,
+    length: Option<ArrayLength>,
     width: u32,
     width_span: Span,
+}
+
+impl Local {
+    // The block of this variable or array, around its body.
+    fn block(self, body: Box<Term>) -> Form
+        ensures { (span : Span) → tree_of result span ≡ block_tree span self (tree_of body.value.form body.value.span) }
+    {
+        let Local {
+            name,
+            length,
+            width,
+            width_span,
+        } = self;
+        match length {
+            None => Form::New {
+                name,
+                width,
+                width_span,
+                body,
+            },
+            Some(length) => Form::Array {
+                name,
+                length: length.value,
+                length_span: length.span,
+                width,
+                width_span,
+                body,
+            },
+        }
+    }
 }
 
 impl<'a> Source<'a> {
@@ -74,7 +114,7 @@ impl<'a> Source<'a> {
         self.node(alloc, at, end, form)
     }
 
-    // block = "new" name ":" numeral "in" term
+    // block = "new" name [ "[" small "]" ] ":" small "in" term
     #[cycle(term)]
     #[inline(always)]
     fn block(&self, alloc: Global, at: usize) -> Result<(Box<Term>, usize), Stop>
@@ -83,22 +123,9 @@ impl<'a> Source<'a> {
         requires word { HasWord (seen self.now) at words.New }
         ensures { IsTermAnswer self.now ATerm at result }
     {
-        let (
-            Local {
-                name,
-                width,
-                width_span,
-            },
-            body_at,
-        ) = self.local(alloc, at)?;
+        let (local, body_at) = self.local(alloc, at)?;
         let (body, end) = self.term(alloc, body_at)?;
-        let form = Form::New {
-            name,
-            width,
-            width_span,
-            body,
-        };
-        self.node(alloc, at, end, form)
+        self.node(alloc, at, end, local.block(body))
     }
 
     // sequence = par [ ";" term ]
@@ -302,14 +329,14 @@ impl<'a> Source<'a> {
         }
     }
 
-    // literal = numeral ":" numeral, the first of which has been read
+    // literal = numeral ":" small, the first of which has been read
     fn literal(&self, alloc: Global, at: usize, value: u64) -> Result<(Box<Term>, usize), Stop>
         requires stands { Stands self.now }
         requires room { at < length self.now.tokens.now }
         requires number { HasNumber (seen self.now) at value }
         ensures { IsTermAnswer self.now Atom at result }
     {
-        let width = self.width(self.after_sign(at + 1, Sign::Colon)?)?;
+        let width = self.small(self.after_sign(at + 1, Sign::Colon)?)?;
         self.node(alloc, at, at + 3, Form::Lit { value, width })
     }
 
@@ -352,18 +379,34 @@ impl<'a> Source<'a> {
         ensures { IsLocalAnswer self.now at result }
     {
         let name = self.name(alloc, at + 1)?;
-        let width_at = self.after_sign(at + 2, Sign::Colon)?;
-        let width = self.width(width_at)?;
+        let (length, colon_at) = self.array_length(at + 2)?;
+        let width_at = self.after_sign(colon_at, Sign::Colon)?;
+        let width = self.small(width_at)?;
         let width_span = self.span(width_at, width_at + 1);
         let body_at = self.after_word(width_at + 1, Word::In)?;
         Ok((
             Local {
                 name,
+                length,
                 width,
                 width_span,
             },
             body_at,
         ))
+    }
+
+    // length = [ "[" small "]" ]
+    fn array_length(&self, at: usize) -> Result<(Option<ArrayLength>, usize), Stop>
+        requires { at ≤ length self.now.tokens.now }
+        ensures { IsLengthAnswer self.now at result }
+    {
+        if !self.is_sign(at, Sign::OpenSquare) {
+            return Ok((None, at));
+        }
+        let value = self.small(at + 1)?;
+        let span = self.span(at + 1, at + 2);
+        let end = self.after_sign(at + 2, Sign::CloseSquare)?;
+        Ok((Some(ArrayLength { value, span }), end))
     }
 
     // The term of a form that stands from one token to just before another, and the number of this other.

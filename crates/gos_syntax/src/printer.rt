@@ -97,6 +97,16 @@ fn add_term(alloc: Global, text: &mut Vec<u8>, term: &Term) -> Result<(), NoMemo
             add_local(alloc, text, name, *width)?;
             add_term(alloc, text, body)
         }
+        Form::Array {
+            name,
+            length,
+            width,
+            body,
+            ..
+        } => {
+            add_array(alloc, text, name, *length, *width)?;
+            add_term(alloc, text, body)
+        }
         Form::App(function, argument) => add_infix(alloc, text, function, b" ", argument),
         Form::Pair(first, second) => add_pair(alloc, text, first, second),
         Form::Fst(pair) => add_prefixed(alloc, text, b"fst ", pair),
@@ -213,13 +223,33 @@ fn add_parameter(alloc: Global, text: &mut Vec<u8>, name: &Name, ty: &Ty) -> Res
     add(text, b" . ")
 }
 
-// Adds what stands before the body of a block.
+// Adds what stands before the body of a block with a variable.
 fn add_local(alloc: Global, text: &mut Vec<u8>, name: &Name, width: u32) -> Result<(), NoMemory>
     ensures { OnOk result (text.new.items ≡ text.old.items ++ codes "new " ++ name.now ++ codes " : " ++ decimal width ++ codes " in ") }
 {
     add(text, b"new ")?;
     add(text, name.bytes())?;
     add(text, b" : ")?;
+    add_number(alloc, text, u64::from(width))?;
+    add(text, b" in ")
+}
+
+// Adds what stands before the body of a block with an array.
+fn add_array(
+    alloc: Global,
+    text: &mut Vec<u8>,
+    name: &Name,
+    length: u32,
+    width: u32,
+) -> Result<(), NoMemory>
+    ensures { OnOk result (text.new.items ≡ text.old.items ++ codes "new " ++ name.now ++ codes "[" ++ decimal length ++ codes "] : " ++ decimal width
+        ++ codes " in ") }
+{
+    add(text, b"new ")?;
+    add(text, name.bytes())?;
+    add(text, b"[")?;
+    add_number(alloc, text, u64::from(length))?;
+    add(text, b"] : ")?;
     add_number(alloc, text, u64::from(width))?;
     add(text, b" in ")
 }

@@ -2,7 +2,7 @@
 
 ghost use Rattle.std.specs.Prelude.{◌≡◌, ◌+◌, ◌-◌, ◌<◌, ◌≤◌, ◌↔◌, [], ◌∷◌, length, IsTrue, IfOk, IfErr, MatchOption, None};
 ghost use Rattle.gos_syntax.specs.Items.{seen, Stands, reading_at, span_of, place_of};
-ghost use Rattle.gos_syntax.specs.Grammar.{HasWord, HasSign, HasName, HasNumber};
+ghost use Rattle.gos_syntax.specs.Grammar.{HasWord, HasSign, HasName, HasSmall};
 ghost use Rattle.gos_syntax.specs.Symbols as wanted;
 ghost use Rattle.gos_syntax.specs.Spelling.{Stops};
 ghost use Rattle.gos_syntax.specs.inner.Stops.{IsKind};
@@ -11,6 +11,9 @@ ghost use Rattle.gos_syntax.specs.declared.fault.Stop.TheVariants as stops;
 use crate::fault::Stop;
 use gos_lex::{Name, Sign, Span, Token, TokenKind, Word};
 use std::alloc::Global;
+
+// The greatest value of a width or a length, as it is written.
+const GREATEST_SMALL: u64 = 4_294_967_295;
 
 // A text and its tokens. A token is named by its number, counted from 0.
 #[derive(Drop)]
@@ -88,30 +91,24 @@ impl<'a> Source<'a> {
         }
     }
 
-    // The value of the numeral at a place.
-    #[tactic(auto, using(crate::proofs::StopLemmas::stops_at_token))]
-    pub fn number(&self, at: usize) -> Result<u64, Stop>
+    // The value of the numeral at a place, which has to be small: a number of 32 bits, as widths and lengths are.
+    #[tactic(auto, using(crate::proofs::StopLemmas::stops_at_token, crate::proofs::NumberLemmas::no_small))]
+    pub fn small(&self, at: usize) -> Result<u32, Stop>
         requires { at ≤ length self.now.tokens.now }
         ensures within { IfOk result (λ value. at < length self.now.tokens.now) }
-        ensures number { IfOk result (λ value. HasNumber (seen self.now) at value) }
-        ensures refused { IfErr result (Stops (seen self.now) (wanted.number ∷ []) at) }
+        ensures small { IfOk result (λ value. HasSmall (seen self.now) at value) }
+        ensures refused { IfErr result (Stops (seen self.now) (wanted.small ∷ []) at) }
     {
         match self.kind(at) {
-            Some(TokenKind::Number(value)) => Ok(value),
+            Some(TokenKind::Number(value)) => {
+                if value <= GREATEST_SMALL {
+                    Ok(value as u32)
+                } else {
+                    Err(Stop::At(at))
+                }
+            }
             _ => Err(Stop::At(at)),
         }
-    }
-
-    // The width that the numeral at a place writes. No token's value is above the numbers of 32 bits.
-    #[tactic(auto, using(crate::proofs::NumberLemmas::number_small))]
-    pub fn width(&self, at: usize) -> Result<u32, Stop>
-        requires stands { Stands self.now }
-        requires within { at ≤ length self.now.tokens.now }
-        ensures within { IfOk result (λ width. at < length self.now.tokens.now) }
-        ensures number { IfOk result (λ width. HasNumber (seen self.now) at width) }
-        ensures refused { IfErr result (Stops (seen self.now) (wanted.number ∷ []) at) }
-    {
-        Ok(self.number(at)? as u32)
     }
 
     // The name at a place.

@@ -31,7 +31,7 @@ pub enum Op {
     Less,
 }
 
-/// What a term is. Widths and values are as written: whether they are in their ranges is for the typing to say.
+/// What a term is. Widths, lengths and values are as written: whether they are in their ranges is for the typing to say.
 #[cycle(term)]
 #[derive(Debug, Drop)]
 pub enum Form {
@@ -54,6 +54,15 @@ pub enum Form {
     /// `new name : width in body`
     New {
         name: Name,
+        width: u32,
+        width_span: Span,
+        body: Box<Term>,
+    },
+    /// `new name[length] : width in body`
+    Array {
+        name: Name,
+        length: u32,
+        length_span: Span,
         width: u32,
         width_span: Span,
         body: Box<Term>,

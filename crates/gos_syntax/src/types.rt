@@ -50,7 +50,7 @@ impl<'a> Source<'a> {
         ))
     }
 
-    // base = "com" | "exp" numeral | "var" numeral | "(" type ")"
+    // base = "com" | "exp" small | "var" small | "(" type ")"
     #[cycle(ty)]
     fn base(&self, alloc: Global, at: usize) -> Result<(Ty, usize), Stop>
         requires stands { Stands self.now }
@@ -59,8 +59,8 @@ impl<'a> Source<'a> {
     {
         match self.kind(at) {
             Some(TokenKind::Word(Word::Com)) => Ok((Ty::Com, at + 1)),
-            Some(TokenKind::Word(Word::Exp)) => Ok((Ty::Exp(self.width(at + 1)?), at + 2)),
-            Some(TokenKind::Word(Word::Var)) => Ok((Ty::Var(self.width(at + 1)?), at + 2)),
+            Some(TokenKind::Word(Word::Exp)) => Ok((Ty::Exp(self.small(at + 1)?), at + 2)),
+            Some(TokenKind::Word(Word::Var)) => Ok((Ty::Var(self.small(at + 1)?), at + 2)),
             Some(TokenKind::Sign(Sign::Open)) => {
                 let (inner, end) = self.ty(alloc, at + 1)?;
                 Ok((inner, self.after_sign(end, Sign::Close)?))

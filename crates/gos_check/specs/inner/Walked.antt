@@ -4,15 +4,15 @@
 use Rattle.std.specs.Prelude.{ℕ, ◌+◌, List, [], ◌∷◌, map, Ok}
 use Rattle.gos_types.specs.Types.{Type', Com, Var, Pair, Fun}
 use Rattle.gos_syntax.specs.declared.terms.Term.{Term}
-use Rattle.gos_syntax.specs.Trees.{Tree, Skip, Lit, Use, Lam, New, App, Both, Fst, Snd, Seq, Par, If, While, Assign, Deref, Not, Bin, tree_of}
+use Rattle.gos_syntax.specs.Trees.{Tree, Skip, Lit, Use, Lam, New, Array, App, Both, Fst, Snd, Seq, Par, If, While, Assign, Deref, Not, Bin, tree_of}
 use Rattle.gos_model.specs.Terms.{Name}
-use Rattle.gos_model.specs.Typing.{Imports}
+use Rattle.gos_model.specs.Typing.{Imports, array_type}
 use Rattle.gos_model.specs.Weight.{nodes_weight}
 use Rattle.gos_model.specs.Sources.{term_of}
 use Rattle.gos_syntax.specs.Sizes.{size}
 use Rattle.gos_check.specs.Sizes.{IsCountable}
 use Rattle.gos_check.specs.Faults.{Found, after}
-use Rattle.gos_check.specs.Written.{written, written_width, literal}
+use Rattle.gos_check.specs.Written.{written, written_width, written_length, literal}
 use Rattle.gos_check.specs.Scopes.{Binders, type_at, used}
 use Rattle.gos_check.specs.Demands.{done, application, first_side, second_side, sequence, parallel, choice, looping, assignment, reading, negation, operation}
 use Rattle.gos_check.specs.Judging.{place_of, of_two, of_three, separate, judged}
@@ -38,13 +38,14 @@ BindCountable (b ∷ g) = IsCountable b.ty × BindCountable g
 abbrev pub weight_of : Imports → Binders → Tree → ℕ
 weight_of i g t = nodes_weight i (types_of g) (term_of (names_of g) t)
 
--- what the nodes of the parts of a tree weigh
+-- what the nodes of the parts of a tree weigh, and the numbers of its array
 abbrev pub parts_weight : Imports → Binders → Tree → ℕ
 parts_weight i g (Skip s) = 0
 parts_weight i g (Lit s k w) = 0
 parts_weight i g (Use s x) = 0
 parts_weight i g (Lam s x a t m) = weight_of i (record { name = x; ty = a } ∷ g) m
 parts_weight i g (New s x w t m) = weight_of i (record { name = x; ty = Var w } ∷ g) m
+parts_weight i g (Array s x n u w t m) = n + weight_of i (record { name = x; ty = array_type n w } ∷ g) m
 parts_weight i g (App s m n) = weight_of i g m + weight_of i g n
 parts_weight i g (Both s m n) = weight_of i g m + weight_of i g n
 parts_weight i g (Fst s m) = weight_of i g m
@@ -65,6 +66,7 @@ parts_size (Lit s k w) = 0
 parts_size (Use s x) = 0
 parts_size (Lam s x a t m) = size m
 parts_size (New s x w t m) = size m
+parts_size (Array s x n u w t m) = size m
 parts_size (App s m n) = size m + size n
 parts_size (Both s m n) = size m + size n
 parts_size (Fst s m) = size m
@@ -86,6 +88,8 @@ parts_judged i g (Use s x) = used s x (type_at i g x)
 parts_judged i g (Lam s x a t m) = after (written t a) (λ _. after (judged i (record { name = x; ty = a } ∷ g) m) (λ b. Ok (Fun a b)))
 parts_judged i g (New s x w t m) =
     after (written_width t w) (λ _. after (judged i (record { name = x; ty = Var w } ∷ g) m) (λ b. done (place_of m) b))
+parts_judged i g (Array s x n u w t m) =
+    after (written_length u n) (λ _. after (written_width t w) (λ _. after (judged i (record { name = x; ty = array_type n w } ∷ g) m) (λ b. done (place_of m) b)))
 parts_judged i g (App s m n) = of_two (judged i g m) (judged i g n) (λ a b. separate m n (application (place_of m) a (place_of n) b))
 parts_judged i g (Both s m n) = of_two (judged i g m) (judged i g n) (λ a b. Ok (Pair a b))
 parts_judged i g (Fst s m) = after (judged i g m) (λ a. first_side (place_of m) a)

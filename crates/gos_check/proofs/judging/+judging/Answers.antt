@@ -1,18 +1,19 @@
-use Rattle.std.specs.Prelude.{◌+◌, ◌∷◌, Ok, map}
-use Rattle.std.proofs.Common.{arith, sym, subst}
+use Rattle.std.specs.Prelude.{◌≡◌, ℕ, ◌+◌, ◌∷◌, Ok, map}
+use Rattle.std.proofs.Common.{arith, sym, ap, ◌∙◌, subst}
 use Rattle.gos_types.specs.Types.{Fun, type_of}
 use Rattle.gos_syntax.specs.declared.terms.Form.{Form}
 use Rattle.gos_syntax.specs.declared.terms.Term.{Term}
 use Rattle.gos_syntax.specs.Trees.{tree_of}
 use Rattle.gos_model.specs.Sources.{import_of}
+use Rattle.gos_model.specs.Typing.{array_type}
 use Rattle.gos_check.specs.Faults.{after}
 use Rattle.gos_check.specs.Written.{written}
 use Rattle.gos_check.specs.Free.{joined, without}
 use Rattle.gos_check.specs.Judging.{judged}
 use Rattle.gos_check.specs.inner.Seen.{binders_of}
 use Rattle.gos_check.specs.inner.Known.{Finds}
-use Rattle.gos_check.specs.inner.Walked.{tree, parts_judged}
-use Rattle.gos_check.proofs.RefusalLemmas.{finds_same, one_found, function_is_found, block_found, choice_found, two_found, known_there, sized_there, whole_there}
+use Rattle.gos_check.specs.inner.Walked.{tree, weight_of, parts_judged}
+use Rattle.gos_check.proofs.RefusalLemmas.{finds_same, one_found, function_is_found, block_found, choice_found, choice_at, two_found, array_found, known_there, sized_there, whole_there}
 use Rattle.gos_check.proofs.judging.+judging.Goals as goal
 
 pub judge-returns-clause-known : goal.judge-returns-clause-known
@@ -88,6 +89,29 @@ judge_block-returns-clause-found t c =
     c.in_ok-written_width.ensures.ok c.in_ok-judged.ensures.found)
     c.typed_block.ensures.found
 
+pub judge_array-returns-clause-known : goal.judge_array-returns-clause-known
+judge_array-returns-clause-known t c =
+    let known = c.in_ok-judged.ensures.known in
+    let few = c.in_ok-written_length.ensures.few in
+    let array = c.in_ok-array.ensures.ok in
+    let imports = map import_of c.args.imports.now in
+    let weighs : c.args.length.0 + c.in_ok-judged.judged.weight
+    ≡ c.args.length.0 + weight_of imports (record { name = c.args.name.now; ty = array_type c.args.length.0 c.args.width.0 } ∷ binders_of c.args.scope.now) (tree c.args.body.now) =
+    ap (λ (w : ℕ). c.args.length.0 + w) known.2
+    ∙ (λ k. c.args.length.0 + weight_of imports (record { name = c.args.name.now; ty = array k } ∷ binders_of c.args.scope.now) (tree c.args.body.now)) in
+    known_there c.typed_array.result _ _ _ _ _ (λ i. without c.args.name.now (known.0 i)) weighs (omega (arith, known.3, few)) c.typed_array.ensures.known
+
+pub judge_array-returns-clause-found : goal.judge_array-returns-clause-found
+judge_array-returns-clause-found t c =
+    let array = c.in_ok-array.ensures.ok in
+    let judged_is =
+    (λ k. judged (map import_of c.args.imports.now) (record { name = c.args.name.now; ty = sym array k } ∷ binders_of c.args.scope.now) (tree c.args.body.now))
+    ∙ c.in_ok-judged.ensures.found in
+    finds_same c.typed_array.result _ _
+    (array_found _ _ _ c.args.body.now.form c.args.body.now.span (type_of c.in_ok-judged.judged.ty)
+    c.in_ok-written_length.ensures.ok c.in_ok-written_width.ensures.ok judged_is)
+    c.typed_array.ensures.found
+
 pub judge_function-returns-clause-known : goal.judge_function-returns-clause-known
 judge_function-returns-clause-known t c =
     let known = c.in_ok-body.ensures.known in
@@ -109,3 +133,12 @@ judge_form-returns-in-Fun-clause-found t c =
     subst (λ (form : Form). Finds (parts_judged (map import_of c.args.imports.now) (binders_of c.args.scope.now) (tree_of form c.args.term.now.span))
     c.judge_function.result)
     (sym c.in-Fun.is) there
+
+pub judge_form-returns-in-If-clause-found : goal.judge_form-returns-in-If-clause-found
+judge_form-returns-in-If-clause-found t c =
+    let there =
+    choice_at (map import_of c.args.imports.now) (binders_of c.args.scope.now) c.judge_choice.result c.deref-in-If.ensures c.deref-in-If-2.ensures
+    c.deref-in-If-3.ensures c.judge_choice.ensures.found in
+    subst (λ (form : Form). Finds (parts_judged (map import_of c.args.imports.now) (binders_of c.args.scope.now) (tree_of form c.args.term.now.span))
+    c.judge_choice.result)
+    (sym c.in-If.is) there

@@ -15,6 +15,9 @@ decreases-judge_function l = 3 * size (tree l.body.now) + 2
 abbrev pub decreases-judge_block : goal.decreases-judge_block
 decreases-judge_block l = 3 * size (tree l.body.now) + 2
 
+abbrev pub decreases-judge_array : goal.decreases-judge_array
+decreases-judge_array l = 3 * size (tree l.body.now) + 2
+
 abbrev pub decreases-judge_one : goal.decreases-judge_one
 decreases-judge_one l = 3 * size (tree l.m.now) + 2
 

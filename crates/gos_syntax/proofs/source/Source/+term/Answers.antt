@@ -33,21 +33,22 @@ function-returns t c =
     (binders.function_derived c.in_ok-body.body.value c.requires.word c.in_ok-name.ensures.read c.in_ok-body.ensures.read.derived)
     (leads_then (binders.parameter_leads c.requires.word c.in_ok-name.ensures.read.read) c.in_ok-body.ensures.read.read)
 
-pub block-returns-in_err-name : goal.block-returns-in_err-name
-block-returns-in_err-name t c =
+pub block-returns-in_err-local : goal.block-returns-in_err-local
+block-returns-in_err-local t c =
     refused c.from_residual.result c.from_residual.ensures.1
-    (stops_after (past_token symbols.a_block c.requires.word) (stops_before _ c.in_err-name.ensures.refused))
+    (stops_after (past_token symbols.a_block c.requires.word) c.in_err-local.ensures.refused)
 
 pub block-returns-in_err-body : goal.block-returns-in_err-body
 block-returns-in_err-body t c =
     refused c.from_residual-in_err-body.result c.from_residual-in_err-body.ensures.1
-    (stops_after (binders.local_leads c.requires.word c.in_ok-name.ensures.read.read) c.in_err-body.ensures.refused)
+    (stops_after (binders.local_leads c.requires.word c.in_ok-local.ensures.read.read) c.in_err-body.ensures.refused)
 
 pub block-returns : goal.block-returns
 block-returns t c =
     made c.node.result c.node.ensures
-    (binders.block_derived c.in_ok-body.body.value c.requires.word c.in_ok-name.ensures.read c.in_ok-body.ensures.read.derived)
-    (leads_then (binders.local_leads c.requires.word c.in_ok-name.ensures.read.read) c.in_ok-body.ensures.read.read)
+    (binders.block_made c.args.self.now _ _ _ c.in_ok-body.body.value c.block.result c.block.ensures
+    (binders.block_derived c.in_ok-body.body.value c.requires.word c.in_ok-local.ensures.read c.in_ok-body.ensures.read.derived))
+    (leads_then (binders.local_leads c.requires.word c.in_ok-local.ensures.read.read) c.in_ok-body.ensures.read.read)
 
 -- sequences and parallel commands
 pub sequence-returns-in_err-first : goal.sequence-returns-in_err-first

@@ -85,36 +85,36 @@ base-returns-in-Some-Word-Com t c =
       read = past_token symbols.a_command_type is;
     }
 
-pub base-returns-in_err-width-in-Some-Word-Exp : goal.base-returns-in_err-width-in-Some-Word-Exp
-base-returns-in_err-width-in-Some-Word-Exp t c =
+pub base-returns-in_err-small-in-Some-Word-Exp : goal.base-returns-in_err-small-in-Some-Word-Exp
+base-returns-in_err-small-in-Some-Word-Exp t c =
     refused c.from_residual.result c.from_residual.ensures.1
-    (stops_after (past_token symbols.an_expression_type (search rules)) c.in_err-width-in-Some-Word-Exp.ensures.refused)
+    (stops_after (past_token symbols.an_expression_type (search rules)) c.in_err-small-in-Some-Word-Exp.ensures.refused)
 
-pub base-returns-in_ok-width-in-Some-Word-Exp : goal.base-returns-in_ok-width-in-Some-Word-Exp
-base-returns-in_ok-width-in-Some-Word-Exp t c =
+pub base-returns-in_ok-small-in-Some-Word-Exp : goal.base-returns-in_ok-small-in-Some-Word-Exp
+base-returns-in_ok-small-in-Some-Word-Exp t c =
     let is : HasWord (seen c.args.self.now) c.args.at words.Exp = search rules in
     answered
     record {
       after = search rules;
       within = search rules;
-      derived = grammar.an_expression _ _ is c.in_ok-width-in-Some-Word-Exp.ensures.number;
-      read = exits.width_read symbols.an_expression_type is c.in_ok-width-in-Some-Word-Exp.ensures.number;
+      derived = grammar.an_expression _ _ is c.in_ok-small-in-Some-Word-Exp.ensures.small;
+      read = exits.width_read symbols.an_expression_type is c.in_ok-small-in-Some-Word-Exp.ensures.small;
     }
 
-pub base-returns-in_err-width-in-Some-Word-Var : goal.base-returns-in_err-width-in-Some-Word-Var
-base-returns-in_err-width-in-Some-Word-Var t c =
-    refused c.from_residual-in_err-width-in-Some-Word-Var.result c.from_residual-in_err-width-in-Some-Word-Var.ensures.1
-    (stops_after (past_token symbols.a_variable_type (search rules)) c.in_err-width-in-Some-Word-Var.ensures.refused)
+pub base-returns-in_err-small-in-Some-Word-Var : goal.base-returns-in_err-small-in-Some-Word-Var
+base-returns-in_err-small-in-Some-Word-Var t c =
+    refused c.from_residual-in_err-small-in-Some-Word-Var.result c.from_residual-in_err-small-in-Some-Word-Var.ensures.1
+    (stops_after (past_token symbols.a_variable_type (search rules)) c.in_err-small-in-Some-Word-Var.ensures.refused)
 
-pub base-returns-in_ok-width-in-Some-Word-Var : goal.base-returns-in_ok-width-in-Some-Word-Var
-base-returns-in_ok-width-in-Some-Word-Var t c =
+pub base-returns-in_ok-small-in-Some-Word-Var : goal.base-returns-in_ok-small-in-Some-Word-Var
+base-returns-in_ok-small-in-Some-Word-Var t c =
     let is : HasWord (seen c.args.self.now) c.args.at words.Var = search rules in
     answered
     record {
       after = search rules;
       within = search rules;
-      derived = grammar.a_variable _ _ is c.in_ok-width-in-Some-Word-Var.ensures.number;
-      read = exits.width_read symbols.a_variable_type is c.in_ok-width-in-Some-Word-Var.ensures.number;
+      derived = grammar.a_variable _ _ is c.in_ok-small-in-Some-Word-Var.ensures.small;
+      read = exits.width_read symbols.a_variable_type is c.in_ok-small-in-Some-Word-Var.ensures.small;
     }
 
 pub base-returns-in_err-inner-in-Some-Sign-Open : goal.base-returns-in_err-inner-in-Some-Sign-Open

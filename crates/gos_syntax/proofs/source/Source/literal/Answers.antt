@@ -16,5 +16,5 @@ returns-in_err-width c =
 pub returns : goal.returns
 returns c =
     made c.node.result c.node.ensures
-    (exits.literal_derived c.requires.number c.in_ok-after_sign.ensures.sign c.in_ok-after_sign.ensures.next c.in_ok-width.ensures.number)
-    (exits.literal_read c.requires.number c.in_ok-after_sign.ensures.sign c.in_ok-after_sign.ensures.next c.in_ok-width.ensures.number)
+    (exits.literal_derived c.requires.number c.in_ok-after_sign.ensures.sign c.in_ok-after_sign.ensures.next c.in_ok-width.ensures.small)
+    (exits.literal_read c.requires.number c.in_ok-after_sign.ensures.sign c.in_ok-after_sign.ensures.next c.in_ok-width.ensures.small)
