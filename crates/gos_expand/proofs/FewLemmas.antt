@@ -6,11 +6,12 @@ use Rattle.std.proofs.Common.{◌≡◌, ◌+◌, ◌*◌, ◌≤◌, ℕ, zero,
 use Rattle.std.specs.List.{AllByRecursion}
 use Rattle.gos_types.specs.Types.{Type', Com, Exp, Var, Pair, Fun, IsGround}
 use Rattle.gos_types.specs.Events.{Request, Answer}
-use Rattle.gos_plan.specs.Kinds.{Part, Skip, Lit, Seq, Par, If, While, Op, Not, Assign, Deref, Local, Share, Contact, contacts_of, part_contacts}
+use Rattle.gos_plan.specs.Kinds.{Part, Skip, Lit, Seq, Par, If, While, Op, Not, Assign, Deref, Local, Array, Share, Contact, contacts_of, part_contacts}
 use Rattle.gos_model.specs.Typing.{Imported}
 use Rattle.gos_plan.specs.Plans.{End, PartEnd, Joint, Plan, contact_at, is_free}
 use Rattle.gos_plan.specs.Seen.{plan_of}
-use Rattle.gos_plan.specs.Size.{shakes_of, plan_size}
+use Rattle.gos_plan.specs.Size.{shakes_of, numbers_in, numbers_of, plan_size}
+use Rattle.gos_gates.proofs.lemmas.values.ArrayLemmas.{array_length}
 use Rattle.gos_expand.specs.Blocks.{token_size, total}
 use Rattle.gos_expand.specs.Gates.{part_size}
 use Rattle.gos_expand.specs.Kept.{AreFew}
@@ -23,7 +24,7 @@ use Rattle.gos_expand.proofs.FlowLemmas.{IsSound, done_ground}
 use Rattle.gos_expand.proofs.AcceptLemmas.{sound}
 
 -- the gates of a part are few
-pub part_few : (k : Part) → part_size k ≤ 24 * (length (part_contacts k) + 1)
+pub part_few : (k : Part) → part_size k ≤ 24 * (length (part_contacts k) + 1) + 8 * numbers_in k
 part_few Skip = omega arith
 part_few (Lit w k) = omega arith
 part_few (Seq zero) = omega arith
@@ -38,12 +39,16 @@ part_few (Assign w) = omega arith
 part_few (Deref w) = omega arith
 part_few (Local w zero) = omega arith
 part_few (Local w (suc v)) = omega arith
-part_few (Share t) = share_few t
+part_few (Array w n zero) =
+    let size : part_size (Array w n zero) ≡ 19 + 7 * n = array_length w n zero 0 (record { pulse = λ h. 0; value = λ h. 0 }) in omega (arith, size)
+part_few (Array w n (suc v)) =
+    let size : part_size (Array w n (suc v)) ≡ 20 + 7 * n = array_length w n (suc v) 0 (record { pulse = λ h. 0; value = λ h. 0 }) in omega (arith, size)
+part_few (Share t) = let few = share_few t in omega (arith, few)
 
 pub gates_few : AreFew
 gates_few k b i = let size = layout_length k b i in let few = part_few k in omega (arith, size, few)
 
-parts_few : (n : ℕ) (ks : List Part) → total (λ _ k. part_size k) n ks ≤ 24 * (shakes_of ks + length ks)
+parts_few : (n : ℕ) (ks : List Part) → total (λ _ k. part_size k) n ks ≤ 24 * (shakes_of ks + length ks) + 8 * numbers_of ks
 parts_few n [] = omega arith
 parts_few n (k ∷ ks) =
     let one = part_few k in

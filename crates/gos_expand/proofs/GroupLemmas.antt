@@ -4,8 +4,9 @@
 use Rattle.std.proofs.Common.{◌≡◌, ◌+◌, ℕ, zero, suc, Bool, true, false, List, ◌++◌, length, take, slice_get, Some, refl, sym, ap₂, subst, ◌∙◌, length-append, arith}
 use Rattle.gos_netlist.specs.Nets.{Function, Cell, Side, Give, Take}
 use Rattle.gos_gates.specs.Gates.{Incoming}
-use Rattle.gos_plan.specs.Kinds.{Part, Skip, Lit, Seq, Par, If, While, Op, Not, Assign, Deref, Local, Share, Contact, contacts_of}
+use Rattle.gos_plan.specs.Kinds.{Part, Skip, Lit, Seq, Par, If, While, Op, Not, Assign, Deref, Local, Array, Share, Contact, contacts_of}
 use Rattle.gos_plan.specs.Plans.{End, Joint, Plan, contact_at}
+use Rattle.gos_gates.proofs.lemmas.values.ArrayLemmas.{array_length}
 use Rattle.gos_expand.specs.Blocks.{Nets, token_size, token_cells, registers, blocks, total}
 use Rattle.gos_expand.specs.Gates.{layout, part_size}
 use Rattle.gos_expand.specs.Starts.{Keep, Outer, ports_of, shake_size, port_size, bits_taken, kept_size, way_size, joint_size, loose_ends, loose_size, port_start, joints_start, joint_start, loose_ends_start, part_start}
@@ -64,6 +65,7 @@ layout_length (Assign w) b i = refl
 layout_length (Deref w) b i = refl
 layout_length (Local w zero) b i = refl
 layout_length (Local w (suc v)) b i = refl
+layout_length (Array w n v) b i = array_length w n v b i ∙ sym (array_length w n v 0 (record { pulse = λ h. 0; value = λ h. 0 }))
 layout_length (Share t) b i = share_length (contacts_of t) b i ∙ sym (share_length (contacts_of t) 0 _)
 
 pub part_length : (keep : Keep) (p : Plan) (i : ℕ) (k : Part) → length (part_cells keep p i k) ≡ part_size k

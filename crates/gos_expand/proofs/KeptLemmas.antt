@@ -22,6 +22,7 @@ all_gates (kinds.Not w) range = arith_gates (kinds.Not w) range
 all_gates (kinds.Assign w) range = arith_gates (kinds.Assign w) range
 all_gates (kinds.Deref w) range = arith_gates (kinds.Deref w) range
 all_gates (kinds.Local w v) range = arith_gates (kinds.Local w v) range
+all_gates (kinds.Array w n v) range = arith_gates (kinds.Array w n v) range
 all_gates (kinds.Share t) range = share_gates t range
 
 -- and what is asked of paths
@@ -39,4 +40,5 @@ all_paths (kinds.Not w) range = arith_paths (kinds.Not w) range
 all_paths (kinds.Assign w) range = arith_paths (kinds.Assign w) range
 all_paths (kinds.Deref w) range = arith_paths (kinds.Deref w) range
 all_paths (kinds.Local w v) range = arith_paths (kinds.Local w v) range
+all_paths (kinds.Array w n v) range = arith_paths (kinds.Array w n v) range
 all_paths (kinds.Share t) range = share_paths t range

@@ -1,7 +1,7 @@
 -- Kinds and types in range have handshakes no wider than the greatest width.
 --
 -- Read first: Ranges of gos_plan; Handshakes of gos_types.
-use Rattle.std.proofs.Common.{◌≡◌, ◌≤◌, ℕ, zero, suc, List, [], ◌∷◌, ◌++◌, map, slice_get, Some, subst, arith}
+use Rattle.std.proofs.Common.{◌≡◌, ◌≤◌, ℕ, zero, suc, Bool, true, false, nat_eq, if◌then◌else◌, List, [], ◌∷◌, ◌++◌, map, slice_get, Some, subst, arith}
 use Rattle.std.specs.List.{AllByRecursion}
 use Rattle.std.proofs.lemmas.Option.{none-some, same_Some}
 use Rattle.gos_types.specs.declared.widths.TheConstants.{GREATEST_WIDTH}
@@ -12,6 +12,7 @@ use Rattle.gos_plan.specs.declared.kinds.Kind.{Kind}
 use Rattle.gos_plan.specs.declared.kinds.Kind.TheVariants as kinds
 use Rattle.gos_plan.specs.Kinds.{Contact, contact, contacts_of, part_contacts, turned_contact, other_side}
 use Rattle.gos_model.specs.Terms.{Op as Operation, Add, Sub, And, Or, Xor, Eq, Less, result_width}
+use Rattle.gos_model.specs.Typing.{index_width}
 use Rattle.gos_plan.specs.Ranges.{IsInRange}
 use Rattle.gos_types.specs.Widths.{HasWidths}
 use Rattle.gos_plan.specs.Seen.{part_of, operation_of}
@@ -80,6 +81,15 @@ request w h = (h, omega arith)
 one : (0 ≤ GREATEST_WIDTH) × (1 ≤ GREATEST_WIDTH)
 one = (omega arith, omega arith)
 
+narrow_index : (n : ℕ) → index_width n ≤ GREATEST_WIDTH
+narrow_index n = by_tests (nat_eq n 2) (nat_eq n 4) (nat_eq n 8)
+  where
+    by_tests : (two four eight : Bool) → (if two then 1 else if four then 2 else if eight then 3 else 4) ≤ GREATEST_WIDTH
+    by_tests true four eight = omega arith
+    by_tests false true eight = omega arith
+    by_tests false false true = omega arith
+    by_tests false false false = omega arith
+
 pub narrow_kind : (k : Kind) → IsInRange k → AllByRecursion IsNarrow (part_contacts (part_of k))
 narrow_kind kinds.Skip range = (none, tt)
 narrow_kind (kinds.Lit w k) range = (answer w range.0.1, tt)
@@ -95,6 +105,8 @@ narrow_kind (kinds.Not w) range = (answer w range.1, (answer w range.1, tt))
 narrow_kind (kinds.Assign w) range = (answer w range.1, (request w range.1, (none, tt)))
 narrow_kind (kinds.Deref w) range = (answer w range.1, (answer w range.1, tt))
 narrow_kind (kinds.Local w v) range = (answer v range.1, (answer w range.0.1, (request w range.0.1, (answer v range.1, tt))))
+narrow_kind (kinds.Array w n v) range =
+    (answer v range.2, (answer (index_width n) (narrow_index n), (answer w range.0.1, (request w range.0.1, (answer v range.2, tt)))))
 narrow_kind (kinds.Share t) range =
     let shakes = narrow_type (type_of t) range.0 in
     let cs : List Contact = contacts_of (type_of t) in

@@ -6,6 +6,7 @@ use Rattle.gos_plan.specs.declared.kinds.Kind.{Kind}
 use Rattle.gos_plan.specs.Seen.{part_of}
 use Rattle.gos_plan.specs.Ranges.{IsInRange}
 use Rattle.gos_plan.specs.Kinds.{Part, part_contacts}
+use Rattle.gos_plan.specs.Size.{numbers_in}
 use Rattle.gos_gates.specs.Gates.{Incoming}
 use Rattle.gos_gates.specs.Kept.{KeepLaws}
 use Rattle.gos_gates.specs.Paths.{KeepPaths}
@@ -28,6 +29,6 @@ KindKeepsPaths k =
 abbrev pub AllKeepPaths : Type 0
 AllKeepPaths = (k : Kind) → IsInRange k → KindKeepsPaths k
 
--- no part has more than 24 cells for each of its handshakes and 24 besides
+-- no part has more than 24 cells for each of its handshakes, 8 for each number of an array, and 24 besides
 abbrev pub AreFew : Type 0
-AreFew = (k : Part) (b : ℕ) (i : Incoming) → length (layout k b i) ≤ 24 * (length (part_contacts k) + 1)
+AreFew = (k : Part) (b : ℕ) (i : Incoming) → length (layout k b i) ≤ 24 * (length (part_contacts k) + 1) + 8 * numbers_in k

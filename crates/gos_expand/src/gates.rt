@@ -89,6 +89,11 @@ pub(crate) fn gates_of<'a>(kind: &'a Kind) -> Gates<'a>
         Kind::Assign { w } => Gates::Computes(Arith(Kind::Assign { w: *w })),
         Kind::Deref { w } => Gates::Computes(Arith(Kind::Deref { w: *w })),
         Kind::Local { w, v } => Gates::Computes(Arith(Kind::Local { w: *w, v: *v })),
+        Kind::Array { w, n, v } => Gates::Computes(Arith(Kind::Array {
+            w: *w,
+            n: *n,
+            v: *v,
+        })),
         Kind::Share(ty) => Gates::Shares(Sharing(ty)),
     }
 }

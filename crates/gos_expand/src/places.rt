@@ -62,6 +62,7 @@ pub(crate) fn shakes(kind: &Kind) -> u32
         | Kind::Op { .. }
         | Kind::Assign { .. } => 3,
         Kind::If | Kind::IfExp { .. } | Kind::Local { .. } => 4,
+        Kind::Array { .. } => 5,
         Kind::Share(ty) => 3 * count(ty) as u32,
     }
 }

@@ -84,3 +84,24 @@ fn local_of_an_expression_is_placed(rt: HostRuntime) -> Result<(), Fail> {
     assert!(rt; local.cells[7].width == 8 && local.cells[9].width == 5);
     Ok(())
 }
+
+// The nets that come in at the five handshakes of an array.
+const OF_ARRAY: [(u32, u32); 5] = [(170, 171), (172, 173), (174, 0), (175, 176), (177, 0)];
+
+#[test]
+fn array_of_a_command_is_placed(rt: HostRuntime) -> Result<(), Fail> {
+    let part = Arith(Kind::Array { w: 8, n: 2, v: 0 });
+    let array = place_alone(rt.alloc(), &part, &OF_ARRAY)?;
+    assert!(rt; array.cells.len() == 33 && array.registers() == 9);
+    assert!(rt; array.shows(2, 12, 15) && array.shows(4, 18, 0));
+    Ok(())
+}
+
+#[test]
+fn array_of_an_expression_is_placed(rt: HostRuntime) -> Result<(), Fail> {
+    let part = Arith(Kind::Array { w: 8, n: 16, v: 5 });
+    let array = place_alone(rt.alloc(), &part, &OF_ARRAY)?;
+    assert!(rt; array.cells.len() == 132 && array.shows(4, 18, 131));
+    assert!(rt; array.cells[19].width == 4 && array.cells[131].width == 5);
+    Ok(())
+}

@@ -5,6 +5,8 @@
 #![tactic(auto)]
 
 #[cfg(test)]
+mod array_cycles;
+#[cfg(test)]
 mod control_cells;
 #[cfg(test)]
 mod control_cycles;

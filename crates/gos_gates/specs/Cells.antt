@@ -1,8 +1,9 @@
 -- Small words for cells.
 --
--- Read first: Nets of gos_netlist.
-use Rattle.std.specs.Prelude.{ℕ}
+-- Read first: Nets and Pools of gos_netlist.
+use Rattle.std.specs.Prelude.{◌≡◌, ℕ, ◌+◌, List, ◌++◌, length}
 use Rattle.gos_netlist.specs.Nets.{Cell, Function, Or}
+use Rattle.gos_netlist.specs.Pools.{Pool, KeepsClosed}
 
 -- a cell of one bit
 abbrev pub bit : Function → Cell
@@ -15,3 +16,11 @@ wide w f = record { width = w; gate = f }
 -- a cell that shows what another net of one bit shows
 abbrev pub buffer : ℕ → Cell
 buffer net = bit (Or net net)
+
+-- cells are placed behind those of a pool, and nothing else is changed
+pub record Places (cells : List Cell) (old new : Pool) : Type 0 where
+  pub added : new.cells ≡ old.cells ++ cells
+  pub used : old.spare ≡ new.spare + length cells
+  pub begun : new.begun ≡ old.begun
+  pub closed : new.closed ≡ old.closed
+  pub kept : KeepsClosed old new

@@ -8,6 +8,8 @@ pub mod Deref
 pub mod Stored
 pub mod BodyAnswer
 pub mod Local
+pub mod Words
+pub mod Array
 pub mod Layout
 pub mod Ranges
 pub mod inner

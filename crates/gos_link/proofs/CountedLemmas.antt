@@ -1,12 +1,12 @@
 -- Plans within the limits of object files, of which there are no more than a build file has instances, are counted by 32 bits.
 use Rattle.std.specs.Prelude.{◌≡◌, ℕ, zero, suc, ◌+◌, ◌*◌, ◌<◌, ◌≤◌, ◌^◌, Bool, true, false, List, [], ◌∷◌, ◌++◌, All, drop, length, map, Option, Some, None, slice_get}
-use Rattle.std.proofs.Common.{refl, sym, ◌∙◌, ap, subst, arith, length-append}
+use Rattle.std.proofs.Common.{inl, inr, refl, sym, ◌∙◌, ap, subst, arith, length-append}
 use Rattle.std.proofs.lemmas.List.{length-map}
 use Rattle.std.proofs.lemmas.List.Elements.{All-head, All-tail}
 use Rattle.std.proofs.lemmas.Option.{slice_get_within}
 use Rattle.gos_types.specs.Types.{type_of}
 use Rattle.gos_types.specs.Handshakes.{handshakes_of}
-use Rattle.gos_model.specs.Typing.{Imported}
+use Rattle.gos_model.specs.Typing.{Imported, IsLength}
 use Rattle.gos_plan.specs.declared.kinds.Kind.{Kind}
 use Rattle.gos_plan.specs.declared.kinds.Kind.TheVariants as kinds
 use Rattle.gos_plan.specs.Kinds.{Contact, Part, asks, serves, contact, turned_contact, contacts_of, other_side, part_contacts}
@@ -14,7 +14,7 @@ use Rattle.gos_plan.specs.Plans.{End, PartEnd, ImportEnd, ResultEnd, Joint, Plan
 use Rattle.gos_plan.specs.ObjectFaults.{IsRead}
 use Rattle.gos_plan.specs.Ranges.{IsInRange}
 use Rattle.gos_plan.specs.Seen.{SeenPlan, import_of, joint_of, part_of, plan_of}
-use Rattle.gos_plan.specs.Size.{shakes_of}
+use Rattle.gos_plan.specs.Size.{shakes_of, numbers_in, numbers_of}
 use Rattle.gos_plan.specs.Joining.{Link, is_joined, left_in, left_among, all_left, all_parts, all_weight, IsJoining}
 use Rattle.gos_link.specs.declared.build.Instance.{Instance}
 use Rattle.gos_link.specs.declared.build.Bind.{Bind}
@@ -186,6 +186,7 @@ part_few (kinds.Not w) range = omega arith
 part_few (kinds.Assign w) range = omega arith
 part_few (kinds.Deref w) range = omega arith
 part_few (kinds.Local w v) range = omega arith
+part_few (kinds.Array w n v) range = omega arith
 part_few (kinds.Share t) (widths, small) =
     let cs : List Contact = contacts_of (type_of t) in
     let all = length-append (other_side cs) (cs ++ cs) in
@@ -198,6 +199,37 @@ pub shakes_few : (ks : List Kind) → All IsInRange ks → shakes_of (map part_o
 shakes_few [] range = omega arith
 shakes_few (k ∷ ks) range =
     let one = part_few k (All-head IsInRange k ks range) in let rest = shakes_few ks (All-tail IsInRange k ks range) in omega (arith, one, rest)
+
+-- an array has at most 16 numbers
+pub length_few : (n : ℕ) → IsLength n → n ≤ 16
+length_few n (inl is) = omega (arith, is)
+length_few n (inr (inl is)) = omega (arith, is)
+length_few n (inr (inr (inl is))) = omega (arith, is)
+length_few n (inr (inr (inr is))) = omega (arith, is)
+
+kind_few : (k : Kind) → IsInRange k → numbers_in (part_of k) ≤ 16
+kind_few (kinds.Array w n v) range = length_few n range.1
+kind_few kinds.Skip range = omega arith
+kind_few (kinds.Lit w k) range = omega arith
+kind_few kinds.Seq range = omega arith
+kind_few (kinds.SeqExp w) range = omega arith
+kind_few kinds.Par range = omega arith
+kind_few kinds.If range = omega arith
+kind_few (kinds.IfExp w) range = omega arith
+kind_few kinds.While range = omega arith
+kind_few (kinds.Op op w) range = omega arith
+kind_few (kinds.Not w) range = omega arith
+kind_few (kinds.Assign w) range = omega arith
+kind_few (kinds.Deref w) range = omega arith
+kind_few (kinds.Local w v) range = omega arith
+kind_few (kinds.Share t) range = omega arith
+
+pub numbers_few : (ks : List Kind) → All IsInRange ks → numbers_of (map part_of ks) ≤ 16 * length ks
+numbers_few [] range = omega arith
+numbers_few (k ∷ ks) range =
+    let one = kind_few k (All-head IsInRange k ks range) in
+    let rest = numbers_few ks (All-tail IsInRange k ks range) in
+    omega (arith, one, rest)
 
 -- a text that is read is that of a plan within the limits
 pub keeps_limits : (text : List ℕ) (p : Plan) → IsRead text p → KeepsLimits p

@@ -9,7 +9,7 @@ use Rattle.gos_model.specs.Typing.{Imported}
 use Rattle.gos_model.proofs.NumberLemmas.{number_cases}
 use Rattle.gos_plan.specs.Kinds.{Part, asks, serves}
 use Rattle.gos_plan.specs.Plans.{End, Joint, Plan, contact_at, IsRight}
-use Rattle.gos_plan.specs.Size.{shakes_of, plan_size}
+use Rattle.gos_plan.specs.Size.{shakes_of, numbers_of, plan_size}
 use Rattle.gos_plan.specs.Joining.{origin, IsJoining, IsSameButOrder}
 use Rattle.gos_plan.proofs.JointLemmas.{same_itself}
 use Rattle.gos_ties.specs.declared.points.Point.{Point}
@@ -252,4 +252,5 @@ same_size p q right other same =
     let many = in_few q p other right (λ j h. in_contained p.joints j ((same.joints j).1 (contains_in q.joints j h))) in
     let parts : length p.parts + shakes_of p.parts ≡ length q.parts + shakes_of q.parts = ap (λ (ks : List Part). length ks + shakes_of ks) same.parts in
     let imports : length p.imports ≡ length q.imports = ap (λ (xs : List Imported). length xs) same.imports in
-    omega (arith, few, many, parts, imports)
+    let numbers : numbers_of p.parts ≡ numbers_of q.parts = ap (λ (ks : List Part). numbers_of ks) same.parts in
+    omega (arith, few, many, parts, numbers, imports)

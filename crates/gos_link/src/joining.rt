@@ -38,6 +38,11 @@ fn copy_kind(alloc: Global, kind: &Kind) -> Result<Kind, NoMemory>
         Kind::Assign { w } => Kind::Assign { w: *w },
         Kind::Deref { w } => Kind::Deref { w: *w },
         Kind::Local { w, v } => Kind::Local { w: *w, v: *v },
+        Kind::Array { w, n, v } => Kind::Array {
+            w: *w,
+            n: *n,
+            v: *v,
+        },
         Kind::Share(ty) => Kind::Share(copy(alloc, ty)?),
     })
 }

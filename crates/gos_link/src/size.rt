@@ -3,7 +3,7 @@
 ghost use Rattle.std.specs.Prelude.{◌≡◌, ◌≢◌, ◌*◌, ◌<◌, ◌≤◌, ◌^◌, All, length, map, IfOk, IfErr};
 ghost use Rattle.gos_plan.specs.Ranges.{IsInRange};
 ghost use Rattle.gos_plan.specs.Seen.{part_of, plan_of};
-ghost use Rattle.gos_plan.specs.Size.{shakes_of, plan_size};
+ghost use Rattle.gos_plan.specs.Size.{shakes_of, numbers_in, numbers_of, plan_size};
 ghost use Rattle.gos_link.specs.Linked.{count_ports};
 ghost use Rattle.gos_link.specs.inner.Counts.{IsCountable};
 ghost use Rattle.gos_link.specs.inner.Judged.{IsTooLarge};
@@ -33,6 +33,31 @@ fn shakes_of(alloc: Global, parts: &[Kind]) -> Result<u64, NoMemory>
     Ok(shakes)
 }
 
+// How many numbers the arrays among parts have together: at most 16 each.
+#[tactic(auto, using(crate::proofs::CountedLemmas::numbers_few))]
+fn numbers_of(parts: &[Kind]) -> u64
+    requires few { length parts.now < 2 ^ 32 }
+    requires in_range { All IsInRange parts.now }
+    ensures sum { result ≡ numbers_of (map part_of parts.now) }
+    ensures small { result ≤ 16 * length parts.now }
+{
+    let mut numbers: u64 = 0;
+    for kind in parts {
+        numbers += length_of(kind);
+    }
+    numbers
+}
+
+// How many numbers an array has; another kind has none.
+fn length_of(kind: &Kind) -> u64
+    ensures { result ≡ numbers_in (part_of kind.now) }
+{
+    match kind {
+        Kind::Array { n, .. } => u64::from(*n),
+        _ => 0,
+    }
+}
+
 // The size of a plan.
 fn size_of(alloc: Global, plan: &Plan) -> Result<u64, NoMemory>
     requires { IsCountable (plan_of plan.now) }
@@ -41,9 +66,10 @@ fn size_of(alloc: Global, plan: &Plan) -> Result<u64, NoMemory>
     let parts = plan.parts();
     let shakes = shakes_of(alloc, parts)?;
     let of_parts = 26 * (parts.len() as u64 + shakes);
+    let of_numbers = 8 * numbers_of(parts);
     let of_joints = 4 * plan.joints().len() as u64;
     let of_ports = 12 * (plan.imports().len() as u64 + 1);
-    Ok(of_parts + of_joints + of_ports)
+    Ok(of_parts + of_numbers + of_joints + of_ports)
 }
 
 /// Finds that a plan is neither too large nor has too many ports.

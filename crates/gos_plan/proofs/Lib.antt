@@ -18,6 +18,7 @@ mod StayLemmas
 mod JoiningLemmas
 pub mod SmallPlanLemmas
 pub mod CallLemmas
+mod SmallArrayLemmas
 mod SeatLemmas
 mod MakeLemmas
 pub mod SideLemmas
@@ -25,6 +26,7 @@ pub mod TextLemmas
 pub mod ItemLemmas
 pub mod TableLemmas
 pub mod WordLemmas
+pub mod FormatLemmas
 pub mod TypeLemmas
 pub mod OperandLemmas
 pub mod PartLemmas
@@ -32,6 +34,7 @@ pub mod LineLemmas
 pub mod SectionLemmas
 pub mod WholeLemmas
 pub mod ObjectLemmas
+mod TwoFormatLemmas
 pub mod WiringLemmas
 pub mod ContactLemmas
 pub mod ElementLemmas

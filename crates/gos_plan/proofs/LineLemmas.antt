@@ -7,6 +7,7 @@ use Rattle.gos_lex.specs.Items.{TextAt}
 use Rattle.gos_plan.specs.declared.fault.ObjectFault.{ObjectFault}
 use Rattle.gos_plan.specs.declared.word.EndWord.{EndWord}
 use Rattle.gos_plan.specs.declared.word.EndWord.TheVariants as ends
+use Rattle.gos_plan.specs.declared.format.Format.{Format}
 use Rattle.gos_plan.specs.Plans.{End, PartEnd, ImportEnd, ResultEnd}
 use Rattle.gos_plan.specs.TextItems.{Item, Fails, Reads, both, exactly, words, any_name}
 use Rattle.gos_plan.specs.ObjectText.{end_text}
@@ -186,14 +187,14 @@ pub lawful_joint : Lawful joint_line
 lawful_joint = via_lawful joint_line two_ends joint_via (lawful_both (ended_end 32) (λ e. ended_end 10) (lawful_end 32 refl) (λ e is. lawful_end 10 refl))
 
 -- An import: a word, a name, and a type.
-abbrev pub named_type : Item
-named_type = both any_name (λ name. typed 10 0)
+abbrev pub named_type : (format : Format) → Item
+named_type format = both any_name (λ name. typed format 10 0)
 
-abbrev pub import_parts : Item
-import_parts = both (exactly (codes "import ")) (λ u. named_type)
+abbrev pub import_parts : (format : Format) → Item
+import_parts format = both (exactly (codes "import ")) (λ u. named_type format)
 
-pub import_via : Via import_line import_parts
-import_via =
+pub import_via : (format : Format) → Via (import_line format) (import_parts format)
+import_via format =
     record {
       into = λ i. (tt, (i.name, i.ty));
       from = λ v. record { name = v.1.0; ty = v.1.1 };
@@ -207,20 +208,20 @@ import_via =
       over_back = λ source at place over. over;
     }
 
-pub lawful_named_type : Lawful named_type
-lawful_named_type = lawful_both any_name (λ name. typed 10 0) lawful_name (λ name is. lawful_typed 10 0 refl)
+pub lawful_named_type : (format : Format) → Lawful (named_type format)
+lawful_named_type format = lawful_both any_name (λ name. typed format 10 0) lawful_name (λ name is. lawful_typed format 10 0 refl)
 
 pub lawful_import_word : Lawful (exactly (codes "import "))
 lawful_import_word = lawful_exactly (codes "import ")
 
-pub lawful_import : Lawful import_line
-lawful_import = via_lawful import_line import_parts import_via (lawful_both (exactly (codes "import ")) (λ u. named_type) lawful_import_word (λ u is. lawful_named_type))
+pub lawful_import : (format : Format) → Lawful (import_line format)
+lawful_import format = via_lawful (import_line format) (import_parts format) (import_via format) (lawful_both (exactly (codes "import ")) (λ u. named_type format) lawful_import_word (λ u is. lawful_named_type format))
 
-pub import_reads : (name : List ℕ) (ty : Type') (old mid last new : TextAt) → Reads (exactly (codes "import ")) old mid tt → Reads any_name mid last name → Reads (typed 10 0) last new ty
-    → Reads import_line old new (record { name = name; ty = ty })
-import_reads name ty old mid last new first second third =
-    let whole = both_read (exactly (codes "import ")) (λ u. named_type) old mid new tt (name, ty) first (both_read any_name (λ name. typed 10 0) mid last new name ty second third) in
-    reads_as import_line import_parts old new (record { name = name; ty = ty }) (tt, (name, ty)) refl (second.is, third.is) (omega (arith, third.keeps)) whole
+pub import_reads : (format : Format) (name : List ℕ) (ty : Type') (old mid last new : TextAt) → Reads (exactly (codes "import ")) old mid tt → Reads any_name mid last name → Reads (typed format 10 0) last new ty
+    → Reads (import_line format) old new (record { name = name; ty = ty })
+import_reads format name ty old mid last new first second third =
+    let whole = both_read (exactly (codes "import ")) (λ u. named_type format) old mid new tt (name, ty) first (both_read any_name (λ name. typed format 10 0) mid last new name ty second third) in
+    reads_as (import_line format) (import_parts format) old new (record { name = name; ty = ty }) (tt, (name, ty)) refl (second.is, third.is) (omega (arith, third.keeps)) whole
 
 -- where the numbers behind an end's word fail, the end does
 pub numbers_fail : (last : ℕ) (w word : EndWord) (old mid : TextAt) → w ≡ word → Reads (words EndWord end_word_text) old mid w

@@ -9,22 +9,25 @@ use Rattle.gos_plan.specs.declared.fault.ObjectFault.TheVariants as faults
 use Rattle.gos_plan.specs.Plans.{Joint, Plan, IsRightAfter, AreRight, IsRight}
 use Rattle.gos_plan.specs.Faults.{IsFirstWrong}
 use Rattle.gos_plan.specs.TextItems.{Spans}
-use Rattle.gos_plan.specs.ObjectText.{text_of}
+use Rattle.gos_plan.specs.ObjectText.{text_in}
+use Rattle.gos_plan.specs.ObjectItems.{whole}
 use Rattle.gos_plan.specs.ObjectFaults.{IsObjectText, IsOverLimit, IsTextOfValues, IsOnePlan, ReadHasNoFault, HasOneFault}
 use Rattle.gos_plan.proofs.WholeLemmas.{lawful_whole}
 
 pub one_plan : (text : List ℕ) → IsOnePlan text
-one_plan text p other is is_other same same_other =
-    (lawful_whole.code p other [] [] is is_other (append-nil (text_of p) ∙ (sym same ∙ (same_other ∙ sym (append-nil (text_of other)))))).0
+one_plan text format other_format p other is is_other same same_other =
+    let known = (lawful_whole.code (format, p) (other_format, other) [] [] is is_other
+    (append-nil (text_in format p) ∙ (sym same ∙ (same_other ∙ sym (append-nil (text_in other_format other)))))).0 in
+    (ap (λ (v : whole.Value). v.0) known, ap (λ (v : whole.Value). v.1) known)
 
 same_values : (text : List ℕ) (p other : Plan) → IsTextOfValues text p → IsTextOfValues text other → p ≡ other
-same_values text p other one two = one_plan text p other one.writable two.writable one.is two.is
+same_values text p other one two = (one_plan text one.format two.format p other one.writable two.writable one.is two.is).1
 
 -- in a text whose values keep the limits none is exceeded
 no_limit : (text : List ℕ) (p : Plan) (place : ℕ) → IsTextOfValues text p → IsOverLimit text place → ⊥
 no_limit text p place is over =
-    let spans : Spans text 0 (length text) (text_of p) = record { after = omega arith; within = omega arith; is = rest_whole text 0 ∙ is.is } in
-    lawful_whole.under text 0 (length text) place p is.writable is.small spans over
+    let spans : Spans text 0 (length text) (text_in is.format p) = record { after = omega arith; within = omega arith; is = rest_whole text 0 ∙ is.is } in
+    lawful_whole.under text 0 (length text) place (is.format, p) is.writable is.small spans over
 
 -- a joint among those that are right is right after those before it
 right_at : (p : Plan) (before js : List Joint) (n i : ℕ) (j : Joint) → i < n → AreRight p before (take n js) → slice_get js i ≡ Some j → IsRightAfter p (reverse (take i js) ++ before) j
@@ -57,7 +60,7 @@ one_wrong p i j one two =
     ]
 
 pub read_has_no_fault : (text : List ℕ) → ReadHasNoFault text
-read_has_no_fault text p (faults.Form at) (is, right) fault = absurd (fault.3 (p, is.writable, is.is))
+read_has_no_fault text p (faults.Form at) (is, right) fault = absurd (fault.3 ((is.format, p), is.writable, is.is))
 read_has_no_fault text p (faults.Limit at) (is, right) (inl (longer, here)) = absurd (omega (arith, longer, is.short))
 read_has_no_fault text p (faults.Limit at) (is, right) (inr (short, over)) = absurd (no_limit text p at is over)
 read_has_no_fault text p (faults.Joint index) (is, right) (other, is_other, wrong) =
@@ -65,7 +68,7 @@ read_has_no_fault text p (faults.Joint index) (is, right) (other, is_other, wron
 read_has_no_fault text p faults.NoMemory read fault = refl
 
 joint_or_form : (text : List ℕ) (p : Plan) → IsTextOfValues text p → (IsObjectText text → ⊥) → ⊥
-joint_or_form text p is none = none (p, is.writable, is.is)
+joint_or_form text p is none = none ((is.format, p), is.writable, is.is)
 
 pub has_one_fault : (text : List ℕ) → HasOneFault text
 has_one_fault text (faults.Form at) (faults.Form other) one two = inl (ap (λ (n : ℕ). faults.Form n) (breaks_off_once IsObjectText text 0 at other one.2 two.2))

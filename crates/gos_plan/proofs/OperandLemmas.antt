@@ -4,10 +4,12 @@ use Rattle.gos_types.specs.Types.{Type', Com, Exp, Var, Pair, Fun}
 use Rattle.gos_plan.specs.declared.fault.ObjectFault.{ObjectFault}
 use Rattle.gos_plan.specs.declared.word.TypeWord.{TypeWord}
 use Rattle.gos_plan.specs.declared.word.TypeWord.TheVariants as types
-use Rattle.gos_types.specs.Widths.{HasWidths}
+use Rattle.gos_plan.specs.declared.format.Format.{Format}
+use Rattle.gos_plan.specs.Formats.{HasWidthsIn}
 use Rattle.gos_plan.specs.TextItems.{Item, Fails, both, exactly}
 use Rattle.gos_plan.specs.ObjectItems.{shakes, word_of_type, typed, forks, sized_by, type_operands_text, type_operands}
 use Rattle.gos_plan.proofs.TextLemmas.{Via, via_fails}
+use Rattle.gos_plan.proofs.FormatLemmas.{greatest_is}
 use Rattle.gos_plan.proofs.TypeLemmas.{shakes_pair, shakes_fun, shakes_some}
 
 -- the width of a type that has one, and its two sides
@@ -46,8 +48,8 @@ rebuilt_own (Fun a b) = refl
 is_of : (word : TypeWord) (t : Type') → word_of_type t ≡ word → t ≡ rebuilt word (width_of t) (left_of t) (right_of t)
 is_of word t same = rebuilt_own t ∙ ap (λ (u : TypeWord). rebuilt u (width_of t) (left_of t) (right_of t)) same
 
-pub com_via : (end before : ℕ) → Via (type_operands end before types.Com) (exactly (end ∷ []))
-com_via end before =
+pub com_via : (format : Format) (end before : ℕ) → Via (type_operands format end before types.Com) (exactly (end ∷ []))
+com_via format end before =
     record {
       into = λ t. tt;
       from = λ u. Com;
@@ -61,57 +63,57 @@ com_via end before =
       over_back = λ source at place over. over;
     }
 
-no_over : (end : ℕ) (source : List ℕ) (at place : ℕ) → (sized_by end).Over source at place → ⊥
-no_over end source at place (inl over) = over
-no_over end source at place (inr (u, mid, is, keeps, spans, over)) = over
+no_over : (format : Format) (end : ℕ) (source : List ℕ) (at place : ℕ) → (sized_by format end).Over source at place → ⊥
+no_over format end source at place (inl over) = over
+no_over format end source at place (inr (u, mid, is, keeps, spans, over)) = over
 
-pub exp_via : (end before : ℕ) → Via (type_operands end before types.Exp) (sized_by end)
-exp_via end before =
+pub exp_via : (format : Format) (end before : ℕ) → Via (type_operands format end before types.Exp) (sized_by format end)
+exp_via format end before =
     record {
       into = λ t. (tt, width_of t);
       from = λ v. Exp v.1;
       text = λ t is. ap (type_operands_text end) (is_of types.Exp t is.1);
-      is = λ t is. (tt, subst HasWidths (is_of types.Exp t is.1) is.0);
+      is = λ t is. (tt, subst (HasWidthsIn format) (is_of types.Exp t is.1) is.0);
       keeps = λ t is keeps. (tt, tt);
       back = λ t is. sym (is_of types.Exp t is.1);
       from_is = λ v is. (is.1, refl);
       there = λ v is. refl;
       over = λ source at place over. absurd over;
-      over_back = λ source at place over. no_over end source at place over;
+      over_back = λ source at place over. no_over format end source at place over;
     }
 
-pub var_via : (end before : ℕ) → Via (type_operands end before types.Var) (sized_by end)
-var_via end before =
+pub var_via : (format : Format) (end before : ℕ) → Via (type_operands format end before types.Var) (sized_by format end)
+var_via format end before =
     record {
       into = λ t. (tt, width_of t);
       from = λ v. Var v.1;
       text = λ t is. ap (type_operands_text end) (is_of types.Var t is.1);
-      is = λ t is. (tt, subst HasWidths (is_of types.Var t is.1) is.0);
+      is = λ t is. (tt, subst (HasWidthsIn format) (is_of types.Var t is.1) is.0);
       keeps = λ t is keeps. (tt, tt);
       back = λ t is. sym (is_of types.Var t is.1);
       from_is = λ v is. (is.1, refl);
       there = λ v is. refl;
       over = λ source at place over. absurd over;
-      over_back = λ source at place over. no_over end source at place over;
+      over_back = λ source at place over. no_over format end source at place over;
     }
 
 -- the second of two types, behind the first, and both
-abbrev pub second_type : ℕ → ℕ → Type' → Item
-second_type end before a = typed end (before + shakes a)
+abbrev pub second_type : (format : Format) → ℕ → ℕ → Type' → Item
+second_type format end before a = typed format end (before + shakes a)
 
-abbrev pub both_types : ℕ → ℕ → Item
-both_types end before = both (typed 32 (before + 1)) (second_type end before)
+abbrev pub both_types : (format : Format) → ℕ → ℕ → Item
+both_types format end before = both (typed format 32 (before + 1)) (second_type format end before)
 
 fork_keeps : (before : ℕ) (a b : Type') → before + (shakes a + shakes b) ≤ 64 → (before + 1 + shakes a ≤ 64) × (before + shakes a + shakes b ≤ 64)
 fork_keeps before a b keeps = (omega (arith, keeps, shakes_some b), omega (arith, keeps))
 
-pub pair_via : (end before : ℕ) → Via (type_operands end before types.Pair) (forks end before)
-pair_via end before =
+pub pair_via : (format : Format) (end before : ℕ) → Via (type_operands format end before types.Pair) (forks format end before)
+pair_via format end before =
     record {
       into = λ t. (tt, (left_of t, right_of t));
       from = λ v. Pair v.1.0 v.1.1;
       text = λ t is. ap (type_operands_text end) (is_of types.Pair t is.1);
-      is = λ t is. (tt, subst HasWidths (is_of types.Pair t is.1) is.0);
+      is = λ t is. (tt, subst (HasWidthsIn format) (is_of types.Pair t is.1) is.0);
       keeps = λ t is keeps.
           let size : shakes t ≡ shakes (left_of t) + shakes (right_of t) = ap shakes (is_of types.Pair t is.1) ∙ shakes_pair (left_of t) (right_of t) in
           (tt, fork_keeps before (left_of t) (right_of t) (omega (arith, keeps, size)));
@@ -122,13 +124,13 @@ pair_via end before =
       over_back = λ source at place over. over;
     }
 
-pub fun_via : (end before : ℕ) → Via (type_operands end before types.Fun) (forks end before)
-fun_via end before =
+pub fun_via : (format : Format) (end before : ℕ) → Via (type_operands format end before types.Fun) (forks format end before)
+fun_via format end before =
     record {
       into = λ t. (tt, (left_of t, right_of t));
       from = λ v. Fun v.1.0 v.1.1;
       text = λ t is. ap (type_operands_text end) (is_of types.Fun t is.1);
-      is = λ t is. (tt, subst HasWidths (is_of types.Fun t is.1) is.0);
+      is = λ t is. (tt, subst (HasWidthsIn format) (is_of types.Fun t is.1) is.0);
       keeps = λ t is keeps.
           let size : shakes t ≡ shakes (left_of t) + shakes (right_of t) = ap shakes (is_of types.Fun t is.1) ∙ shakes_fun (left_of t) (right_of t) in
           (tt, fork_keeps before (left_of t) (right_of t) (omega (arith, keeps, size)));
@@ -140,16 +142,16 @@ fun_via end before =
     }
 
 -- some type has each word
-pub some_operands : (end before : ℕ) (word : TypeWord) → (t : Type') × (type_operands end before word).Is t
-some_operands end before types.Com = (Com, (tt, refl))
-some_operands end before types.Exp = (Exp 1, ((omega arith, omega arith), refl))
-some_operands end before types.Var = (Var 1, ((omega arith, omega arith), refl))
-some_operands end before types.Pair = (Pair Com Com, ((tt, tt), refl))
-some_operands end before types.Fun = (Fun Com Com, ((tt, tt), refl))
+pub some_operands : (format : Format) (end before : ℕ) (word : TypeWord) → (t : Type') × (type_operands format end before word).Is t
+some_operands format end before types.Com = (Com, (tt, refl))
+some_operands format end before types.Exp = (Exp 1, ((omega arith, (greatest_is format).0), refl))
+some_operands format end before types.Var = (Var 1, ((omega arith, (greatest_is format).0), refl))
+some_operands format end before types.Pair = (Pair Com Com, ((tt, tt), refl))
+some_operands format end before types.Fun = (Fun Com Com, ((tt, tt), refl))
 
 -- where the operands behind a type's word fail as another item does
-pub operands_fail : (end before : ℕ) (w word : TypeWord) → w ≡ word → (A : Item) → Via (type_operands end before word) A
-    → (source : List ℕ) (at : ℕ) (fault : ObjectFault) → Fails A source at fault → Fails (type_operands end before w) source at fault
-operands_fail end before w word is A via source at fault fails =
-    subst (λ (u : TypeWord). Fails (type_operands end before u) source at fault) (sym is)
-    (via_fails (type_operands end before word) A via source at fault fails)
+pub operands_fail : (format : Format) (end before : ℕ) (w word : TypeWord) → w ≡ word → (A : Item) → Via (type_operands format end before word) A
+    → (source : List ℕ) (at : ℕ) (fault : ObjectFault) → Fails A source at fault → Fails (type_operands format end before w) source at fault
+operands_fail format end before w word is A via source at fault fails =
+    subst (λ (u : TypeWord). Fails (type_operands format end before u) source at fault) (sym is)
+    (via_fails (type_operands format end before word) A via source at fault fails)

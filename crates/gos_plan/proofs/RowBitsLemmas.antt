@@ -1,15 +1,17 @@
 -- The table of the firing rules, by bits: where what a row takes has at most its bits, so has what it puts.
-use Rattle.std.specs.Prelude.{None, ◌^◌, ◌<◌, ◌-◌, nat_lt}
-use Rattle.std.proofs.Common.{◌≡◌, inl, inr, ℕ, ◌+◌, ◌*◌, Bool, true, false, List, [], ◌∷◌, length, Some, slice_get, refl, sym, ◌∙◌, ap, subst, arith, nat_eq, if◌then◌else◌}
+use Rattle.std.specs.Prelude.{None, ◌^◌, ◌<◌, ◌-◌, nat_lt, get_or, set, replicate}
+use Rattle.std.proofs.Common.{◌≡◌, inl, inr, ℕ, zero, suc, ◌+◌, ◌*◌, Bool, true, false, List, [], ◌∷◌, length, Some, slice_get, refl, sym, ◌∙◌, ap, subst, arith, nat_eq, if◌then◌else◌}
+use Rattle.std.specs.List.{AllByRecursion}
+use Rattle.std.proofs.lemmas.List.{length-replicate, length-set}
 use Rattle.std.proofs.lemmas.Nat.{pow_pos, mod_below, and_le_l, or_lt, xor_lt}
 use Rattle.gos_types.specs.declared.shakes.Role.{Role}
 use Rattle.gos_types.specs.declared.shakes.Role.TheVariants.{Serve, Ask}
 use Rattle.gos_types.specs.Types.{Type'}
-use Rattle.gos_plan.specs.Kinds.{Part, Skip, Lit, Seq, Par, If, While, Op, Not, Assign, Deref, Local, Share, Contact, asks, serves, turned_contact, contacts_of, part_contacts}
+use Rattle.gos_plan.specs.Kinds.{Part, Skip, Lit, Seq, Par, If, While, Op, Not, Assign, Deref, Local, Array, Share, Contact, asks, serves, turned_contact, contacts_of, part_contacts}
 use Rattle.gos_model.specs.Terms.{Op as Operation, Add, Sub, And, Or, Xor, Eq, Less, result_of, result_width, complement}
-use Rattle.gos_plan.specs.Firing.{Phase, Rest, First, Second, Both, LeftOnly, RightOnly, Test, Branch, Body, Left, Right, Waiting, Value, Writing, Active, State, at, Slot, Req, Ans, Token, put, Row, chosen, shared_rows, rows, firing}
+use Rattle.gos_plan.specs.Firing.{Phase, Rest, First, Second, Both, LeftOnly, RightOnly, Test, Branch, Body, Left, Right, Waiting, Value, Writing, Active, Cells, Reading, WritingTo, State, at, Slot, Req, Ans, Token, put, Row, chosen, shared_rows, rows, firing}
 use Rattle.gos_plan.specs.Tokens.{shake_of, way_of, bits_of}
-use Rattle.gos_plan.specs.TokenBits.{LiteralFits, NumberFits}
+use Rattle.gos_plan.specs.TokenBits.{LiteralFits, NumbersFit, NumberFits}
 use Rattle.gos_plan.proofs.RowLemmas.{EachRow, row_with}
 use Rattle.gos_plan.proofs.AskingLemmas.{source_at, first_caller_at, second_caller_at, caller_at}
 use Rattle.gos_plan.proofs.ShareTableLemmas.{share_table}
@@ -77,6 +79,27 @@ branch_fits : (u n v : ℕ) (b : Bool) → nat_eq n 1 ≡ b → EachRow (RowFits
 branch_fits u n v true t = rw t ((λ h. ((λ e. absurd (cc e)), (passed_on (If u) (Ans 1) (Ans 3) v (asks 0 u) (serves 0 u) refl refl refl h, tt))), tt)
 branch_fits u n v false t = rw t ((λ h. ((λ e. absurd (cc e)), (passed_on (If u) (Ans 2) (Ans 3) v (asks 0 u) (serves 0 u) refl refl refl h, tt))), tt)
 
+-- the numbers of an array: at entry, the one that is read, and all of them where one is written
+zeros_fit : (w k : ℕ) → NumbersFit w k (replicate k 0)
+zeros_fit w k = (length-replicate k 0, all k)
+  where
+    all : (k : ℕ) → AllByRecursion (λ (n : ℕ). n < 2 ^ w) (replicate k 0)
+    all zero = tt
+    all (suc k) = (pow_pos w, all k)
+
+read_fits : (w : ℕ) (ns : List ℕ) (j : ℕ) → AllByRecursion (λ (n : ℕ). n < 2 ^ w) ns → get_or ns j 0 < 2 ^ w
+read_fits w [] j fit = pow_pos w
+read_fits w (n ∷ ns) zero fit = fit.0
+read_fits w (n ∷ ns) (suc j) fit = read_fits w ns j fit.1
+
+write_fits : (w k : ℕ) (ns : List ℕ) (j a : ℕ) → a < 2 ^ w → NumbersFit w k ns → NumbersFit w k (set ns j a)
+write_fits w k ns j a small fit = (length-set ns j a ∙ fit.0, all ns j fit.1)
+  where
+    all : (ns : List ℕ) (j : ℕ) → AllByRecursion (λ (n : ℕ). n < 2 ^ w) ns → AllByRecursion (λ (n : ℕ). n < 2 ^ w) (set ns j a)
+    all [] j fit = tt
+    all (n ∷ ns) zero fit = (small, fit.1)
+    all (n ∷ ns) (suc j) fit = (fit.0, all ns j fit.1)
+
 -- the table of the kinds other than Share
 table : (k : Part) (p : Phase) (n v : ℕ) → ((t : Type') → k ≡ Share t → ⊥) → LiteralFits k → NumberFits k (at p n) → EachRow (RowFits k v) (rows k p n)
 table Skip Rest n v u l f = ((λ h. (tt, (none_fits Skip (Ans 0), tt))), tt)
@@ -123,6 +146,17 @@ table (Local w b) Active n v u l f = (
     ((λ h. ((λ e. absurd (cc e)), (passed_on (Local w b) (Ans 0) (Ans 3) v (asks 0 b) (serves 0 b) refl refl refl h, tt))), tt),
   ),
 )
+table (Array w k b) Rest n v u l f = ((λ h. (zeros_fit w k, (none_fits (Array w k b) (Req 0), tt))), tt)
+table (Array w k b) (Cells ns) n v u l f = (
+  (λ h. (f, (none_fits (Array w k b) (Req 1), tt))),
+  (
+    (λ h. ((f, taken_fits (Array w k b) (Req 3) v (serves w 0) refl h), (none_fits (Array w k b) (Req 1), tt))),
+    ((λ h. (tt, (passed_on (Array w k b) (Ans 0) (Ans 4) v (asks 0 b) (serves 0 b) refl refl refl h, tt))), tt),
+  ),
+)
+table (Array w k b) (Reading ns) n v u l f =
+    ((λ h. (f, (number_fits (Array w k b) (Ans 2) (get_or ns v 0) (serves 0 w) refl (read_fits w ns v f.1), tt))), tt)
+table (Array w k b) (WritingTo ns) n v u l f = ((λ h. (write_fits w k ns v n f.1 f.0, (none_fits (Array w k b) (Ans 3), tt))), tt)
 table (Share t) p n v u l f = absurd (u t refl)
 table k p n v u l f = tt
 

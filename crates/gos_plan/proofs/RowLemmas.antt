@@ -3,8 +3,8 @@ use Rattle.std.specs.Prelude.{not}
 use Rattle.std.proofs.Common.{◌≡◌, inl, inr, ℕ, Bool, true, false, List, [], ◌∷◌, Some, slice_get, refl, subst, arith, nat_eq, if◌then◌else◌}
 use Rattle.gos_types.specs.declared.shakes.Role.{Role}
 use Rattle.gos_types.specs.declared.shakes.Role.TheVariants.{Serve, Ask}
-use Rattle.gos_plan.specs.Kinds.{Part, Skip, Lit, Seq, Par, If, While, Op, Not, Assign, Deref, Local, Share, Contact, part_contacts}
-use Rattle.gos_plan.specs.Firing.{Phase, Rest, First, Second, Both, LeftOnly, RightOnly, Test, Branch, Body, Left, Right, Waiting, Value, Writing, Active, State, at, Slot, Req, Ans, Token, Row, rows, row_for}
+use Rattle.gos_plan.specs.Kinds.{Part, Skip, Lit, Seq, Par, If, While, Op, Not, Assign, Deref, Local, Array, Share, Contact, part_contacts}
+use Rattle.gos_plan.specs.Firing.{Phase, Rest, First, Second, Both, LeftOnly, RightOnly, Test, Branch, Body, Left, Right, Waiting, Value, Writing, Active, Cells, Reading, WritingTo, State, at, Slot, Req, Ans, Token, Row, rows, row_for}
 use Rattle.gos_plan.specs.Tokens.{shake_of}
 use Rattle.gos_plan.specs.Turns.{IsUnshared}
 use Rattle.gos_plan.specs.inner.Engaged.{is_engaged}
@@ -101,5 +101,9 @@ table (If w) Test n v u = choosing w n v (nat_eq v 1) refl
 table (If w) Branch n v u = chosen_branch w n v (nat_eq n 1) refl
 table While Test n v u = looping n v (nat_eq v 1) refl
 table (Local w b) Active n v u = (((_, refl, refl), ((_, refl, refl), refl, λ g. grind arith)), (((_, refl, refl), ((_, refl, refl), refl, λ g. grind arith)), (((_, refl, refl), ((_, refl, refl), refl, λ g. grind arith)), tt)))
+table (Array w k b) Rest n v u = (((_, refl, refl), ((_, refl, refl), refl, λ g. grind arith)), tt)
+table (Array w k b) (Cells ns) n v u = (((_, refl, refl), ((_, refl, refl), refl, λ g. grind arith)), (((_, refl, refl), ((_, refl, refl), refl, λ g. grind arith)), (((_, refl, refl), ((_, refl, refl), refl, λ g. grind arith)), tt)))
+table (Array w k b) (Reading ns) n v u = (((_, refl, refl), ((_, refl, refl), refl, λ g. grind arith)), tt)
+table (Array w k b) (WritingTo ns) n v u = (((_, refl, refl), ((_, refl, refl), refl, λ g. grind arith)), tt)
 table (Share t) p n v u = absurd (u t refl)
 table k p n v u = tt

@@ -8,7 +8,7 @@ use Rattle.gos_lex.specs.Items.{Misses}
 use Rattle.gos_lex.specs.ItemTexts.{IsTextOf, IsAmong}
 use Rattle.gos_lex.proofs.SequenceLemmas.{IsCode, misses_as, same_fronts}
 use Rattle.gos_plan.specs.declared.fault.ObjectFault.TheVariants as faults
-use Rattle.gos_plan.specs.TextItems.{Fails, words}
+use Rattle.gos_plan.specs.TextItems.{Fails, plain, words}
 use Rattle.gos_plan.proofs.TextLemmas.{Lawful, lawful_plain}
 
 -- whether two words differ at a byte that both have
@@ -54,12 +54,24 @@ clash_of (t ∷ ts) (suc i) zero a b apart order one other = absurd (omega (arit
 clash_of (t ∷ ts) (suc i) (suc j) a b apart order one other =
     clash_of ts i j a b (and_parts (list_all (clash t) ts) (is_apart ts) apart).1 (omega (arith, order)) one other
 
--- a table of all values of a type, with the place of each
+-- a table of some values of a type, with the place of each
+pub record TableOf (V : Type 0) (Is : V → Type 0) (text : V → List ℕ) : Type 0 where
+  pub all : List V
+  pub apart : is_apart (map text all) ≡ true
+  pub place : V → ℕ
+  pub stands : (v : V) → Is v → slice_get all (place v) ≡ Some v
+  pub among : (k : ℕ) (v : V) → slice_get all k ≡ Some v → Is v
+
+-- a table of all values
 pub record Table (V : Type 0) (text : V → List ℕ) : Type 0 where
   pub all : List V
   pub apart : is_apart (map text all) ≡ true
   pub place : V → ℕ
   pub stands : (v : V) → slice_get all (place v) ≡ Some v
+
+abbrev pub table_of : (V : Type 0) (text : V → List ℕ) → Table V text → TableOf V (λ v. Unit {0}) text
+table_of V text table =
+    record { all = table.all; apart = table.apart; place = table.place; stands = λ v is. table.stands v; among = λ k v at. tt }
 
 text_at : (V : Type 0) (text : V → List ℕ) (all : List V) (k : ℕ) (v : V) → slice_get all k ≡ Some v
     → (slice_get (map text all) k ≡ Some (text v)) × (k < length (map text all)) × (get_or (map text all) k [] ≡ text v)
@@ -67,18 +79,18 @@ text_at V text [] k v is = absurd cc
 text_at V text (u ∷ all) zero v is = let same : u ≡ v = cc is in (ap (λ (w : V). Some (text w)) same, omega arith, ap text same)
 text_at V text (u ∷ all) (suc k) v is = let known = text_at V text all k v is in (known.0, omega (arith, known.1), known.2)
 
-pub table_code : (V : Type 0) (text : V → List ℕ) → Table V text → IsCode V (λ v. Unit {0}) text
-table_code V text table v w x y is_v is_w same = by_place
+pub code_of : (V : Type 0) (Is : V → Type 0) (text : V → List ℕ) → TableOf V Is text → IsCode V Is text
+code_of V Is text table v w x y is_v is_w same = by_place
   where
     one : slice_get (map text table.all) (table.place v) ≡ Some (text v)
-    one = (text_at V text table.all (table.place v) v (table.stands v)).0
+    one = (text_at V text table.all (table.place v) v (table.stands v is_v)).0
 
     other : slice_get (map text table.all) (table.place w) ≡ Some (text w)
-    other = (text_at V text table.all (table.place w) w (table.stands w)).0
+    other = (text_at V text table.all (table.place w) w (table.stands w is_w)).0
 
     equal : table.place v ≡ table.place w → (v ≡ w) × (x ≡ y)
     equal here =
-        let both : Some v ≡ Some w = sym (table.stands v) ∙ (ap (slice_get table.all) here ∙ table.stands w) in
+        let both : Some v ≡ Some w = sym (table.stands v is_v) ∙ (ap (slice_get table.all) here ∙ table.stands w is_w) in
         let value : v ≡ w = cc both in
         (value, (same_fronts (text v) x (text w) y same (ap (λ (u : V). length (text u)) value)).1)
 
@@ -93,22 +105,30 @@ table_code V text table v w x y is_v is_w same = by_place
               ]
         ]
 
+pub table_code : (V : Type 0) (text : V → List ℕ) → Table V text → IsCode V (λ v. Unit {0}) text
+table_code V text table = code_of V (λ v. Unit {0}) text (table_of V text table)
+
 pub lawful_words : (V : Type 0) (text : V → List ℕ) → Table V text → V → Lawful (words V text)
 lawful_words V text table v = lawful_plain V (λ v. Unit {0}) text (table_code V text table) v tt
 
 -- each place of a table has a value
-value_at : (V : Type 0) (text : V → List ℕ) (all : List V) (k : ℕ) → k < length (map text all) → (v : V) × (get_or (map text all) k [] ≡ text v)
+value_at : (V : Type 0) (text : V → List ℕ) (all : List V) (k : ℕ) → k < length (map text all)
+    → (v : V) × (slice_get all k ≡ Some v) × (get_or (map text all) k [] ≡ text v)
 value_at V text [] k inside = absurd (omega (arith, inside))
-value_at V text (v ∷ all) zero inside = (v, refl)
+value_at V text (v ∷ all) zero inside = (v, refl, refl)
 value_at V text (v ∷ all) (suc k) inside = value_at V text all k (omega (arith, inside))
 
 -- where no text of a table stands, none of a value does
-pub words_fail : (V : Type 0) (text : V → List ℕ) (table : Table V text) (shown : List (List ℕ)) → shown ≡ map text table.all
-    → (source : List ℕ) (at place : ℕ) → Misses (IsAmong shown) source at place → Fails (words V text) source at (faults.Form place)
-words_fail V text table shown same source at place misses = (
-  misses_as (IsAmong (map text table.all)) (IsTextOf V (λ v. Unit {0}) text) source at place
-      (λ bytes item. let known = value_at V text table.all item.0 item.1 in (known.0, tt, item.2 ∙ known.1))
-      (λ bytes item. let known = text_at V text table.all (table.place item.0) item.0 (table.stands item.0) in (table.place item.0, known.1, item.2 ∙ sym known.2))
+pub table_fails : (V : Type 0) (Is : V → Type 0) (text : V → List ℕ) (table : TableOf V Is text) (shown : List (List ℕ)) → shown ≡ map text table.all
+    → (source : List ℕ) (at place : ℕ) → Misses (IsAmong shown) source at place → Fails (plain V Is text) source at (faults.Form place)
+table_fails V Is text table shown same source at place misses = (
+  misses_as (IsAmong (map text table.all)) (IsTextOf V Is text) source at place
+      (λ bytes item. let known = value_at V text table.all item.0 item.1 in (known.0, table.among item.0 known.0 known.1, item.2 ∙ known.2))
+      (λ bytes item. let known = text_at V text table.all (table.place item.0) item.0 (table.stands item.0 item.1) in (table.place item.0, known.1, item.2 ∙ sym known.2))
       (subst (λ (ts : List (List ℕ)). Misses (IsAmong ts) source at place) same misses),
   λ p over. over,
 )
+
+pub words_fail : (V : Type 0) (text : V → List ℕ) (table : Table V text) (shown : List (List ℕ)) → shown ≡ map text table.all
+    → (source : List ℕ) (at place : ℕ) → Misses (IsAmong shown) source at place → Fails (words V text) source at (faults.Form place)
+words_fail V text table = table_fails V (λ v. Unit {0}) text (table_of V text table)

@@ -11,13 +11,13 @@ use Rattle.std.proofs.lemmas.Bool.{and_parts}
 use Rattle.gos_types.specs.Events.{Direction, Request, Answer}
 use Rattle.gos_plan.specs.declared.kinds.Kind.{Kind}
 use Rattle.gos_plan.specs.declared.kinds.Kind.TheVariants as kinds
-use Rattle.gos_plan.specs.Kinds.{Part, If, Op, Local, Contact}
-use Rattle.gos_plan.specs.Firing.{Rest, Branch, Right, Active, State, Slot, Token, Row, firing}
+use Rattle.gos_plan.specs.Kinds.{Part, If, Op, Local, Array, Contact}
+use Rattle.gos_plan.specs.Firing.{Phase, Rest, Branch, Right, Active, State, Slot, Token, Row, firing}
 use Rattle.gos_plan.specs.Plans.{End, Plan, IsRight, contacts_of_part, contact_at, same_end}
 use Rattle.gos_plan.specs.Tokens.{Tokens, Element, Fire, Out, In, places_of, same_way, with_state, held_at, with_held, token_at, with_token, shake_of, way_of, end_of, with_puts, bits_of, way_taken, way_put, firing_of, fired, Passes, Does}
 use Rattle.gos_plan.specs.Seen.{part_of}
 use Rattle.gos_plan.specs.Ranges.{IsInRange}
-use Rattle.gos_plan.specs.TokenBits.{LiteralFits, NumberFits, TokensFit, AllFit, AllStayFit, IdleFits, LiteralsFit}
+use Rattle.gos_plan.specs.TokenBits.{LiteralFits, ArrayFits, NumberFits, TokensFit, AllFit, AllStayFit, IdleFits, LiteralsFit}
 use Rattle.gos_plan.proofs.JointLemmas.{same_is, joined}
 use Rattle.gos_plan.proofs.TurnLemmas.{token_state, fired_state}
 use Rattle.gos_plan.proofs.RowBitsLemmas.{AllFitting, Taking, RowFits, row_fits}
@@ -178,6 +178,7 @@ idle_fits p s idle = (tokens, λ i k is. at_rest k (s.state i) (idle.1 i))
     at_rest (If v) q rests = λ e. absurd (let other : Rest ≡ Branch = sym rests ∙ e in cc other)
     at_rest (Op op w) q rests = λ e. absurd (let other : Rest ≡ Right = sym rests ∙ e in cc other)
     at_rest (Local w v) q rests = λ e. absurd (let other : Rest ≡ Active = sym rests ∙ e in cc other)
+    at_rest (Array w k v) q rests = subst (λ (p : Phase). ArrayFits w k p q.number) (sym rests) tt
     at_rest k q rests = tt
 
 literal : (k : Kind) → IsInRange k → LiteralFits (part_of k)
@@ -194,6 +195,7 @@ literal (kinds.Not w) h = tt
 literal (kinds.Assign w) h = tt
 literal (kinds.Deref w) h = tt
 literal (kinds.Local w v) h = tt
+literal (kinds.Array w n v) h = tt
 literal (kinds.Share t) h = tt
 
 pub literals_fit : LiteralsFit

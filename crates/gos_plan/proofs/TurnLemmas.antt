@@ -51,6 +51,7 @@ none_at_rest k q h e = rw e (at_rest k q.number)
     at_rest (kinds.Assign w) n = refl
     at_rest (kinds.Deref w) n = refl
     at_rest (kinds.Local w v) n = refl
+    at_rest (kinds.Array w k v) n = refl
     at_rest (kinds.Share t) n = refl
 
 port_at_first : (o : Option Contact) (e : End) → port_engaged o e [] ≡ false

@@ -1,5 +1,8 @@
 -- The tables of words of a plan's text.
-use Rattle.std.proofs.Common.{◌≡◌, ℕ, List, [], ◌∷◌, Some, slice_get, refl}
+use Rattle.std.proofs.Common.{◌≡◌, ℕ, zero, suc, true, List, [], ◌∷◌, ◌++◌, map, Some, slice_get, refl, subst}
+use Rattle.gos_plan.specs.declared.format.Format.{Format}
+use Rattle.gos_plan.specs.declared.format.Format.TheVariants.{One, Two}
+use Rattle.gos_plan.specs.Formats.{head_text}
 use Rattle.gos_plan.specs.declared.kinds.Op2.TheVariants as ops
 use Rattle.gos_plan.specs.declared.word.BareWord.TheVariants as bare
 use Rattle.gos_plan.specs.declared.word.SizedWord.TheVariants as sized
@@ -9,19 +12,26 @@ use Rattle.gos_plan.specs.declared.word.TypeWord.{TypeWord}
 use Rattle.gos_plan.specs.declared.word.TypeWord.TheVariants as types
 use Rattle.gos_plan.specs.declared.word.BodyWord.{BodyWord}
 use Rattle.gos_plan.specs.declared.word.BodyWord.TheVariants as bodies
+use Rattle.gos_plan.specs.declared.word.LengthWord.{LengthWord}
+use Rattle.gos_plan.specs.declared.word.LengthWord.TheVariants as lengths
 use Rattle.gos_plan.specs.declared.word.EndWord.{EndWord}
 use Rattle.gos_plan.specs.declared.word.EndWord.TheVariants as ends
 use Rattle.gos_plan.specs.ObjectText.{word_text}
-use Rattle.gos_plan.specs.ObjectItems.{letters, body_word_text, end_word_text}
-use Rattle.gos_plan.proofs.TableLemmas.{Table}
+use Rattle.gos_plan.specs.ObjectItems.{letters, body_word_text, length_text, IsWordIn, end_word_text}
+use Rattle.gos_plan.proofs.TableLemmas.{is_apart, TableOf, Table}
 
-abbrev all_parts : List PartWord
-all_parts =
+abbrev older_parts : List PartWord
+older_parts =
     parts.Bare bare.Skip ∷ parts.Bare bare.Seq ∷ parts.Bare bare.Par ∷ parts.Bare bare.If ∷ parts.Bare bare.While
     ∷ parts.Sized sized.SeqExp ∷ parts.Sized sized.IfExp
     ∷ parts.Sized (sized.Op ops.Add) ∷ parts.Sized (sized.Op ops.Sub) ∷ parts.Sized (sized.Op ops.And) ∷ parts.Sized (sized.Op ops.Or)
     ∷ parts.Sized (sized.Op ops.Xor) ∷ parts.Sized (sized.Op ops.Eq) ∷ parts.Sized (sized.Op ops.Less)
     ∷ parts.Sized sized.Not ∷ parts.Sized sized.Assign ∷ parts.Sized sized.Deref ∷ parts.Lit ∷ parts.Local ∷ parts.Share ∷ []
+
+-- an array's word comes last
+abbrev pub all_parts : Format → List PartWord
+all_parts One = older_parts
+all_parts Two = older_parts ++ parts.Array ∷ []
 
 abbrev part_place : PartWord → ℕ
 part_place (parts.Bare bare.Skip) = 0
@@ -44,31 +54,93 @@ part_place (parts.Sized sized.Deref) = 16
 part_place parts.Lit = 17
 part_place parts.Local = 18
 part_place parts.Share = 19
+part_place parts.Array = 20
 
-pub part_stands : (v : PartWord) → slice_get all_parts (part_place v) ≡ Some v
-part_stands (parts.Bare bare.Skip) = refl
-part_stands (parts.Bare bare.Seq) = refl
-part_stands (parts.Bare bare.Par) = refl
-part_stands (parts.Bare bare.If) = refl
-part_stands (parts.Bare bare.While) = refl
-part_stands (parts.Sized sized.SeqExp) = refl
-part_stands (parts.Sized sized.IfExp) = refl
-part_stands (parts.Sized (sized.Op ops.Add)) = refl
-part_stands (parts.Sized (sized.Op ops.Sub)) = refl
-part_stands (parts.Sized (sized.Op ops.And)) = refl
-part_stands (parts.Sized (sized.Op ops.Or)) = refl
-part_stands (parts.Sized (sized.Op ops.Xor)) = refl
-part_stands (parts.Sized (sized.Op ops.Eq)) = refl
-part_stands (parts.Sized (sized.Op ops.Less)) = refl
-part_stands (parts.Sized sized.Not) = refl
-part_stands (parts.Sized sized.Assign) = refl
-part_stands (parts.Sized sized.Deref) = refl
-part_stands parts.Lit = refl
-part_stands parts.Local = refl
-part_stands parts.Share = refl
+pub part_stands : (format : Format) (v : PartWord) → IsWordIn format v → slice_get (all_parts format) (part_place v) ≡ Some v
+part_stands One (parts.Bare bare.Skip) is = refl
+part_stands One (parts.Bare bare.Seq) is = refl
+part_stands One (parts.Bare bare.Par) is = refl
+part_stands One (parts.Bare bare.If) is = refl
+part_stands One (parts.Bare bare.While) is = refl
+part_stands One (parts.Sized sized.SeqExp) is = refl
+part_stands One (parts.Sized sized.IfExp) is = refl
+part_stands One (parts.Sized (sized.Op ops.Add)) is = refl
+part_stands One (parts.Sized (sized.Op ops.Sub)) is = refl
+part_stands One (parts.Sized (sized.Op ops.And)) is = refl
+part_stands One (parts.Sized (sized.Op ops.Or)) is = refl
+part_stands One (parts.Sized (sized.Op ops.Xor)) is = refl
+part_stands One (parts.Sized (sized.Op ops.Eq)) is = refl
+part_stands One (parts.Sized (sized.Op ops.Less)) is = refl
+part_stands One (parts.Sized sized.Not) is = refl
+part_stands One (parts.Sized sized.Assign) is = refl
+part_stands One (parts.Sized sized.Deref) is = refl
+part_stands One parts.Lit is = refl
+part_stands One parts.Local is = refl
+part_stands One parts.Share is = refl
+part_stands One parts.Array is = absurd is
+part_stands Two (parts.Bare bare.Skip) is = refl
+part_stands Two (parts.Bare bare.Seq) is = refl
+part_stands Two (parts.Bare bare.Par) is = refl
+part_stands Two (parts.Bare bare.If) is = refl
+part_stands Two (parts.Bare bare.While) is = refl
+part_stands Two (parts.Sized sized.SeqExp) is = refl
+part_stands Two (parts.Sized sized.IfExp) is = refl
+part_stands Two (parts.Sized (sized.Op ops.Add)) is = refl
+part_stands Two (parts.Sized (sized.Op ops.Sub)) is = refl
+part_stands Two (parts.Sized (sized.Op ops.And)) is = refl
+part_stands Two (parts.Sized (sized.Op ops.Or)) is = refl
+part_stands Two (parts.Sized (sized.Op ops.Xor)) is = refl
+part_stands Two (parts.Sized (sized.Op ops.Eq)) is = refl
+part_stands Two (parts.Sized (sized.Op ops.Less)) is = refl
+part_stands Two (parts.Sized sized.Not) is = refl
+part_stands Two (parts.Sized sized.Assign) is = refl
+part_stands Two (parts.Sized sized.Deref) is = refl
+part_stands Two parts.Lit is = refl
+part_stands Two parts.Local is = refl
+part_stands Two parts.Share is = refl
+part_stands Two parts.Array is = refl
 
-abbrev pub part_table : Table PartWord word_text
-part_table = record { all = all_parts; apart = refl; place = part_place; stands = part_stands }
+-- the values of a list are so, where each of it is
+abbrev pub Each : (PartWord → Type 0) → List PartWord → Type 0
+Each Is [] = Unit {0}
+Each Is (v ∷ vs) = Is v × Each Is vs
+
+pub each_at : (Is : PartWord → Type 0) (vs : List PartWord) (k : ℕ) (v : PartWord) → Each Is vs → slice_get vs k ≡ Some v → Is v
+each_at Is [] k v each at = absurd cc
+each_at Is (w ∷ vs) zero v each at = let same : w ≡ v = cc at in subst Is same each.0
+each_at Is (w ∷ vs) (suc k) v each at = each_at Is vs k v each.1 at
+
+pub all_words : (format : Format) → Each (IsWordIn format) (all_parts format)
+all_words One = (tt, (tt, (tt, (tt, (tt, (tt, (tt, (tt, (tt, (tt, (tt, (tt, (tt, (tt, (tt, (tt, (tt, (tt, (tt, (tt, tt))))))))))))))))))))
+all_words Two = (tt, (tt, (tt, (tt, (tt, (tt, (tt, (tt, (tt, (tt, (tt, (tt, (tt, (tt, (tt, (tt, (tt, (tt, (tt, (tt, (tt, tt)))))))))))))))))))))
+
+abbrev pub part_table : (format : Format) → TableOf PartWord (IsWordIn format) word_text
+part_table format =
+    record {
+      all = all_parts format;
+      apart = apart format;
+      place = part_place;
+      stands = part_stands format;
+      among = λ k v at. each_at (IsWordIn format) (all_parts format) k v (all_words format) at;
+    }
+  where
+    apart : (format : Format) → is_apart (map word_text (all_parts format)) ≡ true
+    apart One = refl
+    apart Two = refl
+
+abbrev all_heads : List Format
+all_heads = One ∷ Two ∷ []
+
+abbrev head_place : Format → ℕ
+head_place One = 0
+head_place Two = 1
+
+pub head_stands : (format : Format) → slice_get all_heads (head_place format) ≡ Some format
+head_stands One = refl
+head_stands Two = refl
+
+abbrev pub head_table : Table Format head_text
+head_table = record { all = all_heads; apart = refl; place = head_place; stands = head_stands }
 
 abbrev type_place : TypeWord → ℕ
 type_place types.Com = 0
@@ -103,6 +175,24 @@ body_stands bodies.Exp = refl
 
 abbrev pub body_table : Table BodyWord body_word_text
 body_table = record { all = all_bodies; apart = refl; place = body_place; stands = body_stands }
+
+abbrev length_place : LengthWord → ℕ
+length_place lengths.Two = 0
+length_place lengths.Four = 1
+length_place lengths.Eight = 2
+length_place lengths.Sixteen = 3
+
+abbrev all_lengths : List LengthWord
+all_lengths = lengths.Two ∷ lengths.Four ∷ lengths.Eight ∷ lengths.Sixteen ∷ []
+
+pub length_stands : (v : LengthWord) → slice_get all_lengths (length_place v) ≡ Some v
+length_stands lengths.Two = refl
+length_stands lengths.Four = refl
+length_stands lengths.Eight = refl
+length_stands lengths.Sixteen = refl
+
+abbrev pub length_table : Table LengthWord length_text
+length_table = record { all = all_lengths; apart = refl; place = length_place; stands = length_stands }
 
 abbrev end_place : EndWord → ℕ
 end_place ends.Part = 0

@@ -2,17 +2,20 @@
 --
 -- Read first: Kinds. A firing takes one token, which is the request or the answer of a handshake, puts others, and changes
 -- the part's state, all at once. The rules of a kind are a table: a row for each token that a state takes.
-use Rattle.std.specs.Prelude.{ℕ, suc, ◌+◌, ◌*◌, Bool, false, List, [], ◌∷◌, ◌++◌, length, Option, Some, None, nat_eq, if◌then◌else◌}
+use Rattle.std.specs.Prelude.{ℕ, suc, ◌+◌, ◌*◌, Bool, false, List, [], ◌∷◌, ◌++◌, length, Option, Some, None, nat_eq, if◌then◌else◌, get_or, set, replicate}
 use Rattle.gos_types.specs.declared.shakes.Role.{Role}
 use Rattle.gos_types.specs.declared.shakes.Role.TheVariants.{Serve, Ask}
-use Rattle.gos_plan.specs.Kinds.{Part, Skip, Lit, Seq, Par, If, While, Op, Not, Assign, Deref, Local, Share, Contact, contacts_of}
+use Rattle.gos_plan.specs.Kinds.{Part, Skip, Lit, Seq, Par, If, While, Op, Not, Assign, Deref, Local, Array, Share, Contact, contacts_of}
 use Rattle.gos_model.specs.Terms.{result_of, complement}
 
--- what a part is at; `Rest` is idle, and a Share is always at rest
+-- What a part is at; `Rest` is idle, and a Share is always at rest. An array that is entered has numbers, in the order of their
+-- indexes: in `Cells` nobody waits for one of them, and in `Reading` and `WritingTo` it waits for an index.
 pub data Phase : Type 0 where
   Rest First Second Both LeftOnly RightOnly Test Branch Body Left Right Waiting Value Writing Active : Phase
+  Cells Reading WritingTo : (numbers : List ℕ) → Phase
 
--- The state of a part. The number is the one held, that of a variable, or a branch; an idle part may have any.
+-- The state of a part. The number is the one held, that of a variable, the last one that came to be written to an array, or a
+-- branch; an idle part may have any.
 pub record State : Type 0 where
   pub phase : Phase
   pub number : ℕ
@@ -108,6 +111,14 @@ rows (Local w u) Active n =
     row (Req 1) (at Active n) (λ v. put (Ans 1) n)
     ∷ record { takes = Req 2; next = λ a. at Active a; puts = λ a. put (Ans 2) 0 ∷ [] }
     ∷ row (Ans 0) (at Rest n) (put (Ans 3)) ∷ []
+rows (Array w k u) Rest n = row (Req 4) (at (Cells (replicate k 0)) n) (λ v. put (Req 0) 0) ∷ []
+rows (Array w k u) (Cells ns) n =
+    row (Req 2) (at (Reading ns) n) (λ v. put (Req 1) 0)
+    ∷ record { takes = Req 3; next = λ a. at (WritingTo ns) a; puts = λ a. put (Req 1) 0 ∷ [] }
+    ∷ row (Ans 0) (at Rest n) (put (Ans 4)) ∷ []
+rows (Array w k u) (Reading ns) n = row (Ans 1) (at (Cells ns) n) (λ j. put (Ans 2) (get_or ns j 0)) ∷ []
+rows (Array w k u) (WritingTo ns) a =
+    record { takes = Ans 1; next = λ j. at (Cells (set ns j a)) a; puts = λ j. put (Ans 3) 0 ∷ [] } ∷ []
 rows (Share t) Rest b = share_rows (contacts_of t) (length (contacts_of t)) 0 b
 rows k p n = []
 

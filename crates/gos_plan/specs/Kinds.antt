@@ -1,13 +1,15 @@
 -- The kinds of parts, and the handshakes of each.
 --
--- Read first: Handshakes of gos_types; of Terms of gos_model the operators. A part asks at some handshakes and serves at
--- the others. Handshakes are numbered as they stand here; the last one of most kinds is that by which the part is run.
+-- Read first: Handshakes of gos_types; of Terms of gos_model the operators, of Typing of gos_model what an array's index is.
+-- A part asks at some handshakes and serves at the others. Handshakes are numbered as they stand here; the last one of most
+-- kinds is that by which the part is run.
 use Rattle.std.specs.Prelude.{ℕ, List, [], ◌∷◌, ◌++◌, map}
 use Rattle.gos_types.specs.declared.shakes.Role.{Role}
 use Rattle.gos_types.specs.declared.shakes.Role.TheVariants.{Serve, Ask}
 use Rattle.gos_types.specs.Types.{Type'}
 use Rattle.gos_types.specs.Handshakes.{Shake, turned, handshakes_of}
 use Rattle.gos_model.specs.Terms.{Op as Operation, result_width}
+use Rattle.gos_model.specs.Typing.{index_width}
 
 -- A kind of parts. What a sequence, a choice or a block ends with has v bits; a command has 0.
 pub data Part : Type 0 where
@@ -22,6 +24,7 @@ pub data Part : Type 0 where
   Assign : (w : ℕ) → Part
   Deref : (w : ℕ) → Part
   Local : (w v : ℕ) → Part
+  Array : (w n v : ℕ) → Part
   Share : (t : Type') → Part
 
 -- a handshake at an end: who asks there, and the bits of its request and of its answer
@@ -65,4 +68,5 @@ part_contacts (Not w) = asks 0 w ∷ serves 0 w ∷ []
 part_contacts (Assign w) = asks 0 w ∷ asks w 0 ∷ serves 0 0 ∷ []
 part_contacts (Deref w) = asks 0 w ∷ serves 0 w ∷ []
 part_contacts (Local w v) = asks 0 v ∷ serves 0 w ∷ serves w 0 ∷ serves 0 v ∷ []
+part_contacts (Array w n v) = asks 0 v ∷ asks 0 (index_width n) ∷ serves 0 w ∷ serves w 0 ∷ serves 0 v ∷ []
 part_contacts (Share t) = other_side (contacts_of t) ++ (contacts_of t ++ contacts_of t)

@@ -22,7 +22,9 @@ pub mod Staying
 pub mod Joining
 pub mod SmallPlans
 pub mod SmallCalls
+pub mod SmallArrays
 pub mod TextItems
+pub mod Formats
 pub mod ObjectText
 pub mod ObjectItems
 pub mod ObjectFaults

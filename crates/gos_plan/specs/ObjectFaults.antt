@@ -1,14 +1,17 @@
 -- Which texts are read as a plan, and why the others are not.
 --
 -- Read first: ObjectText, ObjectItems, Faults. Places count bytes from 0.
-use Rattle.std.specs.Prelude.{◌≡◌, ℕ, ◌<◌, ◌≤◌, ◌⊎◌, List, length}
+use Rattle.std.specs.Prelude.{◌≡◌, ℕ, ◌<◌, ◌≤◌, ◌⊎◌, List, ◌++◌, length, codes, Some, slice_get}
 use Rattle.gos_lex.specs.Items.{StopsAt}
 use Rattle.gos_plan.specs.declared.fault.ObjectFault.{ObjectFault}
 use Rattle.gos_plan.specs.declared.fault.ObjectFault.TheVariants as faults
 use Rattle.gos_plan.specs.Plans.{Plan, IsRight}
 use Rattle.gos_plan.specs.Faults.{IsFirstWrong}
 use Rattle.gos_plan.specs.TextItems.{IsItem}
-use Rattle.gos_plan.specs.ObjectText.{text_of, IsWritable, IsSmallPlan}
+use Rattle.gos_plan.specs.declared.format.Format.{Format}
+use Rattle.gos_plan.specs.declared.format.Format.TheVariants.{One}
+use Rattle.gos_plan.specs.Kinds.{Array}
+use Rattle.gos_plan.specs.ObjectText.{text_in, IsWritable, IsSmallPlan}
 use Rattle.gos_plan.specs.ObjectItems.{whole}
 
 -- a text of the format, and the longest that is read
@@ -22,11 +25,12 @@ IsShort text = length text ≤ 4194304
 abbrev pub IsOverLimit : List ℕ → ℕ → Type 0
 IsOverLimit text at = whole.Over text 0 at
 
--- the text is that of these values, and all limits are kept
+-- the text is that of these values in a format, and all limits are kept
 pub record IsTextOfValues (text : List ℕ) (p : Plan) : Type 0 where
+  pub format : Format
   pub short : IsShort text
-  pub is : text ≡ text_of p
-  pub writable : IsWritable p
+  pub is : text ≡ text_in format p
+  pub writable : IsWritable format p
   pub small : IsSmallPlan p
 
 -- the text is that of this plan
@@ -41,9 +45,19 @@ HasFault text (faults.Limit at) = ((4194304 < length text) × (at ≡ 4194304)) 
 HasFault text (faults.Joint index) = (p : Plan) × IsTextOfValues text p × IsFirstWrong p index
 HasFault text faults.NoMemory = Unit {0}
 
--- a text is that of one plan at most, but for the order of parts and joints, which is the plan's
+-- a text is of one format at most, and that of one plan at most, but for the order of parts and joints, which is the plan's
 abbrev pub IsOnePlan : List ℕ → Type 0
-IsOnePlan text = (p other : Plan) → IsWritable p → IsWritable other → text ≡ text_of p → text ≡ text_of other → p ≡ other
+IsOnePlan text =
+    (format other_format : Format) (p other : Plan) → IsWritable format p → IsWritable other_format other
+    → text ≡ text_in format p → text ≡ text_in other_format other → (format ≡ other_format) × (p ≡ other)
+
+-- a text of format 1, with the 1 of its first line written as 2, is that of the same plan
+abbrev pub OneReadsAsTwo : Type 0
+OneReadsAsTwo = (rest : List ℕ) (p : Plan) → IsRead (codes "gosobj 1" ++ rest) p → IsRead (codes "gosobj 2" ++ rest) p
+
+-- an array has no text of format 1
+abbrev pub OneHasNoArrays : Type 0
+OneHasNoArrays = (w n v i : ℕ) (p : Plan) → slice_get p.parts i ≡ Some (Array w n v) → IsWritable One p → ⊥
 
 -- a text that is read has no fault but want of memory
 abbrev pub ReadHasNoFault : List ℕ → Type 0

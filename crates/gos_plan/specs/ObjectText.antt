@@ -1,12 +1,12 @@
 -- The text of a plan.
 --
--- Read first: Plans, Ranges. Words stand apart by one space, numbers are decimal, each line ends with a line feed, and
--- types are written in prefix order. Which plans have a text of the format, and which of those keep its limits.
+-- Read first: Plans, Formats. Words stand apart by one space, numbers are decimal, each line ends with a line feed, and
+-- types are written in prefix order. Which plans have a text of a format, and which of those keep
+-- its limits.
 use Rattle.std.specs.Prelude.{ℕ, zero, suc, ◌^◌, ◌<◌, ◌≤◌, List, [], ◌∷◌, ◌++◌, length, codes}
 use Rattle.std.specs.List.{AllByRecursion, flat_map}
 use Rattle.std.specs.Fmt.{decimal}
 use Rattle.gos_lex.specs.Names.{IsNameOrWord}
-use Rattle.gos_types.specs.declared.widths.TheConstants.{GREATEST_WIDTH}
 use Rattle.gos_types.specs.Types.{Type', Com, Exp, Var, Pair, Fun}
 use Rattle.gos_types.specs.Handshakes.{handshakes_of}
 use Rattle.gos_lex.specs.ItemTexts.{ended}
@@ -18,11 +18,13 @@ use Rattle.gos_plan.specs.declared.word.SizedWord.TheVariants as sized
 use Rattle.gos_plan.specs.declared.word.PartWord.{PartWord}
 use Rattle.gos_plan.specs.declared.word.PartWord.TheVariants as parts
 use Rattle.gos_plan.specs.declared.kinds.Op2.{Op2}
-use Rattle.gos_plan.specs.Kinds.{Part, Skip, Lit, Seq, Par, If, While, Op, Not, Assign, Deref, Local, Share}
+use Rattle.gos_plan.specs.Kinds.{Part, Skip, Lit, Seq, Par, If, While, Op, Not, Assign, Deref, Local, Array, Share}
 use Rattle.gos_model.specs.Terms.{Op as Operation, Add, Sub, And, Or, Xor, Eq, Less}
-use Rattle.gos_model.specs.Typing.{Imported}
+use Rattle.gos_model.specs.Typing.{Imported, IsLength}
 use Rattle.gos_plan.specs.Plans.{End, PartEnd, ImportEnd, ResultEnd, Joint, Plan}
-use Rattle.gos_types.specs.Widths.{IsWidth, HasWidths}
+use Rattle.gos_plan.specs.declared.format.Format.{Format}
+use Rattle.gos_plan.specs.declared.format.Format.TheVariants.{Two}
+use Rattle.gos_plan.specs.Formats.{greatest, HasArrays, IsWidthIn, HasWidthsIn, head_text}
 
 -- a number and the byte that ends it
 abbrev pub number_text : ℕ → ℕ → List ℕ
@@ -63,6 +65,7 @@ word_text (parts.Bare word) = bare_text word
 word_text (parts.Sized word) = sized_text word
 word_text parts.Lit = codes "lit "
 word_text parts.Local = codes "local "
+word_text parts.Array = codes "array "
 word_text parts.Share = codes "share "
 
 -- the operator of the program
@@ -93,6 +96,7 @@ word_of (Not w) = parts.Sized sized.Not
 word_of (Assign w) = parts.Sized sized.Assign
 word_of (Deref w) = parts.Sized sized.Deref
 word_of (Local w v) = parts.Local
+word_of (Array w n v) = parts.Array
 word_of (Share t) = parts.Share
 
 -- a number of bits, where there are some
@@ -100,7 +104,7 @@ abbrev pub bits_text : ℕ → List ℕ
 bits_text zero = []
 bits_text (suc v) = number_text 10 (suc v)
 
--- what a Local runs: a command, or an expression of v bits
+-- what a Local or an Array runs: a command, or an expression of v bits
 abbrev pub body_text : ℕ → List ℕ
 body_text zero = codes "com\n"
 body_text (suc v) = codes "exp " ++ number_text 10 (suc v)
@@ -118,6 +122,7 @@ operands_text (Not w) = number_text 10 w
 operands_text (Assign w) = number_text 10 w
 operands_text (Deref w) = number_text 10 w
 operands_text (Local w v) = number_text 32 w ++ body_text v
+operands_text (Array w n v) = number_text 32 w ++ (number_text 32 n ++ body_text v)
 operands_text (Share t) = type_text 10 t
 
 -- the line of a part
@@ -152,37 +157,42 @@ parts_text parts = codes "parts " ++ section_text Part part_text parts
 abbrev pub joints_text : List Joint → List ℕ
 joints_text joints = codes "joints " ++ section_text Joint joint_text joints
 
--- the whole text
-abbrev pub text_of : Plan → List ℕ
-text_of p =
-    codes "gosobj 1\nweight " ++ (number_text 10 p.weight
+-- the whole text in a format
+abbrev pub text_in : Format → Plan → List ℕ
+text_in format p =
+    head_text format ++ (number_text 10 p.weight
     ++ (imports_text p.imports
     ++ (codes "result " ++ (type_text 10 p.outcome
     ++ (parts_text p.parts
     ++ (joints_text p.joints
     ++ codes "end\n"))))))
 
+-- the text that is written, which is of format 2
+abbrev pub text_of : Plan → List ℕ
+text_of = text_in Two
+
 -- a number of a part, an import or a handshake, or a count
 abbrev pub IsNumber : ℕ → Type 0
 IsNumber n = n ≤ 4294967295
 
--- the numbers of a part are in their ranges
-abbrev pub IsWritablePart : Part → Type 0
-IsWritablePart Skip = Unit {0}
-IsWritablePart (Lit w k) = IsWidth w × (k < 2 ^ w)
-IsWritablePart (Seq v) = v ≤ GREATEST_WIDTH
-IsWritablePart Par = Unit {0}
-IsWritablePart (If v) = v ≤ GREATEST_WIDTH
-IsWritablePart While = Unit {0}
-IsWritablePart (Op op w) = IsWidth w
-IsWritablePart (Not w) = IsWidth w
-IsWritablePart (Assign w) = IsWidth w
-IsWritablePart (Deref w) = IsWidth w
-IsWritablePart (Local w v) = IsWidth w × (v ≤ GREATEST_WIDTH)
-IsWritablePart (Share t) = HasWidths t
+-- the numbers of a part are in the ranges of a format
+abbrev pub IsWritablePart : Format → Part → Type 0
+IsWritablePart format Skip = Unit {0}
+IsWritablePart format (Lit w k) = IsWidthIn format w × (k < 2 ^ w)
+IsWritablePart format (Seq v) = v ≤ greatest format
+IsWritablePart format Par = Unit {0}
+IsWritablePart format (If v) = v ≤ greatest format
+IsWritablePart format While = Unit {0}
+IsWritablePart format (Op op w) = IsWidthIn format w
+IsWritablePart format (Not w) = IsWidthIn format w
+IsWritablePart format (Assign w) = IsWidthIn format w
+IsWritablePart format (Deref w) = IsWidthIn format w
+IsWritablePart format (Local w v) = IsWidthIn format w × (v ≤ greatest format)
+IsWritablePart format (Array w n v) = HasArrays format × IsWidthIn format w × IsLength n × (v ≤ greatest format)
+IsWritablePart format (Share t) = HasWidthsIn format t
 
-abbrev pub IsWritableImport : Imported → Type 0
-IsWritableImport i = IsNameOrWord i.name × HasWidths i.ty
+abbrev pub IsWritableImport : Format → Imported → Type 0
+IsWritableImport format i = IsNameOrWord i.name × HasWidthsIn format i.ty
 
 abbrev pub IsWritableEnd : End → Type 0
 IsWritableEnd (PartEnd i h) = IsNumber i × IsNumber h
@@ -192,12 +202,12 @@ IsWritableEnd (ResultEnd h) = IsNumber h
 abbrev pub IsWritableJoint : Joint → Type 0
 IsWritableJoint j = IsWritableEnd j.asking × IsWritableEnd j.serving
 
--- a plan with a text of the format
-pub record IsWritable (p : Plan) : Type 0 where
+-- a plan with a text of a format
+pub record IsWritable (format : Format) (p : Plan) : Type 0 where
   pub weight : (1 ≤ p.weight) × (p.weight ≤ 8192)
-  pub imports : IsNumber (length p.imports) × AllByRecursion IsWritableImport p.imports
-  pub outcome : HasWidths p.outcome
-  pub parts : IsNumber (length p.parts) × AllByRecursion IsWritablePart p.parts
+  pub imports : IsNumber (length p.imports) × AllByRecursion (IsWritableImport format) p.imports
+  pub outcome : HasWidthsIn format p.outcome
+  pub parts : IsNumber (length p.parts) × AllByRecursion (IsWritablePart format) p.parts
   pub joints : IsNumber (length p.joints) × AllByRecursion IsWritableJoint p.joints
 
 -- a type has at most 64 handshakes

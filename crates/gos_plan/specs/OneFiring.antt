@@ -1,5 +1,6 @@
 -- How clauses see the states, slots and tokens of this crate's slow program: as those of Firing.
-use Rattle.std.specs.Prelude.{ℕ, List, [], ◌∷◌, Option, None, Some}
+use Rattle.std.specs.Prelude.{ℕ, List, [], ◌∷◌, Option, None, Some, take}
+use Rattle.gos_plan.specs.declared.firing.Numbers as declared_numbers
 use Rattle.gos_plan.specs.declared.firing.Phase as declared_phase
 use Rattle.gos_plan.specs.declared.firing.Phase.TheVariants as phases
 use Rattle.gos_plan.specs.declared.firing.State as declared_state
@@ -9,7 +10,11 @@ use Rattle.gos_plan.specs.declared.firing.Token as declared_token
 use Rattle.gos_plan.specs.declared.firing.Puts as declared_puts
 use Rattle.gos_plan.specs.declared.firing.Puts.TheVariants as puts
 use Rattle.gos_plan.specs.declared.firing.Firing as declared_firing
-use Rattle.gos_plan.specs.Firing.{Phase, Rest, First, Second, Both, LeftOnly, RightOnly, Test, Branch, Body, Left, Right, Waiting, Value, Writing, Active, State, Slot, Req, Ans, Token, Row}
+use Rattle.gos_plan.specs.Firing.{Phase, Rest, First, Second, Both, LeftOnly, RightOnly, Test, Branch, Body, Left, Right, Waiting, Value, Writing, Active, Cells, Reading, WritingTo, State, Slot, Req, Ans, Token, Row}
+
+-- the numbers of an array
+abbrev pub list_of : declared_numbers.Numbers → List ℕ
+list_of ns = take ns.length ns.held
 
 abbrev pub phase_of : declared_phase.Phase → Phase
 phase_of phases.Rest = Rest
@@ -27,6 +32,9 @@ phase_of phases.Waiting = Waiting
 phase_of phases.Value = Value
 phase_of phases.Writing = Writing
 phase_of phases.Active = Active
+phase_of (phases.Cells ns) = Cells (list_of ns)
+phase_of (phases.Reading ns) = Reading (list_of ns)
+phase_of (phases.WritingTo ns) = WritingTo (list_of ns)
 
 abbrev pub state_of : declared_state.State → State
 state_of q = record { phase = phase_of q.phase; number = q.number }

@@ -10,7 +10,7 @@ use Rattle.gos_plan.specs.declared.plan.End as declared_end
 use Rattle.gos_plan.specs.declared.plan.End.TheVariants as ends
 use Rattle.gos_plan.specs.declared.plan.Joint as declared_joint
 use Rattle.gos_plan.specs.declared.plan.PlanImport as declared_import
-use Rattle.gos_plan.specs.Kinds.{Part, Skip, Lit, Seq, Par, If, While, Op, Not, Assign, Deref, Local, Share}
+use Rattle.gos_plan.specs.Kinds.{Part, Skip, Lit, Seq, Par, If, While, Op, Not, Assign, Deref, Local, Array, Share}
 use Rattle.gos_model.specs.Terms.{Op as Operation, Add, Sub, And, Or, Xor, Eq, Less}
 use Rattle.gos_model.specs.Typing.{Imported}
 use Rattle.gos_plan.specs.Plans.{End, PartEnd, ImportEnd, ResultEnd, Joint, Plan}
@@ -40,6 +40,7 @@ part_of (kinds.Not w) = Not w
 part_of (kinds.Assign w) = Assign w
 part_of (kinds.Deref w) = Deref w
 part_of (kinds.Local w v) = Local w v
+part_of (kinds.Array w n v) = Array w n v
 part_of (kinds.Share t) = Share (type_of t)
 
 -- an end of a joint

@@ -1,11 +1,12 @@
 -- Each token has at most the bits of its handshake, and each number that a part works with those of its width.
 --
 -- Read first: Tokens, Ranges. So a token without bits is 0.
-use Rattle.std.specs.Prelude.{◌≡◌, ℕ, ◌^◌, ◌<◌, List, Some, All, slice_get, map}
+use Rattle.std.specs.Prelude.{◌≡◌, ℕ, ◌^◌, ◌<◌, List, Some, All, length, slice_get, map}
+use Rattle.std.specs.List.{AllByRecursion}
 use Rattle.gos_types.specs.Events.{Direction}
 use Rattle.gos_plan.specs.declared.kinds.Kind.{Kind}
-use Rattle.gos_plan.specs.Kinds.{Part, Lit, If, Op, Local, Contact}
-use Rattle.gos_plan.specs.Firing.{Branch, Right, Active, State}
+use Rattle.gos_plan.specs.Kinds.{Part, Lit, If, Op, Local, Array, Contact}
+use Rattle.gos_plan.specs.Firing.{Phase, Branch, Right, Active, Cells, Reading, WritingTo, State}
 use Rattle.gos_plan.specs.Plans.{End, Plan, IsRight, contact_at}
 use Rattle.gos_plan.specs.Tokens.{Tokens, Element, bits_of, token_at, Runs, IsIdle}
 use Rattle.gos_plan.specs.Seen.{part_of}
@@ -16,11 +17,22 @@ abbrev pub LiteralFits : Part → Type 0
 LiteralFits (Lit w k) = k < 2 ^ w
 LiteralFits k = Unit {0}
 
--- so has the number that a part works with: a branch, an operand, or that of a variable
+-- so have the numbers of an array, which has k of them
+abbrev pub NumbersFit : ℕ → ℕ → List ℕ → Type 0
+NumbersFit w k ns = (length ns ≡ k) × AllByRecursion (λ n. n < 2 ^ w) ns
+
+abbrev pub ArrayFits : ℕ → ℕ → Phase → ℕ → Type 0
+ArrayFits w k (Cells ns) a = NumbersFit w k ns
+ArrayFits w k (Reading ns) a = NumbersFit w k ns
+ArrayFits w k (WritingTo ns) a = NumbersFit w k ns × (a < 2 ^ w)
+ArrayFits w k p a = Unit {0}
+
+-- so has the number that a part works with: a branch, an operand, that of a variable, or one to be written
 abbrev pub NumberFits : Part → State → Type 0
 NumberFits (If v) q = q.phase ≡ Branch → q.number < 2
 NumberFits (Op op w) q = q.phase ≡ Right → q.number < 2 ^ w
 NumberFits (Local w v) q = q.phase ≡ Active → q.number < 2 ^ w
+NumberFits (Array w k v) q = ArrayFits w k q.phase q.number
 NumberFits k q = Unit {0}
 
 -- a token that lies at an end has at most the bits of the handshake there

@@ -7,7 +7,7 @@ ghost use Rattle.gos_plan.specs.Seen.{part_of, operation_of};
 ghost use Rattle.gos_plan.specs.Contacts.{held_contact};
 ghost use Rattle.gos_plan.specs.inner.Turned.{as_seen, contact_for};
 
-use crate::kinds::{Kind, Op2};
+use crate::kinds::{Kind, Op2, index_bits};
 use gos_types::{Handshake, NoMemory, Role, Ty, handshakes};
 use std::alloc::Global;
 
@@ -82,6 +82,14 @@ pub fn part_contacts(alloc: Global, kind: &Kind) -> Result<Vec<Contact>, NoMemor
             let body = asks(0, *v);
             let answer = serves(0, *v);
             listed(alloc, &[body, serves(0, *w), serves(*w, 0), answer])
+        }
+        Kind::Array { w, n, v } => {
+            let body = asks(0, *v);
+            let index = asks(0, index_bits(*n));
+            listed(
+                alloc,
+                &[body, index, serves(0, *w), serves(*w, 0), serves(0, *v)],
+            )
         }
         Kind::Share(ty) => share_contacts(alloc, ty),
     }

@@ -1,5 +1,5 @@
 // What a part does with a token: a plain, slow program over the table of rows, with which tests fire plans.
-ghost use Rattle.std.specs.Prelude.{◌≡◌, ◌^◌, ◌<◌, ◌≤◌, ℕ, [], ◌∷◌, Some, IfOk, length, map, nat_eq, if◌then◌else◌};
+ghost use Rattle.std.specs.Prelude.{◌≡◌, ◌^◌, ◌<◌, ◌≤◌, ℕ, [], ◌∷◌, Some, IfOk, length, map, nat_eq, if◌then◌else◌, get_or, set, replicate};
 ghost use Rattle.gos_types.specs.Types.{type_of};
 ghost use Rattle.gos_plan.specs.Kinds as kinds;
 ghost use Rattle.gos_plan.specs.Kinds.{contact};
@@ -7,13 +7,24 @@ ghost use Rattle.gos_model.specs.Terms.{result_of, complement};
 ghost use Rattle.gos_plan.specs.Seen.{operation_of, part_of};
 ghost use Rattle.gos_plan.specs.Ranges.{IsSmall, IsInRange, HasBranch};
 ghost use Rattle.gos_plan.specs.Firing.{Rest, Both, Body, Req, Ans, at, put, firing, same_slot, row_for, shared_rows, share_rows};
-ghost use Rattle.gos_plan.specs.OneFiring.{phase_of, state_of, slot_of, fired_of, at_value};
+ghost use Rattle.gos_plan.specs.OneFiring.{list_of, phase_of, state_of, slot_of, fired_of, at_value};
 
 use crate::kinds::{Kind, Op2};
 use gos_types::{Handshake, NoMemory, Role, Ty, difference, greatest, handshakes, sum};
 use std::alloc::Global;
 
-/// What a part is at. `Rest` is idle, and a Share is always at rest.
+// The most numbers of an array.
+const MOST_NUMBERS: u64 = 16;
+
+/// The numbers of an array, in the order of their indexes: the first `length` of these.
+#[derive(Debug, Clone, Copy, PartialEq, Eq)]
+pub struct Numbers {
+    pub length: usize,
+    pub held: [u64; 16],
+}
+
+/// What a part is at. `Rest` is idle, and a Share is always at rest. The last three are of an array that was entered: it waits for
+/// no index in `Cells`, for that of a read in `Reading`, and for that of a write in `WritingTo`.
 #[derive(Debug, Clone, Copy, PartialEq, Eq)]
 pub enum Phase {
     Rest,
@@ -31,9 +42,13 @@ pub enum Phase {
     Value,
     Writing,
     Active,
+    Cells(Numbers),
+    Reading(Numbers),
+    WritingTo(Numbers),
 }
 
-/// The state of a part. The number is the one held, that of a variable, or a branch.
+/// The state of a part. The number is the one held, that of a variable, the last one that came to be written to an array, or a
+/// branch.
 #[derive(Debug, Clone, Copy, PartialEq, Eq)]
 pub struct State {
     pub phase: Phase,
@@ -94,6 +109,7 @@ pub fn fire(
         Kind::Assign { w: _ } => assign(state, slot, value),
         Kind::Deref { w: _ } => deref(state, slot, value),
         Kind::Local { w: _, v: _ } => local(state, slot, value),
+        Kind::Array { w: _, n, v: _ } => array(*n, state, slot, value),
         Kind::Share(ty) => share(alloc, ty, state, slot, value)?,
     };
     Ok(firing)
@@ -356,6 +372,80 @@ fn local(q: State, slot: Slot, value: u64) -> Option<Firing>
             to(Phase::Rest, q.number, Slot::Ans(3), value)
         }
         _ => None,
+    }
+}
+
+// What an array of n numbers does.
+fn array(n: u32, q: State, slot: Slot, value: u64) -> Option<Firing>
+    requires length { n ≤ 16 }
+    ensures { (w v : ℕ) → fired_of result ≡ at_value value (firing (kinds.Array w n v) (state_of q) (slot_of slot)) }
+{
+    match q.phase {
+        Phase::Rest if same(Slot::Req(4), slot) => {
+            to(Phase::Cells(zeros(n)), q.number, Slot::Req(0), 0)
+        }
+        Phase::Cells(ns) if same(Slot::Req(2), slot) => {
+            to(Phase::Reading(ns), q.number, Slot::Req(1), 0)
+        }
+        Phase::Cells(ns) if same(Slot::Req(3), slot) => {
+            to(Phase::WritingTo(ns), value, Slot::Req(1), 0)
+        }
+        Phase::Cells(_) if same(Slot::Ans(0), slot) => {
+            to(Phase::Rest, q.number, Slot::Ans(4), value)
+        }
+        Phase::Reading(ns) if same(Slot::Ans(1), slot) => {
+            to(
+                Phase::Cells(ns),
+                q.number,
+                Slot::Ans(2),
+                number_at(ns, value),
+            )
+        }
+        Phase::WritingTo(ns) if same(Slot::Ans(1), slot) => {
+            to(
+                Phase::Cells(written(ns, value, q.number)),
+                q.number,
+                Slot::Ans(3),
+                0,
+            )
+        }
+        _ => None,
+    }
+}
+
+// The numbers of an array that is entered.
+fn zeros(n: u32) -> Numbers
+    requires { n ≤ 16 }
+    ensures { list_of result ≡ replicate n 0 }
+{
+    Numbers {
+        length: n as usize,
+        held: [0; 16],
+    }
+}
+
+// The number at an index, or 0 where there is none.
+fn number_at(ns: Numbers, index: u64) -> u64
+    ensures { result ≡ get_or (list_of ns) index 0 }
+{
+    if index < ns.length as u64 && index < MOST_NUMBERS {
+        ns.held[index as usize]
+    } else {
+        0
+    }
+}
+
+// The numbers with this one at an index, where there is one.
+fn written(ns: Numbers, index: u64, number: u64) -> Numbers
+    ensures { list_of result ≡ set (list_of ns) index number }
+{
+    let mut held = ns.held;
+    if index < MOST_NUMBERS {
+        held[index as usize] = number;
+    }
+    Numbers {
+        length: ns.length,
+        held,
     }
 }
 

@@ -12,7 +12,17 @@ ghost use Rattle.gos_plan.specs.TokenBits.{AllStayFit, IdleFits, LiteralsFit};
 ghost use Rattle.gos_plan.specs.Joining.{JoiningIsOne};
 ghost use Rattle.gos_plan.specs.SmallPlans.{SkipRunsInOrder, HasteIsNoOrder, SkipIsJoined};
 ghost use Rattle.gos_plan.specs.SmallCalls.{CallRunsInOrder, UnaskedIsNoOrder};
-ghost use Rattle.gos_plan.specs.ObjectFaults.{IsOnePlan, ReadHasNoFault, HasOneFault};
+ghost use Rattle.gos_plan.specs.SmallArrays.{
+  EntryClears,
+  AccessAsks,
+  ReadIsAtIndex,
+  WriteIsAtIndex,
+  OneAtATime,
+  ServesItsType,
+  LengthsAreKept,
+  SmallNumbersFit,
+};
+ghost use Rattle.gos_plan.specs.ObjectFaults.{IsOnePlan, ReadHasNoFault, HasOneFault, OneReadsAsTwo, OneHasNoArrays};
 
 /// The handshakes of a product and of a function are those of their sides, one behind the other and none lost, where
 /// the argument of a function is seen from its other side. The other side of the other side is the side itself.
@@ -88,10 +98,29 @@ pub fn small_calls()
     ensures unasked { UnaskedIsNoOrder }
 {}
 
-/// A text is that of one plan at most, so that `read_object` and `print_object` are inverse to one another. It has
+/// An array of two numbers has zeros at each entry. An access asks for its index, and is answered when that is there; meanwhile it
+/// takes nothing else. An array serves the handshakes of its type. Its length is 2, 4, 8 or 16, its numbers have its bits.
+pub fn small_arrays()
+    ensures entry { EntryClears }
+    ensures asks { AccessAsks }
+    ensures read { ReadIsAtIndex }
+    ensures write { WriteIsAtIndex }
+    ensures one { OneAtATime }
+    ensures serves { ServesItsType }
+    ensures lengths { LengthsAreKept }
+    ensures numbers { SmallNumbersFit }
+{}
+
+/// A text is of one format and that of one plan at most, so that `read_object` and `print_object` are inverse to one another. It has
 /// one answer at most: it is read, or it has one fault.
 pub fn one_answer()
     ensures plan { (text : List ℕ) → IsOnePlan text }
     ensures read { (text : List ℕ) → ReadHasNoFault text }
     ensures fault { (text : List ℕ) → HasOneFault text }
+{}
+
+/// A text of format 1 reads as the same plan where the 1 of its first line is written as 2. An array has no text of format 1.
+pub fn two_formats()
+    ensures reads { OneReadsAsTwo }
+    ensures arrays { OneHasNoArrays }
 {}

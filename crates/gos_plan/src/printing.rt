@@ -28,14 +28,14 @@ use crate::plan::{End, Joint, Plan, PlanImport};
 use gos_types::{NoMemory, Ty};
 use std::alloc::Global;
 
-/// The text of a plan. `Err` is want of memory alone.
+/// The text of a plan, in format 2. `Err` is want of memory alone.
 ///
 /// `read_object` is the way back, where the weight and the counts are within the limits of the text.
 pub fn print_object(alloc: Global, plan: &Plan) -> Result<Vec<u8>, NoMemory>
     ensures { IfOk result (λ text. text.items ≡ text_of (plan_of plan.now)) }
 {
     let mut text = Vec::new(alloc);
-    add_number(alloc, &mut text, b"gosobj 1\nweight ", plan.weight(), b'\n')?;
+    add_number(alloc, &mut text, b"gosobj 2\nweight ", plan.weight(), b'\n')?;
     add_imports(alloc, &mut text, plan.imports())?;
     text.extend_from_slice(b"result ")?;
     add_type(alloc, &mut text, plan.result(), b'\n')?;
@@ -167,6 +167,7 @@ fn part_word(kind: &Kind) -> &'static [u8]
         Kind::Assign { w: _ } => b"assign ",
         Kind::Deref { w: _ } => b"deref ",
         Kind::Local { w: _, v: _ } => b"local ",
+        Kind::Array { w: _, n: _, v: _ } => b"array ",
         Kind::Share(_) => b"share ",
     }
 }
@@ -207,11 +208,16 @@ fn add_operands(alloc: Global, text: &mut Vec<u8>, kind: &Kind) -> Result<(), No
             add_number(alloc, text, b"", u64::from(*w), b' ')?;
             add_body(alloc, text, *v)
         }
+        Kind::Array { w, n, v } => {
+            add_number(alloc, text, b"", u64::from(*w), b' ')?;
+            add_number(alloc, text, b"", u64::from(*n), b' ')?;
+            add_body(alloc, text, *v)
+        }
         Kind::Share(ty) => add_type(alloc, text, ty, b'\n'),
     }
 }
 
-// Adds what a Local runs: a command where there are no bits.
+// Adds what a Local or an Array runs: a command where there are no bits.
 fn add_body(alloc: Global, text: &mut Vec<u8>, v: u32) -> Result<(), NoMemory>
     ensures { OnOk result (text.new.items ≡ text.old.items ++ body_text v) }
 {

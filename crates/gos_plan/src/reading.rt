@@ -9,11 +9,13 @@ ghost use Rattle.gos_plan.specs.ObjectFaults.{IsShort, IsTextOfValues, IsRead, H
 ghost use Rattle.gos_plan.specs.inner.Values.{seen_values};
 
 use crate::fault::ObjectFault;
+use crate::format::Format;
 use crate::items::{exact, number};
 use crate::kinds::Kind;
 use crate::plan::{Joint, Plan, PlanImport, make};
 use crate::sections::{imports, joints, parts};
 use crate::types::ty;
+use crate::word::head_word;
 use gos_lex::Cursor;
 use gos_types::Ty;
 use std::alloc::Global;
@@ -26,6 +28,7 @@ const MOST_WEIGHT: u64 = 8_192;
 // What a text says, before its joints are judged.
 #[derive(Drop)]
 pub(crate) struct Values {
+    pub format: Format,
     pub weight: u64,
     pub imports: Vec<PlanImport>,
     pub outcome: Ty,
@@ -33,7 +36,7 @@ pub(crate) struct Values {
     pub joints: Vec<Joint>,
 }
 
-/// The plan that this text is the text of. `print_object` is the way back.
+/// The plan that this text is the text of, in either format. `print_object` is the way back, by format 2.
 ///
 /// `Joint` is answered only where the text is whole. A text above the limit takes no memory.
 pub fn read_object(alloc: Global, text: &[u8]) -> Result<Plan, ObjectFault>
@@ -69,16 +72,17 @@ fn whole_text(alloc: Global, text: &[u8]) -> Result<Values, ObjectFault>
 fn sections(alloc: Global, text: &[u8], cursor: &mut Cursor) -> Result<Values, ObjectFault>
     requires { cursor.now.text ≡ text.now }
     ensures in_range { IfOk result (λ v. All IsInRange v.parts.items) }
-    ensures read { IfOk result (λ v. Reads whole cursor.old cursor.new (plan_of (seen_values v))) }
+    ensures read { IfOk result (λ v. Reads whole cursor.old cursor.new (v.format, plan_of (seen_values v))) }
     ensures wrong { IfErr result (Fails whole cursor.old.text cursor.old.at) }
 {
-    let weight = weight(cursor)?;
-    let imports = imports(alloc, text, cursor)?;
-    let outcome = outcome(alloc, cursor)?;
-    let parts = parts(alloc, cursor)?;
+    let (format, weight) = weight(cursor)?;
+    let imports = imports(alloc, text, cursor, format)?;
+    let outcome = outcome(alloc, cursor, format)?;
+    let parts = parts(alloc, cursor, format)?;
     let joints = joints(alloc, cursor)?;
     exact(cursor, b"end\n")?;
     Ok(Values {
+        format,
         weight,
         imports,
         outcome,
@@ -88,19 +92,20 @@ fn sections(alloc: Global, text: &[u8], cursor: &mut Cursor) -> Result<Values, O
 }
 
 // Passes the first line, and the weight.
-fn weight(cursor: &mut Cursor) -> Result<u64, ObjectFault>
-    ensures read { IfOk result (λ w. Reads weight_line cursor.old cursor.new (tt, w)) }
+fn weight(cursor: &mut Cursor) -> Result<(Format, u64), ObjectFault>
+    ensures read { IfOk result (λ v. Reads weight_line cursor.old cursor.new (v.0, v.1)) }
     ensures wrong { IfErr result (Fails weight_line cursor.old.text cursor.old.at) }
 {
-    exact(cursor, b"gosobj 1\nweight ")?;
-    number(cursor, 1, MOST_WEIGHT, b'\n')
+    let format = head_word(cursor)?;
+    let weight = number(cursor, 1, MOST_WEIGHT, b'\n')?;
+    Ok((format, weight))
 }
 
 // Passes the type of the result.
-fn outcome(alloc: Global, cursor: &mut Cursor) -> Result<Ty, ObjectFault>
-    ensures read { IfOk result (λ t. Reads result_line cursor.old cursor.new (tt, type_of t)) }
-    ensures wrong { IfErr result (Fails result_line cursor.old.text cursor.old.at) }
+fn outcome(alloc: Global, cursor: &mut Cursor, format: Format) -> Result<Ty, ObjectFault>
+    ensures read { IfOk result (λ t. Reads (result_line format) cursor.old cursor.new (tt, type_of t)) }
+    ensures wrong { IfErr result (Fails (result_line format) cursor.old.text cursor.old.at) }
 {
     exact(cursor, b"result ")?;
-    ty(alloc, cursor, b'\n', 0)
+    ty(alloc, cursor, format, b'\n', 0)
 }

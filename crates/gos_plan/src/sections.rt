@@ -6,6 +6,7 @@ ghost use Rattle.gos_plan.specs.TextItems.{Reads, Fails, count_up_to, lines};
 ghost use Rattle.gos_plan.specs.ObjectItems.{import_line, part_line, joint_line, imports_section, parts_section, joints_section};
 
 use crate::fault::ObjectFault;
+use crate::format::Format;
 use crate::import_line::import;
 use crate::items::{LAST_NUMBER, exact};
 use crate::joint_line::joint;
@@ -27,25 +28,26 @@ pub fn imports(
     alloc: Global,
     text: &[u8],
     cursor: &mut Cursor,
+    format: Format,
 ) -> Result<Vec<PlanImport>, ObjectFault>
     requires { cursor.now.text ≡ text.now }
-    ensures read { IfOk result (λ imports. Reads imports_section cursor.old cursor.new (tt, map import_of imports.items)) }
-    ensures wrong { IfErr result (Fails imports_section cursor.old.text cursor.old.at) }
+    ensures read { IfOk result (λ imports. Reads (imports_section format) cursor.old cursor.new (tt, map import_of imports.items)) }
+    ensures wrong { IfErr result (Fails (imports_section format) cursor.old.text cursor.old.at) }
 {
     exact(cursor, b"imports ")?;
     let n = count(cursor, MOST_IMPORTS)?;
-    import_lines(alloc, text, cursor, n)
+    import_lines(alloc, text, cursor, format, n)
 }
 
 /// Passes the parts.
-pub fn parts(alloc: Global, cursor: &mut Cursor) -> Result<Vec<Kind>, ObjectFault>
+pub fn parts(alloc: Global, cursor: &mut Cursor, format: Format) -> Result<Vec<Kind>, ObjectFault>
     ensures in_range { IfOk result (λ parts. All IsInRange parts.items) }
-    ensures read { IfOk result (λ parts. Reads parts_section cursor.old cursor.new (tt, map part_of parts.items)) }
-    ensures wrong { IfErr result (Fails parts_section cursor.old.text cursor.old.at) }
+    ensures read { IfOk result (λ parts. Reads (parts_section format) cursor.old cursor.new (tt, map part_of parts.items)) }
+    ensures wrong { IfErr result (Fails (parts_section format) cursor.old.text cursor.old.at) }
 {
     exact(cursor, b"parts ")?;
     let n = count(cursor, MOST_PARTS)?;
-    part_lines(alloc, cursor, n)
+    part_lines(alloc, cursor, format, n)
 }
 
 /// Passes the joints.
@@ -82,34 +84,40 @@ fn import_lines(
     alloc: Global,
     text: &[u8],
     cursor: &mut Cursor,
+    format: Format,
     count: u64,
 ) -> Result<Vec<PlanImport>, ObjectFault>
     requires text { cursor.now.text ≡ text.now }
     requires within { cursor.now.at ≤ length cursor.now.text }
-    ensures read { IfOk result (λ imports. Reads (lines import_line count) cursor.old cursor.new (map import_of imports.items)) }
-    ensures wrong { IfErr result (Fails (lines import_line count) cursor.old.text cursor.old.at) }
+    ensures read { IfOk result (λ imports. Reads (lines (import_line format) count) cursor.old cursor.new (map import_of imports.items)) }
+    ensures wrong { IfErr result (Fails (lines (import_line format) count) cursor.old.text cursor.old.at) }
 {
     let mut imports = Vec::new(alloc);
     let mut left = count;
     while left > 0 {
         left -= 1;
-        imports.push(import(alloc, text, cursor)?)?;
+        imports.push(import(alloc, text, cursor, format)?)?;
     }
     Ok(imports)
 }
 
 // Passes so many lines of parts.
-fn part_lines(alloc: Global, cursor: &mut Cursor, count: u64) -> Result<Vec<Kind>, ObjectFault>
+fn part_lines(
+    alloc: Global,
+    cursor: &mut Cursor,
+    format: Format,
+    count: u64,
+) -> Result<Vec<Kind>, ObjectFault>
     requires { cursor.now.at ≤ length cursor.now.text }
     ensures in_range { IfOk result (λ parts. All IsInRange parts.items) }
-    ensures read { IfOk result (λ parts. Reads (lines part_line count) cursor.old cursor.new (map part_of parts.items)) }
-    ensures wrong { IfErr result (Fails (lines part_line count) cursor.old.text cursor.old.at) }
+    ensures read { IfOk result (λ parts. Reads (lines (part_line format) count) cursor.old cursor.new (map part_of parts.items)) }
+    ensures wrong { IfErr result (Fails (lines (part_line format) count) cursor.old.text cursor.old.at) }
 {
     let mut parts = Vec::new(alloc);
     let mut left = count;
     while left > 0 {
         left -= 1;
-        parts.push(part(alloc, cursor)?)?;
+        parts.push(part(alloc, cursor, format)?)?;
     }
     Ok(parts)
 }

@@ -7,7 +7,8 @@ ghost use Rattle.gos_plan.specs.TextItems.{Reads, Fails};
 ghost use Rattle.gos_plan.specs.ObjectItems.{shakes, least, type_word, typed, forks, sized_by, type_operands};
 
 use crate::fault::ObjectFault;
-use crate::items::{LAST_WIDTH, exact, number};
+use crate::format::Format;
+use crate::items::{exact, width_in};
 use crate::word::{TypeWord, type_letters};
 use gos_lex::Cursor;
 use gos_types::{Ty, count};
@@ -19,14 +20,20 @@ const MOST_SHAKES: u32 = 64;
 /// Passes a type and the byte that ends it. The words before it have so many handshakes, counted with one for each operand
 /// that comes behind it.
 #[cycle(ty)]
-pub fn ty(alloc: Global, cursor: &mut Cursor, end: u8, before: u32) -> Result<Ty, ObjectFault>
+pub fn ty(
+    alloc: Global,
+    cursor: &mut Cursor,
+    format: Format,
+    end: u8,
+    before: u32,
+) -> Result<Ty, ObjectFault>
     requires room { before < 64 }
     requires no_digit { is_ascii_digit end ≡ false }
-    ensures read { IfOk result (λ t. Reads (typed end before) cursor.old cursor.new (type_of t)) }
-    ensures wrong { IfErr result (Fails (typed end before) cursor.old.text cursor.old.at) }
+    ensures read { IfOk result (λ t. Reads (typed format end before) cursor.old cursor.new (type_of t)) }
+    ensures wrong { IfErr result (Fails (typed format end before) cursor.old.text cursor.old.at) }
 {
     let word = type_word(cursor, before)?;
-    operands(alloc, cursor, word, end, before)
+    operands(alloc, cursor, format, word, end, before)
 }
 
 // Passes the word of a type.
@@ -60,14 +67,15 @@ fn least(word: TypeWord) -> u32
 fn operands(
     alloc: Global,
     cursor: &mut Cursor,
+    format: Format,
     word: TypeWord,
     end: u8,
     before: u32,
 ) -> Result<Ty, ObjectFault>
     requires room { before + least word ≤ 64 }
     requires no_digit { is_ascii_digit end ≡ false }
-    ensures read { IfOk result (λ t. Reads (type_operands end before word) cursor.old cursor.new (type_of t)) }
-    ensures wrong { IfErr result (Fails (type_operands end before word) cursor.old.text cursor.old.at) }
+    ensures read { IfOk result (λ t. Reads (type_operands format end before word) cursor.old cursor.new (type_of t)) }
+    ensures wrong { IfErr result (Fails (type_operands format end before word) cursor.old.text cursor.old.at) }
 {
     match word {
         TypeWord::Com => {
@@ -75,46 +83,52 @@ fn operands(
             Ok(Ty::Com)
         }
         TypeWord::Exp => {
-            let w = width(cursor, end)?;
+            let w = width(cursor, format, end)?;
             Ok(Ty::Exp(w))
         }
         TypeWord::Var => {
-            let w = width(cursor, end)?;
+            let w = width(cursor, format, end)?;
             Ok(Ty::Var(w))
         }
         TypeWord::Pair => {
-            let (a, b) = fork(alloc, cursor, end, before)?;
+            let (a, b) = fork(alloc, cursor, format, end, before)?;
             Ok(Ty::Pair(Box::new(alloc, a)?, Box::new(alloc, b)?))
         }
         TypeWord::Fun => {
-            let (a, b) = fork(alloc, cursor, end, before)?;
+            let (a, b) = fork(alloc, cursor, format, end, before)?;
             Ok(Ty::Fun(Box::new(alloc, a)?, Box::new(alloc, b)?))
         }
     }
 }
 
 // Passes a space, a width, and the byte that ends it.
-fn width(cursor: &mut Cursor, end: u8) -> Result<u32, ObjectFault>
+fn width(cursor: &mut Cursor, format: Format, end: u8) -> Result<u32, ObjectFault>
     requires { is_ascii_digit end ≡ false }
-    ensures read { IfOk result (λ w. Reads (sized_by end) cursor.old cursor.new (tt, w)) }
-    ensures wrong { IfErr result (Fails (sized_by end) cursor.old.text cursor.old.at) }
+    ensures read { IfOk result (λ w. Reads (sized_by format end) cursor.old cursor.new (tt, w)) }
+    ensures wrong { IfErr result (Fails (sized_by format end) cursor.old.text cursor.old.at) }
 {
     exact(cursor, b" ")?;
-    let w = number(cursor, 1, LAST_WIDTH, end)?;
-    Ok(w as u32)
+    let w = width_in(cursor, format, end)?;
+    Ok(w)
 }
 
 // Passes a space and two types.
 #[cycle(ty)]
-fn fork(alloc: Global, cursor: &mut Cursor, end: u8, before: u32) -> Result<(Ty, Ty), ObjectFault>
+fn fork(
+    alloc: Global,
+    cursor: &mut Cursor,
+    format: Format,
+    end: u8,
+    before: u32,
+) -> Result<(Ty, Ty), ObjectFault>
     requires room { before + 2 ≤ 64 }
     requires no_digit { is_ascii_digit end ≡ false }
-    ensures read { IfOk result (λ two. Reads (forks end before) cursor.old cursor.new (tt, (type_of two.0, type_of two.1))) }
-    ensures wrong { IfErr result (Fails (forks end before) cursor.old.text cursor.old.at) }
+    ensures read { IfOk result (λ two. Reads (forks format end before) cursor.old cursor.new (tt, (type_of two.0, type_of two.1))) }
+    ensures wrong { IfErr result (Fails (forks format end before) cursor.old.text cursor.old.at) }
 {
     exact(cursor, b" ")?;
-    let a = ty(alloc, cursor, b' ', before + 1)?;
-    let b = ty(alloc, cursor, end, behind(before, &a))?;
+    let a = ty(alloc, cursor, format, b' ', before + 1)?;
+    let b = ty(alloc, cursor, format, end, behind(before, &a))?;
     Ok((a, b))
 }
 

@@ -247,3 +247,59 @@ fn a_loop_with_a_variable_fires(rt: HostRuntime) -> Result<(), Fail> {
     }
     Ok(())
 }
+
+// Fires an array of four numbers, and tells the one token that it puts.
+fn stepped(
+    alloc: Global,
+    state: &mut State,
+    slot: Slot,
+    value: u64,
+) -> Result<Option<Token>, NoMemory> {
+    let kind = Kind::Array { w: 8, n: 4, v: 0 };
+    match fire(alloc, &kind, *state, slot, value)? {
+        Some(
+            Firing {
+                next,
+                puts: Puts::One(token),
+            },
+        ) => {
+            *state = next;
+            Ok(Some(token))
+        }
+        _ => Ok(None),
+    }
+}
+
+// A write at 2 is read there and nowhere else, the last of two at one index counts, and each entry begins with zeros.
+#[test]
+fn an_array_answers_what_was_written(rt: HostRuntime) -> Result<(), Fail> {
+    let alloc = rt.alloc();
+    let mut state = State {
+        phase: Phase::Rest,
+        number: 9,
+    };
+    let steps = [
+        (Slot::Req(4), 0, Slot::Req(0), 0),
+        (Slot::Req(3), 7, Slot::Req(1), 0),
+        (Slot::Ans(1), 2, Slot::Ans(3), 0),
+        (Slot::Req(3), 5, Slot::Req(1), 0),
+        (Slot::Ans(1), 2, Slot::Ans(3), 0),
+        (Slot::Req(2), 0, Slot::Req(1), 0),
+        (Slot::Ans(1), 2, Slot::Ans(2), 5),
+        (Slot::Req(2), 0, Slot::Req(1), 0),
+        (Slot::Ans(1), 3, Slot::Ans(2), 0),
+        (Slot::Ans(0), 0, Slot::Ans(4), 0),
+        (Slot::Req(4), 0, Slot::Req(0), 0),
+        (Slot::Req(2), 0, Slot::Req(1), 0),
+        (Slot::Ans(1), 2, Slot::Ans(2), 0),
+    ];
+    for (takes, value, slot, answer) in steps {
+        let put = Token {
+            slot,
+            value: answer,
+        };
+        assert!(rt; stepped(alloc, &mut state, takes, value)? == Some(put));
+    }
+    assert!(rt; stepped(alloc, &mut state, Slot::Ans(1), 0)?.is_none());
+    Ok(())
+}

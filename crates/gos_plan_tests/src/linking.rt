@@ -151,80 +151,80 @@ fn is_linked(
 }
 
 const SKIP: &str =
-    "gosobj 1\nweight 5\nimports 0\nresult com\nparts 1\nskip\njoints 1\nr.0 p0.0\nend\n";
+    "gosobj 2\nweight 5\nimports 0\nresult com\nparts 1\nskip\njoints 1\nr.0 p0.0\nend\n";
 
 const BOTH: &str =
-    "gosobj 1\nweight 17\nimports 2\nimport a com\nimport b com\nresult com\nparts 1\nseq\njoints 3\nr.0 p0.2\np0.0 i0.0\np0.1 i1.0\nend\n";
+    "gosobj 2\nweight 17\nimports 2\nimport a com\nimport b com\nresult com\nparts 1\nseq\njoints 3\nr.0 p0.2\np0.0 i0.0\np0.1 i1.0\nend\n";
 
 const SAME: &str =
-    "gosobj 1\nweight 17\nimports 2\nimport a com\nimport a com\nresult com\nparts 1\nseq\njoints 3\nr.0 p0.2\np0.0 i0.0\np0.1 i1.0\nend\n";
+    "gosobj 2\nweight 17\nimports 2\nimport a com\nimport a com\nresult com\nparts 1\nseq\njoints 3\nr.0 p0.2\np0.0 i0.0\np0.1 i1.0\nend\n";
 
 const PASS: &str =
-    "gosobj 1\nweight 7\nimports 1\nimport g fun com com\nresult fun com com\nparts 0\njoints 2\ni0.0 r.0\nr.1 i0.1\nend\n";
+    "gosobj 2\nweight 7\nimports 1\nimport g fun com com\nresult fun com com\nparts 0\njoints 2\ni0.0 r.0\nr.1 i0.1\nend\n";
 
 const CALL: &str =
-    "gosobj 1\nweight 9\nimports 1\nimport f fun com com\nresult com\nparts 1\nskip\njoints 2\nr.0 i0.1\ni0.0 p0.0\nend\n";
+    "gosobj 2\nweight 9\nimports 1\nimport f fun com com\nresult com\nparts 1\nskip\njoints 2\nr.0 i0.1\ni0.0 p0.0\nend\n";
 
 const GIVE: &str =
-    "gosobj 1\nweight 5\nimports 1\nimport a com\nresult com\nparts 0\njoints 1\nr.0 i0.0\nend\n";
+    "gosobj 2\nweight 5\nimports 1\nimport a com\nresult com\nparts 0\njoints 1\nr.0 i0.0\nend\n";
 
 const READ: &str =
-    "gosobj 1\nweight 2\nimports 1\nimport e exp 4\nresult exp 4\nparts 0\njoints 1\nr.0 i0.0\nend\n";
+    "gosobj 2\nweight 2\nimports 1\nimport e exp 4\nresult exp 4\nparts 0\njoints 1\nr.0 i0.0\nend\n";
 
 const THREE: &str =
-    "gosobj 1\nweight 5\nimports 0\nresult exp 8\nparts 1\nlit 8 3\njoints 1\nr.0 p0.0\nend\n";
+    "gosobj 2\nweight 5\nimports 0\nresult exp 8\nparts 1\nlit 8 3\njoints 1\nr.0 p0.0\nend\n";
 
 const HELD: &str =
-    "gosobj 1\nweight 5\nimports 1\nimport v var 8\nresult var 8\nparts 0\njoints 2\nr.0 i0.0\nr.1 i0.1\nend\n";
+    "gosobj 2\nweight 5\nimports 1\nimport v var 8\nresult var 8\nparts 0\njoints 2\nr.0 i0.0\nr.1 i0.1\nend\n";
 
 const HEAVY: &str =
-    "gosobj 1\nweight 8192\nimports 1\nimport a com\nresult com\nparts 0\njoints 1\nr.0 i0.0\nend\n";
+    "gosobj 2\nweight 8192\nimports 1\nimport a com\nresult com\nparts 0\njoints 1\nr.0 i0.0\nend\n";
 
 const RING: &str =
-    "gosobj 1\nweight 5\nimports 1\nimport f fun com com\nresult com\nparts 1\nskip\njoints 2\nr.0 p0.0\ni0.0 i0.1\nend\n";
+    "gosobj 2\nweight 5\nimports 1\nimport f fun com com\nresult com\nparts 1\nskip\njoints 2\nr.0 p0.0\ni0.0 i0.1\nend\n";
 
 const TURN: &str =
-    "gosobj 1\nweight 5\nimports 0\nresult fun com com\nparts 0\njoints 1\nr.1 r.0\nend\n";
+    "gosobj 2\nweight 5\nimports 0\nresult fun com com\nparts 0\njoints 1\nr.1 r.0\nend\n";
 
 // Lines of builds, their objects, and the object of each linked plan.
 const JOINED: [(&str, &[&str], &str); 6] = [
     (
         "inst main m mo\ninst k k ko\nbind main b k\n",
         &[BOTH, SKIP],
-        "gosobj 1\nweight 22\nimports 1\nimport a com\nresult com\nparts 2\nseq\nskip\njoints 3\nr.0 p0.2\np0.0 i0.0\np0.1 p1.0\nend\n",
+        "gosobj 2\nweight 22\nimports 1\nimport a com\nresult com\nparts 2\nseq\nskip\njoints 3\nr.0 p0.2\np0.0 i0.0\np0.1 p1.0\nend\n",
     ),
     // A line means the first of two imports of one name.
     (
         "inst main m mo\ninst k k ko\nbind main a k\n",
         &[SAME, SKIP],
-        "gosobj 1\nweight 22\nimports 1\nimport a com\nresult com\nparts 2\nseq\nskip\njoints 3\nr.0 p0.2\np0.0 p1.0\np0.1 i0.0\nend\n",
+        "gosobj 2\nweight 22\nimports 1\nimport a com\nresult com\nparts 2\nseq\nskip\njoints 3\nr.0 p0.2\np0.0 p1.0\np0.1 i0.0\nend\n",
     ),
     // Two instances of one source, each with an import of the other's name.
     (
         "inst main m mo\ninst k s ko\ninst l s lo\ninst x s xo\ninst y s yo\nbind main a k\nbind main b l\nbind k a x\nbind l a y\n",
         &[BOTH, GIVE, GIVE, SKIP, SKIP],
-        "gosobj 1\nweight 37\nimports 0\nresult com\nparts 3\nseq\nskip\nskip\njoints 3\nr.0 p0.2\np0.0 p1.0\np0.1 p2.0\nend\n",
+        "gosobj 2\nweight 37\nimports 0\nresult com\nparts 3\nseq\nskip\nskip\njoints 3\nr.0 p0.2\np0.0 p1.0\np0.1 p2.0\nend\n",
     ),
     // A chain of three functions, passed through one another.
     (
         "inst p p po\ninst main m mo\ninst q q qo\ninst t t to\nbind main f p\nbind p g q\nbind q g t\n",
         &[PASS, CALL, PASS, TURN],
-        "gosobj 1\nweight 28\nimports 0\nresult com\nparts 1\nskip\njoints 1\nr.0 p0.0\nend\n",
+        "gosobj 2\nweight 28\nimports 0\nresult com\nparts 1\nskip\njoints 1\nr.0 p0.0\nend\n",
     ),
     // A ring of joints without ends.
     (
         "inst main m mo\ninst k k ko\nbind main f k\n",
         &[RING, TURN],
-        "gosobj 1\nweight 10\nimports 0\nresult com\nparts 1\nskip\njoints 1\nr.0 p0.0\nend\n",
+        "gosobj 2\nweight 10\nimports 0\nresult com\nparts 1\nskip\njoints 1\nr.0 p0.0\nend\n",
     ),
     // The order of the instances decides the order of the imports.
     (
         "inst k k ko\ninst main m mo\nbind main a k\n",
         &[
-            "gosobj 1\nweight 5\nimports 1\nimport c com\nresult com\nparts 0\njoints 1\nr.0 i0.0\nend\n",
+            "gosobj 2\nweight 5\nimports 1\nimport c com\nresult com\nparts 0\njoints 1\nr.0 i0.0\nend\n",
             BOTH,
         ],
-        "gosobj 1\nweight 22\nimports 2\nimport c com\nimport b com\nresult com\nparts 1\nseq\njoints 3\nr.0 p0.2\np0.0 i0.0\np0.1 i1.0\nend\n",
+        "gosobj 2\nweight 22\nimports 2\nimport c com\nimport b com\nresult com\nparts 1\nseq\njoints 3\nr.0 p0.2\np0.0 i0.0\np0.1 i1.0\nend\n",
     ),
 ];
 
@@ -293,7 +293,7 @@ const FAULTS: [(&str, &[&str], &str); 17] = [
     (
         "inst main m mo\n",
         &[
-            "gosobj 1\nweight 5\nimports 1\nimport main com\nresult com\nparts 0\njoints 1\nr.0 i0.0\nend\n",
+            "gosobj 2\nweight 5\nimports 1\nimport main com\nresult com\nparts 0\njoints 1\nr.0 i0.0\nend\n",
         ],
         "B9 main in main and main",
     ),
@@ -398,7 +398,7 @@ fn push_share(object: &mut String) -> Result<(), AllocError> {
 
 // An object of 997 of these.
 fn large_object(alloc: Global) -> Result<String, AllocError> {
-    let head = "gosobj 1\nweight 5\nimports 1\nimport a com\nresult com\nparts 997\n";
+    let head = "gosobj 2\nweight 5\nimports 1\nimport a com\nresult com\nparts 997\n";
     let mut object = String::from_str(alloc, head)?;
     for _ in 0..997 {
         push_share(&mut object)?;
@@ -440,7 +440,7 @@ fn lines_of_64(alloc: Global) -> Result<String, AllocError> {
 
 // The object of 64 imports, each of which a part of its own asks.
 fn object_of_64(alloc: Global) -> Result<String, AllocError> {
-    let mut object = String::from_str(alloc, "gosobj 1\nweight 100\nimports 64\n")?;
+    let mut object = String::from_str(alloc, "gosobj 2\nweight 100\nimports 64\n")?;
     for k in 0..64_u32 {
         let import = format!(in alloc; "import i{k} com\n")?;
         object.push_str(&import)?;

@@ -2,11 +2,11 @@ mod DotLemmas
 mod TableLemmas
 mod EntryLemmas
 mod TraceLemmas
-mod GuardLemmas
-mod PortLemmas
+pub mod GuardLemmas
+pub mod PortLemmas
 mod OrderLemmas
 mod SlotLemmas
-mod EventLemmas
+pub mod EventLemmas
 mod ShownLemmas
 mod RangeLemmas
 mod SeeLemmas

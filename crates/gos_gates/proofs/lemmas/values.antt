@@ -1,2 +1,3 @@
 pub mod BodyAnswerLemmas
 pub mod LocalLemmas
+pub mod ArrayLemmas

@@ -1,4 +1,4 @@
--- Gates at a fixed place: the cells are numbered from 0 on, the pulses that come in from 100 on, and the values from 200 on.
+-- Gates at a fixed place: the cells are numbered from 0 on, the pulses that come in from 1000 on, and the values from 2000 on.
 --
 -- Read first: Gates and Paths. Gates that know nets by name alone are the same at every other place, but for
 -- these numbers.
@@ -9,11 +9,11 @@ use Rattle.gos_gates.specs.Paths.{with_renamed}
 
 -- the nets that come in there
 abbrev pub fixed : Incoming
-fixed = record { pulse = λ h. 100 + h; value = λ h. 200 + h }
+fixed = record { pulse = λ h. 1000 + h; value = λ h. 2000 + h }
 
 -- the net that stands for a number, where the cells begin at net b and these nets come in
 abbrev pub placed : ℕ → Incoming → ℕ → ℕ
-placed b i n = if nat_lt n 100 then b + n else (if nat_lt n 200 then i.pulse (n - 100) else i.value (n - 200))
+placed b i n = if nat_lt n 1000 then b + n else (if nat_lt n 2000 then i.pulse (n - 1000) else i.value (n - 2000))
 
 abbrev pub placed_out : ℕ → Outgoing → Outgoing
 placed_out b (Bare p) = Bare (b + p)

@@ -24,10 +24,10 @@ leads cells these (suc steps) n = flows (λ m. these m || leads cells these step
 
 -- the nets that come in at a handshake, and its pulse alone
 abbrev pub comes_in : ℕ → ℕ → Bool
-comes_in h n = nat_eq n (100 + h) || nat_eq n (200 + h)
+comes_in h n = nat_eq n (1000 + h) || nat_eq n (2000 + h)
 
 abbrev pub is_pulse : ℕ → ℕ → Bool
-is_pulse h n = nat_eq n (100 + h)
+is_pulse h n = nat_eq n (1000 + h)
 
 -- From cell k on, each cell with a pin that starts or was found was found itself, if it is no register.
 abbrev pub is_closed : (ℕ → Bool) → (ℕ → Bool) → ℕ → List Cell → Bool
@@ -54,11 +54,11 @@ is_some_bits (suc n) = true
 -- the number is one of a cell, or of what comes in at a handshake, as a value where it has bits
 abbrev pub is_known : List Contact → ℕ → ℕ → Bool
 is_known contacts size n =
-    if nat_lt n 100
+    if nat_lt n 1000
     then nat_lt n size
-    else (if nat_lt n 200
-    then nat_lt (n - 100) (length contacts)
-    else nat_lt (n - 200) (length contacts) && is_some_bits (incoming_bits contacts (n - 200)))
+    else (if nat_lt n 2000
+    then nat_lt (n - 1000) (length contacts)
+    else nat_lt (n - 2000) (length contacts) && is_some_bits (incoming_bits contacts (n - 2000)))
 
 -- all numbers below this one
 abbrev pub all_below : ℕ → (ℕ → Bool) → Bool
@@ -79,8 +79,8 @@ is_followed cells from = is_closed (comes_in from) (leads cells (comes_in from) 
 -- What `passing` says of gates at the fixed place is so. There are few enough that no number stands for two nets.
 abbrev pub is_told : List Contact → List Cell → List Outgoing → List ℕ → (ℕ → ℕ → Bool) → Bool
 is_told contacts cells outs late passing =
-    nat_le (length cells) 100
-    && (nat_le (length contacts) 100
+    nat_le (length cells) 1000
+    && (nat_le (length contacts) 1000
     && (list_all (λ c. list_all (is_known contacts (length cells)) (pins c.gate)) cells
     && all_below (length contacts)
     (λ from. is_followed cells from && all_below (length contacts) (λ to. is_so cells outs late passing from to))))

@@ -1,2 +1,3 @@
 -- What stands between this crate's own functions and lemmas, and no public clause cites.
 pub mod Sizes
+pub mod Seen

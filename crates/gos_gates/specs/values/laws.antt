@@ -10,5 +10,12 @@ pub mod DerefKept
 pub mod StoredKept
 pub mod LocalKept
 pub mod LocalFit
+pub mod WordsKept
+pub mod ArrayFires
+pub mod ArrayNext
+pub mod ArrayKept
+pub mod ArrayOrder
+pub mod ArrayWidths
+pub mod ArrayFit
 pub mod Kept
 pub mod Paths

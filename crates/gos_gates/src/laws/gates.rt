@@ -1,6 +1,7 @@
 // The laws of gates hold of small ones, and refuse others.
 ghost use Rattle.gos_gates.specs.SmallGates.{SkipGates, SharedGates};
 ghost use Rattle.gos_gates.specs.values.Stored.{StoredIsKept, KeptIsNotStored};
+ghost use Rattle.gos_gates.specs.values.Words.{WordsAreKept, EachIndexPicksNoNumber};
 ghost use Rattle.gos_gates.specs.SmallPaths.{SkipPaths, SkipIsNoDeadEnd, SharedAnswersPass, SharedRequestsWait, SharedAnswersAreNotLate, CountingIsNotNamed};
 
 /// The gates of Skip keep the law, and so do those of a Share of a command.
@@ -24,4 +25,11 @@ pub fn small_paths()
 pub fn stored_numbers()
     ensures kept { StoredIsKept }
     ensures cleared { KeptIsNotStored }
+{}
+
+/// The words of an array pick the number at the index; an entry clears all numbers, and a write sets the one at the index. What
+/// picks a number at each index is no such word.
+pub fn array_words()
+    ensures kept { WordsAreKept }
+    ensures each_index { EachIndexPicksNoNumber }
 {}

@@ -8,7 +8,8 @@ ghost use Rattle.gos_gates.specs.Cells.{bit};
 ghost use Rattle.gos_gates.specs.Wires.{incoming_of};
 ghost use Rattle.gos_gates.specs.share.Blocks.{block_cells, block_size, kept_net};
 ghost use Rattle.gos_gates.specs.share.Share.{row_cells, share_cells};
-ghost use Rattle.gos_gates.specs.share.inner.Seen.{all_of, blocks_size, Places};
+ghost use Rattle.gos_gates.specs.Cells.{Places};
+ghost use Rattle.gos_gates.specs.share.inner.Seen.{all_of, blocks_size};
 
 use crate::Wire;
 use crate::cells::{bit, own};

@@ -7,14 +7,15 @@ ghost use Rattle.gos_gates.specs.values.Ranges.{IsArith};
 ghost use Rattle.gos_gates.specs.values.laws.Kept.{arith_gates};
 ghost use Rattle.gos_gates.specs.values.laws.Paths.{arith_paths};
 
-use crate::values::{assign, body_answer, deref, lit, local, not, op};
+use crate::values::{array, assign, body_answer, deref, lit, local, not, op};
 use crate::{Macro, Wire};
 use gos_netlist::{NetId, NetPool, Region};
 use gos_plan::Kind;
 use std::marker::Model;
 
-/// A literal, an operator, a complement, an assignment, a read or a local variable. Its widths are 1 to 32, or 0 for
-/// the body of a local variable that is a command. A literal has at most its bits.
+/// A literal, an operator, a complement, an assignment, a read, a local variable or an array. Its widths are 1 to 32, or 0
+/// for the body of a local variable or of an array that is a command. A literal has at most its bits, and an array 2, 4, 8 or
+/// 16 numbers.
 #[derive(Debug, Drop)]
 pub struct Arith(pub Kind);
 
@@ -56,6 +57,7 @@ impl Macro for Arith {
             Kind::Not { .. } | Kind::Assign { .. } => 4,
             Kind::Op { .. } => 7,
             Kind::Local { v, .. } => local::size(*v),
+            Kind::Array { n, v, .. } => array::size(*n, *v),
             _ => unreachable!(),
         }
     }
@@ -68,6 +70,7 @@ impl Macro for Arith {
             Kind::Assign { .. } => assign::outs(base.0, wires),
             Kind::Deref { .. } => deref::outs(base.0, wires),
             Kind::Local { v, .. } => local::outs(*v, base.0, wires),
+            Kind::Array { n, v, .. } => array::outs(*n, *v, base.0, wires),
             _ => unreachable!(),
         }
     }
@@ -86,6 +89,7 @@ impl Macro for Arith {
                     pool.place(region, body_answer::number(*v, wires));
                 }
             }
+            Kind::Array { w, n, v } => array::place(*w, *n, *v, wires, pool, region),
             _ => unreachable!(),
         }
     }
@@ -110,6 +114,7 @@ fn leads(kind: &Kind, from: u32, to: u32) -> bool
         Kind::Not { .. } | Kind::Deref { .. } => matches!((from, to), (0, 1) | (1, 0)),
         Kind::Assign { .. } => matches!((from, to), (0, 1) | (1, 2) | (2, 0)),
         Kind::Local { .. } => matches!((from, to), (0, 3) | (1, 1)),
+        Kind::Array { .. } => (from, to) == (0, 4),
         _ => unreachable!(),
     }
 }

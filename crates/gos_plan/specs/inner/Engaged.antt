@@ -4,8 +4,8 @@
 -- part that serves from the request's taking to its answer. A part's phase tells which of its handshakes are.
 use Rattle.std.specs.Prelude.{ℕ, Bool, List, [], ◌∷◌, Option, None, Some, false, nat_eq, if◌then◌else◌}
 use Rattle.std.specs.List.{list_any}
-use Rattle.gos_plan.specs.Kinds.{Part, Seq, Par, If, While, Op, Not, Assign, Deref, Local}
-use Rattle.gos_plan.specs.Firing.{Phase, First, Second, Both, LeftOnly, RightOnly, Test, Branch, Body, Left, Right, Waiting, Value, Writing, Active, State}
+use Rattle.gos_plan.specs.Kinds.{Part, Seq, Par, If, While, Op, Not, Assign, Deref, Local, Array}
+use Rattle.gos_plan.specs.Firing.{Phase, First, Second, Both, LeftOnly, RightOnly, Test, Branch, Body, Left, Right, Waiting, Value, Writing, Active, Cells, Reading, WritingTo, State}
 
 -- the handshakes of a part that are under way in a phase with a number; a Share is not spoken of
 abbrev pub under_way : Part → Phase → ℕ → List ℕ
@@ -25,6 +25,9 @@ under_way (Assign w) Value n = 0 ∷ 2 ∷ []
 under_way (Assign w) Writing n = 1 ∷ 2 ∷ []
 under_way (Deref w) Waiting n = 0 ∷ 1 ∷ []
 under_way (Local w v) Active n = 0 ∷ 3 ∷ []
+under_way (Array w k v) (Cells ns) n = 0 ∷ 4 ∷ []
+under_way (Array w k v) (Reading ns) n = 0 ∷ 1 ∷ 2 ∷ 4 ∷ []
+under_way (Array w k v) (WritingTo ns) n = 0 ∷ 1 ∷ 3 ∷ 4 ∷ []
 under_way k p n = []
 
 -- whether a handshake of a part is under way

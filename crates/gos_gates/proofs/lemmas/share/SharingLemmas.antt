@@ -18,7 +18,9 @@ use Rattle.gos_gates.specs.share.Share.{place_behind, row_cells, share_cells, so
 use Rattle.gos_gates.specs.share.laws.Comes.{sides}
 use Rattle.gos_gates.specs.share.laws.Row.{block_length}
 use Rattle.gos_gates.specs.share.laws.Keeping.{source_length, caller_length}
-use Rattle.gos_gates.specs.share.inner.Seen.{all_of, side_outs, blocks_size, Places}
+use Rattle.gos_gates.specs.Cells.{Places}
+use Rattle.gos_gates.specs.share.inner.Seen.{all_of, side_outs, blocks_size}
+use Rattle.gos_gates.proofs.lemmas.WireLemmas.{hold_both}
 use Rattle.gos_gates.proofs.lemmas.share.SideLemmas.{blocks_few}
 use Rattle.gos_gates.specs.declared.share.shared.Side.TheVariants as the
 
@@ -61,12 +63,6 @@ first_side b n (k ∷ ks) = ap (λ (os : List Outgoing). caller_out 0 k.role k.a
 pub second_side : (b n : ℕ) (ks : List Contact) → side_outs the.Second b n ks ≡ caller_outs 1 b n ks
 second_side b n [] = refl
 second_side b n (k ∷ ks) = ap (λ (os : List Outgoing). caller_out 1 k.role k.ask_bits k.answer_bits b n ∷ os) (second_side b (n + block_size k.role k.ask_bits k.answer_bits) ks)
-
-hold_both : (os qs : List Outgoing) (xs ys : List Wire) → HoldNets os xs → HoldNets qs ys → HoldNets (os ++ qs) (xs ++ ys)
-hold_both [] qs [] ys first second = second
-hold_both [] qs (x ∷ xs) ys first second = absurd first
-hold_both (o ∷ os) qs [] ys first second = absurd first
-hold_both (o ∷ os) qs (x ∷ xs) ys first second = (first.0, hold_both os qs xs ys first.1 second)
 
 pub three_sides : (b : ℕ) (ks : List Contact) (xs ys zs : List Wire) → HoldNets (side_outs the.Source b 3 ks) xs → HoldNets (side_outs the.First b 3 ks) ys
     → HoldNets (side_outs the.Second b 3 ks) zs

@@ -66,8 +66,8 @@ passes contacts cs from found b i apart there p (Pulse h low small is_pulse) m i
     by_reach : IsIn contacts i from m ⊎ IsFound b cs found m → m ≡ i.pulse h → (comes_in from p || found p) ≡ true
     by_reach (inl into) net =
         let same = apart.shakes h from m small there (inl net) into in
-        let here : p ≡ 100 + from = is_pulse ∙ ap (λ (n : ℕ). 100 + n) same in
-        ap (λ (t : Bool). (t || nat_eq p (200 + from)) || found p) (eq-eqb p (100 + from) here)
+        let here : p ≡ 1000 + from = is_pulse ∙ ap (λ (n : ℕ). 1000 + n) same in
+        ap (λ (t : Bool). (t || nat_eq p (2000 + from)) || found p) (eq-eqb p (1000 + from) here)
     by_reach (inr (k, at, inside, holds)) net =
         absurd (elim (apart.outside h m small (inl net)) [ inl before ↦ omega (arith, before, at) | inr behind ↦ omega (arith, behind, at, inside) ])
 passes contacts cs from found b i apart there p (Value h small some is_value) m is reached =
@@ -81,8 +81,8 @@ passes contacts cs from found b i apart there p (Value h small some is_value) m 
     by_reach : IsIn contacts i from m ⊎ IsFound b cs found m → m ≡ i.value h → (comes_in from p || found p) ≡ true
     by_reach (inl into) net =
         let same = apart.shakes h from m small there (inr (some, net)) into in
-        let here : p ≡ 200 + from = is_value ∙ ap (λ (n : ℕ). 200 + n) same in
-        or_second (nat_eq p (100 + from)) (nat_eq p (200 + from)) (eq-eqb p (200 + from) here)
+        let here : p ≡ 2000 + from = is_value ∙ ap (λ (n : ℕ). 2000 + n) same in
+        or_second (nat_eq p (1000 + from)) (nat_eq p (2000 + from)) (eq-eqb p (2000 + from) here)
     by_reach (inr (k, at, inside, holds)) net =
         absurd
         (elim (apart.outside h m small (inr (some, net))) [ inl before ↦ omega (arith, before, at) | inr behind ↦ omega (arith, behind, at, inside) ])

@@ -15,51 +15,51 @@ use Rattle.gos_gates.specs.path_search.laws.Elements.{both_true, mapped_in, mapp
 
 -- what a number at the fixed place stands for
 pub data Stands (contacts : List Contact) (size n : ℕ) : Type 0 where
-  Own : n < 100 → n < size → Stands contacts size n
-  Pulse : (h : ℕ) → h < 100 → h < length contacts → n ≡ 100 + h → Stands contacts size n
-  Value : (h : ℕ) → h < length contacts → 0 < incoming_bits contacts h → n ≡ 200 + h → Stands contacts size n
+  Own : n < 1000 → n < size → Stands contacts size n
+  Pulse : (h : ℕ) → h < 1000 → h < length contacts → n ≡ 1000 + h → Stands contacts size n
+  Value : (h : ℕ) → h < length contacts → 0 < incoming_bits contacts h → n ≡ 2000 + h → Stands contacts size n
 
 some_bits : (n : ℕ) → is_some_bits n ≡ true → 0 < n
 some_bits zero some = absurd (cc some)
 some_bits (suc n) some = omega arith
 
 pub stands : (contacts : List Contact) (size n : ℕ) → is_known contacts size n ≡ true → Stands contacts size n
-stands contacts size n known = by_own (nat_lt n 100) refl known
+stands contacts size n known = by_own (nat_lt n 1000) refl known
   where
     past : Bool
-    past = nat_lt (n - 200) (length contacts) && is_some_bits (incoming_bits contacts (n - 200))
+    past = nat_lt (n - 2000) (length contacts) && is_some_bits (incoming_bits contacts (n - 2000))
 
-    by_pulse : 100 ≤ n → (t : Bool) → nat_lt n 200 ≡ t → (if t then nat_lt (n - 100) (length contacts) else past) ≡ true → Stands contacts size n
+    by_pulse : 1000 ≤ n → (t : Bool) → nat_lt n 2000 ≡ t → (if t then nat_lt (n - 1000) (length contacts) else past) ≡ true → Stands contacts size n
     by_pulse high true low known =
-        let below = ltb-true n 200 low in
-        Pulse (n - 100) (omega (arith, high, below)) (ltb-true (n - 100) (length contacts) known) (omega (arith, high))
+        let below = ltb-true n 2000 low in
+        Pulse (n - 1000) (omega (arith, high, below)) (ltb-true (n - 1000) (length contacts) known) (omega (arith, high))
     by_pulse high false beyond known =
-        let both = both_true (nat_lt (n - 200) (length contacts)) (is_some_bits (incoming_bits contacts (n - 200))) known in
-        let above = ltb-false n 200 beyond in
-        Value (n - 200) (ltb-true (n - 200) (length contacts) both.0) (some_bits (incoming_bits contacts (n - 200)) both.1) (omega (arith, above))
+        let both = both_true (nat_lt (n - 2000) (length contacts)) (is_some_bits (incoming_bits contacts (n - 2000))) known in
+        let above = ltb-false n 2000 beyond in
+        Value (n - 2000) (ltb-true (n - 2000) (length contacts) both.0) (some_bits (incoming_bits contacts (n - 2000)) both.1) (omega (arith, above))
 
-    by_own : (t : Bool) → nat_lt n 100 ≡ t
-        → (if t then nat_lt n size else (if nat_lt n 200 then nat_lt (n - 100) (length contacts) else past)) ≡ true → Stands contacts size n
-    by_own true low known = Own (ltb-true n 100 low) (ltb-true n size known)
-    by_own false high known = by_pulse (ltb-false n 100 high) (nat_lt n 200) refl known
+    by_own : (t : Bool) → nat_lt n 1000 ≡ t
+        → (if t then nat_lt n size else (if nat_lt n 2000 then nat_lt (n - 1000) (length contacts) else past)) ≡ true → Stands contacts size n
+    by_own true low known = Own (ltb-true n 1000 low) (ltb-true n size known)
+    by_own false high known = by_pulse (ltb-false n 1000 high) (nat_lt n 2000) refl known
 
 -- where it stands at another place
-pub placed_own : (b : ℕ) (i : Incoming) (n : ℕ) → n < 100 → placed b i n ≡ b + n
-placed_own b i n low = ap (λ (t : Bool). if t then b + n else (if nat_lt n 200 then i.pulse (n - 100) else i.value (n - 200))) (lt-ltb n 100 low)
+pub placed_own : (b : ℕ) (i : Incoming) (n : ℕ) → n < 1000 → placed b i n ≡ b + n
+placed_own b i n low = ap (λ (t : Bool). if t then b + n else (if nat_lt n 2000 then i.pulse (n - 1000) else i.value (n - 2000))) (lt-ltb n 1000 low)
 
-pub placed_pulse : (b : ℕ) (i : Incoming) (h : ℕ) → h < 100 → placed b i (100 + h) ≡ i.pulse h
+pub placed_pulse : (b : ℕ) (i : Incoming) (h : ℕ) → h < 1000 → placed b i (1000 + h) ≡ i.pulse h
 placed_pulse b i h low =
-    let n = 100 + h in
-    let back : n - 100 ≡ h = omega arith in
-    ap (λ (t : Bool). if t then b + n else (if nat_lt n 200 then i.pulse (n - 100) else i.value (n - 200))) (le-ltb n 100 (omega arith))
-    ∙ (ap (λ (t : Bool). if t then i.pulse (n - 100) else i.value (n - 200)) (lt-ltb n 200 (omega (arith, low))) ∙ ap i.pulse back)
+    let n = 1000 + h in
+    let back : n - 1000 ≡ h = omega arith in
+    ap (λ (t : Bool). if t then b + n else (if nat_lt n 2000 then i.pulse (n - 1000) else i.value (n - 2000))) (le-ltb n 1000 (omega arith))
+    ∙ (ap (λ (t : Bool). if t then i.pulse (n - 1000) else i.value (n - 2000)) (lt-ltb n 2000 (omega (arith, low))) ∙ ap i.pulse back)
 
-pub placed_value : (b : ℕ) (i : Incoming) (h : ℕ) → placed b i (200 + h) ≡ i.value h
+pub placed_value : (b : ℕ) (i : Incoming) (h : ℕ) → placed b i (2000 + h) ≡ i.value h
 placed_value b i h =
-    let n = 200 + h in
-    let back : n - 200 ≡ h = omega arith in
-    ap (λ (t : Bool). if t then b + n else (if nat_lt n 200 then i.pulse (n - 100) else i.value (n - 200))) (le-ltb n 100 (omega arith))
-    ∙ (ap (λ (t : Bool). if t then i.pulse (n - 100) else i.value (n - 200)) (le-ltb n 200 (omega arith)) ∙ ap i.value back)
+    let n = 2000 + h in
+    let back : n - 2000 ≡ h = omega arith in
+    ap (λ (t : Bool). if t then b + n else (if nat_lt n 2000 then i.pulse (n - 1000) else i.value (n - 2000))) (le-ltb n 1000 (omega arith))
+    ∙ (ap (λ (t : Bool). if t then i.pulse (n - 1000) else i.value (n - 2000)) (le-ltb n 2000 (omega arith)) ∙ ap i.value back)
 
 -- a renaming takes it from place to place
 same_name : (contacts : List Contact) (size : ℕ) (f : ℕ → ℕ) (b d : ℕ) (i j : Incoming) → Renames contacts size f b d i j

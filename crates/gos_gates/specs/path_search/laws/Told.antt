@@ -19,8 +19,8 @@ use Rattle.gos_gates.specs.path_search.laws.Closed.{Followed, IsFound, all_found
 
 -- the parts of the test
 record Tested (contacts : List Contact) (cs : List Cell) (os : List Outgoing) (late : List ℕ) (passing : ℕ → ℕ → Bool) : Type 0 where
-  few : length cs ≤ 100
-  narrow : length contacts ≤ 100
+  few : length cs ≤ 1000
+  narrow : length contacts ≤ 1000
   known : list_all (λ c. list_all (is_known contacts (length cs)) (pins c.gate)) cs ≡ true
   followed : (from : ℕ) → from < length contacts → is_followed cs from ≡ true
   so : (from to : ℕ) → from < length contacts → to < length contacts → is_so cs os late passing from to ≡ true
@@ -29,8 +29,8 @@ tested : (contacts : List Contact) (cs : List Cell) (os : List Outgoing) (late :
     → is_told contacts cs os late passing ≡ true → Tested contacts cs os late passing
 tested contacts cs os late passing told =
     record {
-      few = leb-true (length cs) 100 first.0;
-      narrow = leb-true (length contacts) 100 second.0;
+      few = leb-true (length cs) 1000 first.0;
+      narrow = leb-true (length contacts) 1000 second.0;
       known = third.0;
       followed = λ from small. (here from small).0;
       so = λ from to small near. each_below (length contacts) (λ to. is_so cs os late passing from to) to (here from small).1 near;
@@ -42,11 +42,11 @@ tested contacts cs os late passing told =
     names : Bool
     names = list_all (λ c. list_all (is_known contacts (length cs)) (pins c.gate)) cs
 
-    first : (nat_le (length cs) 100 ≡ true) × ((nat_le (length contacts) 100 && (names && all_below (length contacts) pairs)) ≡ true)
-    first = both_true (nat_le (length cs) 100) (nat_le (length contacts) 100 && (names && all_below (length contacts) pairs)) told
+    first : (nat_le (length cs) 1000 ≡ true) × ((nat_le (length contacts) 1000 && (names && all_below (length contacts) pairs)) ≡ true)
+    first = both_true (nat_le (length cs) 1000) (nat_le (length contacts) 1000 && (names && all_below (length contacts) pairs)) told
 
-    second : (nat_le (length contacts) 100 ≡ true) × ((names && all_below (length contacts) pairs) ≡ true)
-    second = both_true (nat_le (length contacts) 100) (names && all_below (length contacts) pairs) first.1
+    second : (nat_le (length contacts) 1000 ≡ true) × ((names && all_below (length contacts) pairs) ≡ true)
+    second = both_true (nat_le (length contacts) 1000) (names && all_below (length contacts) pairs) first.1
 
     third : (names ≡ true) × (all_below (length contacts) pairs ≡ true)
     third = both_true names (all_below (length contacts) pairs) second.1
@@ -85,7 +85,7 @@ out_of_pulse (Some (Bare p)) z out = out
 out_of_pulse (Some (Bearing p a)) z out = inl out
 
 -- the path from pulse to pulse
-pulse_path : (contacts : List Contact) (cs : List Cell) (os : List Outgoing) (from to : ℕ) → length cs ≤ 100 → from < 100
+pulse_path : (contacts : List Contact) (cs : List Cell) (os : List Outgoing) (from to : ℕ) → length cs ≤ 1000 → from < 1000
     → pulse_goes_out (leads cs (is_pulse from) (length cs)) (slice_get os to) ≡ true
     → (b : ℕ) (i : Incoming) → PulseLeadsOn b i (placed_cells b i cs) (placed_outs b os) from to
 pulse_path contacts cs os from to few low found b i =
@@ -99,7 +99,7 @@ pulse_path contacts cs os from to few low found b i =
         → (ns : List ℕ) × Path b (placed_cells b i cs) (i.pulse from) ns (b + p)
     to_net p holds =
         let (inside, m, ns, starts, path) = found_is_there cs (is_pulse from) (length cs) p holds in
-        let start : placed b i m ≡ i.pulse from = ap (placed b i) (eqb-true m (100 + from) starts) ∙ placed_pulse b i from low in
+        let start : placed b i m ≡ i.pulse from = ap (placed b i) (eqb-true m (1000 + from) starts) ∙ placed_pulse b i from low in
         let there = path_placed (placed b i) b cs own m ns p path in (
           map (placed b i) ns,
           subst (λ (n : ℕ). Path b (placed_cells b i cs) (i.pulse from) (map (placed b i) ns) n) (own p inside)

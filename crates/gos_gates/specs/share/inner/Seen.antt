@@ -1,12 +1,10 @@
 -- How clauses see the handshakes of a type and the blocks of this crate's program.
 --
 -- Read first: Share.
-use Rattle.std.specs.Prelude.{◌≡◌, ℕ, ◌+◌, List, [], ◌∷◌, ◌++◌, drop, length}
+use Rattle.std.specs.Prelude.{ℕ, ◌+◌, List, [], ◌∷◌, drop}
 use Rattle.gos_types.specs.declared.types.Ty.{Ty}
 use Rattle.gos_types.specs.declared.shakes.Role.{Role}
 use Rattle.gos_types.specs.Types.{type_of}
-use Rattle.gos_netlist.specs.Nets.{Cell}
-use Rattle.gos_netlist.specs.Pools.{Pool, KeepsClosed}
 use Rattle.gos_plan.specs.Kinds.{Contact, contacts_of}
 use Rattle.gos_gates.specs.Gates.{Outgoing}
 use Rattle.gos_gates.specs.share.Blocks.{outgoing, block_size, source_out, caller_out}
@@ -45,11 +43,3 @@ side_outs s b n (k ∷ ks) =
 abbrev pub blocks_size : List Contact → ℕ
 blocks_size [] = 0
 blocks_size (k ∷ ks) = block_size k.role k.ask_bits k.answer_bits + blocks_size ks
-
--- cells are placed behind those of a pool, and nothing else is changed
-pub record Places (cells : List Cell) (old new : Pool) : Type 0 where
-  pub added : new.cells ≡ old.cells ++ cells
-  pub used : old.spare ≡ new.spare + length cells
-  pub begun : new.begun ≡ old.begun
-  pub closed : new.closed ≡ old.closed
-  pub kept : KeepsClosed old new

@@ -3,44 +3,22 @@
 -- Read first: Fit; Own.
 use Rattle.std.proofs.Common.{◌≡◌, inl, inr, ℕ, zero, suc, ◌+◌, ◌≤◌, List, [], ◌∷◌, ◌++◌, Some, refl, subst, arith}
 use Rattle.std.specs.Prelude.{◌<◌, length, slice_get}
-use Rattle.std.specs.List.{AllByRecursion}
 use Rattle.std.proofs.lemmas.Option.{slice_get_within}
 use Rattle.gos_types.specs.declared.shakes.Role.{Role}
 use Rattle.gos_types.specs.declared.shakes.Role.TheVariants.{Serve, Ask}
 use Rattle.gos_types.specs.Handshakes.{turned}
-use Rattle.gos_netlist.specs.Nets.{Cell, Or, pins}
+use Rattle.gos_netlist.specs.Nets.{Cell, Or}
 use Rattle.gos_plan.specs.Kinds.{Contact}
 use Rattle.gos_gates.specs.Gates.{Incoming, bits_in}
 use Rattle.gos_gates.specs.Cells.{bit}
-use Rattle.gos_gates.specs.Fit.{IsKnown, reach_of, NameEarlier}
+use Rattle.gos_gates.specs.Fit.{IsKnown, NameEarlier}
+use Rattle.gos_gates.specs.laws.StandingCells.{StandAt, stand_left, stand_right, NamesAt, names_from, names_append, own, any_own}
 use Rattle.gos_gates.specs.share.Blocks.{asked_cells, asked_size, answered_cells, sent_cells, sent_size, told_cells, branch_cells, block_cells, block_size, kept_net}
 use Rattle.gos_gates.specs.share.Share.{place_behind, row_cells, share_cells}
 use Rattle.gos_gates.specs.share.laws.Slots.{bits_there}
 use Rattle.gos_gates.specs.share.laws.Comes.{sides, in_bits, same_bits, ArePlaced, all_placed}
 use Rattle.gos_gates.specs.share.laws.Row.{asked_length, sent_length, block_length}
-use Rattle.gos_gates.specs.share.laws.Own.{StandAt, stand_left, stand_right, serve_parts, ask_parts, row_stands}
-
--- The same, by the places behind n, from place k on.
-abbrev NamesAt : List Contact → Incoming → ℕ → List Cell → ℕ → ℕ → List Cell → Type 0
-NamesAt contacts i b all n k [] = Unit {0}
-NamesAt contacts i b all n k (c ∷ cs) =
-    AllByRecursion (IsKnown contacts i b all (reach_of c.gate (n + k) (length all))) (pins c.gate) × NamesAt contacts i b all n (suc k) cs
-
-names_from : (contacts : List Contact) (i : Incoming) (b : ℕ) (all : List Cell) (n m k : ℕ) (cs : List Cell) → n + k ≡ m → NamesAt contacts i b all n k cs
-    → NameEarlier contacts i b all m cs
-names_from contacts i b all n m k [] here names = tt
-names_from contacts i b all n m k (c ∷ cs) here names = (
-  subst (λ (e : ℕ). AllByRecursion (IsKnown contacts i b all (reach_of c.gate e (length all))) (pins c.gate)) here names.0,
-  names_from contacts i b all n (suc m) (suc k) cs (omega (arith, here)) names.1,
-)
-
-names_append : (contacts : List Contact) (i : Incoming) (b : ℕ) (all : List Cell) (n l : ℕ) (xs ys : List Cell) → length xs ≡ l
-    → NameEarlier contacts i b all n xs → NameEarlier contacts i b all (n + l) ys → NameEarlier contacts i b all n (xs ++ ys)
-names_append contacts i b all n l [] ys long first second = let here : n + l ≡ n = omega (arith, long) in subst (λ (e : ℕ). NameEarlier contacts i b all e ys) here second
-names_append contacts i b all n zero (x ∷ xs) ys long first second = absurd (omega (arith, long))
-names_append contacts i b all n (suc l) (x ∷ xs) ys long first second =
-    let here : n + suc l ≡ suc n + l = omega arith in
-    (first.0, names_append contacts i b all (suc n) l xs ys (omega (arith, long)) first.1 (subst (λ (e : ℕ). NameEarlier contacts i b all e ys) here second))
+use Rattle.gos_gates.specs.share.laws.Own.{serve_parts, ask_parts, row_stands}
 
 -- the nets of a handshake are known everywhere
 pub record SideKnown (contacts : List Contact) (i : Incoming) (b : ℕ) (all : List Cell) (w e : ℕ) : Type 0 where
@@ -56,16 +34,6 @@ side_known contacts i b all w e k there bits =
       pulse = λ n. inl (e, low, inl refl);
       value = λ some n. inl (e, low, inr (omega (arith, some, same, bits), refl));
     }
-
--- an own cell ahead of place m
-own : (contacts : List Contact) (i : Incoming) (b : ℕ) (all : List Cell) (n k m : ℕ) (cs : List Cell) (c : Cell) → StandAt all n cs → slice_get cs k ≡ Some c → n + k < m
-    → IsKnown contacts i b all m (b + (n + k))
-own contacts i b all n k m cs c stand there low = inr (n + k, c, refl, stand k c there, inl low)
-
--- one that a register names
-any_own : (contacts : List Contact) (i : Incoming) (b : ℕ) (all : List Cell) (n k : ℕ) (cs : List Cell) (c : Cell) → StandAt all n cs → slice_get cs k ≡ Some c
-    → IsKnown contacts i b all (length all) (b + (n + k))
-any_own contacts i b all n k cs c stand there = inr (n + k, c, refl, stand k c there, inl (slice_get_within all (n + k) c (stand k c there)))
 
 later : (contacts : List Contact) (i : Incoming) (b : ℕ) (all : List Cell) (n m net : ℕ) → n ≤ m → IsKnown contacts i b all n net → IsKnown contacts i b all m net
 later contacts i b all n m net high (inl comes) = inl comes

@@ -12,13 +12,14 @@ use Rattle.gos_netlist.specs.Cycles.{IsRegister}
 use Rattle.gos_plan.specs.Kinds.{Contact}
 use Rattle.gos_gates.specs.Gates.{Incoming, Outgoing, bits_in}
 use Rattle.gos_gates.specs.Paths.{IsOut, AreApart, LeadsOn}
+use Rattle.gos_gates.specs.laws.StandingCells.{StandAt, stand_left, stand_right}
 use Rattle.gos_gates.specs.share.Blocks.{outgoing, asked_cells, asked_size, answered_cells, sent_cells, sent_size, told_cells, block_cells, block_size, kept_net, source_out, caller_out}
 use Rattle.gos_gates.specs.share.Share.{row_cells, share_cells, source_outs, caller_outs, share_outs, share_passing}
 use Rattle.gos_gates.specs.share.laws.Slots.{bits_there}
 use Rattle.gos_gates.specs.share.laws.Comes.{sides, IsPlaced, ArePlaced, all_placed}
 use Rattle.gos_gates.specs.share.laws.Row.{block_length}
 use Rattle.gos_gates.specs.share.laws.Keeping.{source_length, caller_length}
-use Rattle.gos_gates.specs.share.laws.Own.{StandAt, stand_left, stand_right, serve_parts, ask_parts, row_stands}
+use Rattle.gos_gates.specs.share.laws.Own.{serve_parts, ask_parts, row_stands}
 use Rattle.gos_gates.specs.share.laws.Cones.{OnlyFrom, comes_alone, comes_by_pins}
 use Rattle.gos_gates.specs.share.laws.Pairs.{AtPairs, AtAllPairs, Passes, all_pass}
 

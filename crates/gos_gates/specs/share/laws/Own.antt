@@ -9,34 +9,11 @@ use Rattle.gos_netlist.specs.Nets.{Cell}
 use Rattle.gos_plan.specs.Kinds.{Contact, turned_contact, other_side}
 use Rattle.gos_gates.specs.Gates.{Incoming, Outgoing, bits_out}
 use Rattle.gos_gates.specs.Fit.{IsOwn, GoesOut, AllGoOut, HasNoInput}
+use Rattle.gos_gates.specs.laws.StandingCells.{StandAt, stand_left, stand_right, no_input_append}
 use Rattle.gos_gates.specs.share.Blocks.{outgoing, asked_cells, asked_size, answered_cells, sent_cells, sent_size, told_cells, branch_cells, block_cells, block_size, kept_net, source_out, caller_out}
 use Rattle.gos_gates.specs.share.Share.{row_cells, share_cells, source_outs, caller_outs, share_outs}
 use Rattle.gos_gates.specs.share.laws.Comes.{sides}
 use Rattle.gos_gates.specs.share.laws.Row.{asked_length, sent_length, block_length}
-
--- cells stand among others from place n on
-abbrev pub StandAt : List Cell → ℕ → List Cell → Type 0
-StandAt all n cs = (m : ℕ) (c : Cell) → slice_get cs m ≡ Some c → slice_get all (n + m) ≡ Some c
-
-cell_left : (xs ys : List Cell) (m : ℕ) (c : Cell) → slice_get xs m ≡ Some c → slice_get (xs ++ ys) m ≡ Some c
-cell_left [] ys m c there = absurd (cc there)
-cell_left (x ∷ xs) ys zero c there = there
-cell_left (x ∷ xs) ys (suc m) c there = cell_left xs ys m c there
-
-cell_right : (xs ys : List Cell) (l m : ℕ) (c : Cell) → l ≡ length xs → slice_get ys m ≡ Some c → slice_get (xs ++ ys) (l + m) ≡ Some c
-cell_right [] ys l m c long there = let here : m ≡ l + m = omega (arith, long) in subst (λ (e : ℕ). slice_get ys e ≡ Some c) here there
-cell_right (x ∷ xs) ys zero m c long there = absurd (omega (arith, long))
-cell_right (x ∷ xs) ys (suc l) m c long there =
-    let here : suc (l + m) ≡ suc l + m = omega arith in
-    subst (λ (e : ℕ). slice_get (x ∷ (xs ++ ys)) e ≡ Some c) here (cell_right xs ys l m c (omega (arith, long)) there)
-
-pub stand_left : (all : List Cell) (n : ℕ) (xs ys : List Cell) → StandAt all n (xs ++ ys) → StandAt all n xs
-stand_left all n xs ys stand m c there = stand m c (cell_left xs ys m c there)
-
-pub stand_right : (all : List Cell) (n l : ℕ) (xs ys : List Cell) → length xs ≡ l → StandAt all n (xs ++ ys) → StandAt all (n + l) ys
-stand_right all n l xs ys long stand m c there =
-    let here : n + (l + m) ≡ n + l + m = omega arith in
-    subst (λ (e : ℕ). slice_get all e ≡ Some c) here (stand (l + m) c (cell_right xs ys l m c (sym long) there))
 
 -- a pulse, and a number of w bits where there are any
 goes_out : (w : ℕ) (b : ℕ) (all : List Cell) (k : Contact) (p a : ℕ) → bits_out k.role k ≡ w → IsOwn b all p 1 → (0 < w → IsOwn b all a w)
@@ -143,10 +120,6 @@ share_out b i ks =
     (out_append b all ks ks (caller_outs 0 b 3 ks) (caller_outs 1 b 3 ks) known.1 known.2)
 
 -- no inputs
-no_input_append : (xs ys : List Cell) → HasNoInput xs → HasNoInput ys → HasNoInput (xs ++ ys)
-no_input_append [] ys first second = second
-no_input_append (x ∷ xs) ys first second = (first.0, no_input_append xs ys first.1 second)
-
 block_inner : (r : Role) (q a : ℕ) (i : Incoming) (h j b n c d : ℕ) → HasNoInput (block_cells r q a i h j b n c d)
 block_inner Serve q a i h j b n c d = ((λ same. cc same), ((λ same. cc same), no_input_append (asked_cells q i h j b (n + 2)) (answered_cells a i j b (n + 2 + asked_size q)) (asked q) (answered a)))
   where

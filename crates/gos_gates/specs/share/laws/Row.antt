@@ -16,7 +16,8 @@ use Rattle.gos_gates.specs.share.Blocks.{asked_cells, asked_size, answered_cells
 use Rattle.gos_gates.specs.share.Share.{place_behind, row_cells, source_outs, caller_outs, block_pending, row_pending, BlockHolds, RowHolds}
 use Rattle.gos_gates.specs.share.laws.Answers.{Puts}
 use Rattle.gos_gates.specs.share.laws.Requests.{passed_at, passed, branch_at, branch_behind}
-use Rattle.gos_gates.specs.share.laws.Shown.{settled_both, settled_at, to_first, to_second, first_small, second_small, asked_shown, answered_shown, sent_shown, told_shown}
+use Rattle.gos_gates.specs.laws.SettledCells.{settled_both, settled_at}
+use Rattle.gos_gates.specs.share.laws.Shown.{to_first, to_second, first_small, second_small, asked_shown, answered_shown, sent_shown, told_shown}
 use Rattle.gos_gates.specs.share.laws.Comes.{in_bits, Comes, AllCome}
 use Rattle.gos_gates.specs.share.laws.Pending.{puts_before, puts_behind, BlockPuts, RowPuts}
 

@@ -12,7 +12,7 @@ use Rattle.gos_gates.specs.Gates.{Incoming, Outgoing, Bare, Bearing, Settled}
 use Rattle.gos_gates.specs.Law.{AreSilent, StaySilent}
 use Rattle.gos_gates.specs.share.Blocks.{outgoing, asked_cells, asked_size, answered_cells, sent_cells, sent_size, told_cells, branch_cells, block_cells, block_size, kept_net, source_out, caller_out}
 use Rattle.gos_gates.specs.share.Share.{row_cells, share_cells, source_outs, caller_outs, share_outs}
-use Rattle.gos_gates.specs.share.laws.Shown.{settled_both, settled_at}
+use Rattle.gos_gates.specs.laws.SettledCells.{settled_both, settled_at}
 use Rattle.gos_gates.specs.share.laws.Row.{asked_length, sent_length, block_length}
 
 -- the number at a handshake is 0 where its pulse is

@@ -9,11 +9,12 @@ use Rattle.gos_netlist.specs.Nets.{Cell}
 use Rattle.gos_plan.specs.Kinds.{Contact}
 use Rattle.gos_gates.specs.Gates.{Incoming, Outgoing}
 use Rattle.gos_gates.specs.Paths.{Drives, IsPulseOut, PulseLeadsOn}
+use Rattle.gos_gates.specs.laws.StandingCells.{StandAt, stand_left, stand_right}
 use Rattle.gos_gates.specs.share.Blocks.{outgoing, asked_size, answered_cells, sent_size, told_cells, block_cells, block_size, kept_net, source_out, caller_out}
 use Rattle.gos_gates.specs.share.Share.{row_cells, share_cells, source_outs, caller_outs, share_outs, share_passing}
 use Rattle.gos_gates.specs.share.laws.Row.{block_length}
 use Rattle.gos_gates.specs.share.laws.Keeping.{source_length, caller_length}
-use Rattle.gos_gates.specs.share.laws.Own.{StandAt, stand_left, stand_right, serve_parts, ask_parts, row_stands}
+use Rattle.gos_gates.specs.share.laws.Own.{serve_parts, ask_parts, row_stands}
 use Rattle.gos_gates.specs.share.laws.Pairs.{AtPairs, AtAllPairs, where_it_passes}
 
 answered_ways : (w : ℕ) (i : Incoming) (j b n : ℕ) (all : List Cell) → StandAt all n (answered_cells w i j b n)

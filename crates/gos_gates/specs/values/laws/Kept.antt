@@ -13,6 +13,7 @@ use Rattle.gos_gates.specs.values.laws.NotKept.{not_gates}
 use Rattle.gos_gates.specs.values.laws.AssignKept.{assign_gates}
 use Rattle.gos_gates.specs.values.laws.DerefKept.{deref_gates}
 use Rattle.gos_gates.specs.values.laws.LocalFit.{local_gates}
+use Rattle.gos_gates.specs.values.laws.ArrayFit.{array_gates}
 
 pub arith_gates : (k : Kind) → IsArith k
     → KeepLaws (part_of k) (layout (part_of k)) (outs_of (part_of k)) (late_of (part_of k)) (pending_of (part_of k)) (stands_of (part_of k))
@@ -22,4 +23,5 @@ arith_gates (kinds.Not w) in_range = not_gates w in_range
 arith_gates (kinds.Assign w) in_range = assign_gates w in_range
 arith_gates (kinds.Deref w) in_range = deref_gates w in_range
 arith_gates (kinds.Local w v) in_range = local_gates w v in_range.0 in_range.1
+arith_gates (kinds.Array w n v) in_range = array_gates w n v in_range.0 in_range.1 in_range.2
 arith_gates k in_range = absurd in_range

@@ -2,12 +2,13 @@
 -- doesn't matter, nor which number a literal is.
 --
 -- Read first: Layout, Ranges; Told of path_search.
-use Rattle.std.proofs.Common.{◌≡◌, ℕ, zero, suc, true, refl, arith}
+use Rattle.std.proofs.Common.{◌≡◌, inl, inr, ℕ, zero, suc, true, refl, sym, subst, arith}
 use Rattle.gos_model.specs.Terms.{Op as Operation}
 use Rattle.gos_model.specs.Terms as operations
+use Rattle.gos_model.specs.Typing.{IsLength}
 use Rattle.gos_plan.specs.declared.kinds.Kind.{Kind}
 use Rattle.gos_plan.specs.declared.kinds.Kind.TheVariants as kinds
-use Rattle.gos_plan.specs.Kinds.{Part, Lit, Op, Not, Assign, Deref, Local, part_contacts}
+use Rattle.gos_plan.specs.Kinds.{Part, Lit, Op, Not, Assign, Deref, Local, Array, part_contacts}
 use Rattle.gos_plan.specs.Seen.{operation_of, part_of}
 use Rattle.gos_gates.specs.Paths.{KeepPaths}
 use Rattle.gos_gates.specs.path_search.Fixed.{fixed, AreNamed, OutsAreNamed}
@@ -37,6 +38,17 @@ local_paths : (w v : ℕ) → HasPaths (Local (suc w) v)
 local_paths w zero = told (Local (suc w) 0) (λ b i. refl) (λ b. refl) refl
 local_paths w (suc v) = told (Local (suc w) (suc v)) (λ b i. refl) (λ b. refl) refl
 
+-- the number of words is one of four
+array_paths : (w n v : ℕ) → IsLength n → HasPaths (Array (suc w) n v)
+array_paths w n zero (inl is) = subst (λ (m : ℕ). HasPaths (Array (suc w) m 0)) (sym is) (told (Array (suc w) 2 0) (λ b i. refl) (λ b. refl) refl)
+array_paths w n (suc v) (inl is) = subst (λ (m : ℕ). HasPaths (Array (suc w) m (suc v))) (sym is) (told (Array (suc w) 2 (suc v)) (λ b i. refl) (λ b. refl) refl)
+array_paths w n zero (inr (inl is)) = subst (λ (m : ℕ). HasPaths (Array (suc w) m 0)) (sym is) (told (Array (suc w) 4 0) (λ b i. refl) (λ b. refl) refl)
+array_paths w n (suc v) (inr (inl is)) = subst (λ (m : ℕ). HasPaths (Array (suc w) m (suc v))) (sym is) (told (Array (suc w) 4 (suc v)) (λ b i. refl) (λ b. refl) refl)
+array_paths w n zero (inr (inr (inl is))) = subst (λ (m : ℕ). HasPaths (Array (suc w) m 0)) (sym is) (told (Array (suc w) 8 0) (λ b i. refl) (λ b. refl) refl)
+array_paths w n (suc v) (inr (inr (inl is))) = subst (λ (m : ℕ). HasPaths (Array (suc w) m (suc v))) (sym is) (told (Array (suc w) 8 (suc v)) (λ b i. refl) (λ b. refl) refl)
+array_paths w n zero (inr (inr (inr is))) = subst (λ (m : ℕ). HasPaths (Array (suc w) m 0)) (sym is) (told (Array (suc w) 16 0) (λ b i. refl) (λ b. refl) refl)
+array_paths w n (suc v) (inr (inr (inr is))) = subst (λ (m : ℕ). HasPaths (Array (suc w) m (suc v))) (sym is) (told (Array (suc w) 16 (suc v)) (λ b i. refl) (λ b. refl) refl)
+
 pub arith_paths : (k : Kind) → IsArith k → HasPaths (part_of k)
 arith_paths (kinds.Lit w k) is = told (Lit w k) (λ b i. refl) (λ b. refl) refl
 arith_paths (kinds.Op op zero) is = absurd (let some = is.0 in omega (arith, some))
@@ -49,4 +61,6 @@ arith_paths (kinds.Deref zero) is = absurd (let some = is.0 in omega (arith, som
 arith_paths (kinds.Deref (suc w)) is = told (Deref (suc w)) (λ b i. refl) (λ b. refl) refl
 arith_paths (kinds.Local zero v) is = absurd (let some = is.0.0 in omega (arith, some))
 arith_paths (kinds.Local (suc w) v) is = local_paths w v
+arith_paths (kinds.Array zero n v) is = absurd (let some = is.0.0 in omega (arith, some))
+arith_paths (kinds.Array (suc w) n v) is = array_paths w n v is.1
 arith_paths k is = absurd is

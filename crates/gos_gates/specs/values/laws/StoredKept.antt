@@ -1,7 +1,7 @@
 -- A stored number is set by a write, cleared by an entry, and kept otherwise.
 --
 -- Read first: Stored.
-use Rattle.std.proofs.Common.{◌≡◌, ℕ, suc, ◌+◌, [], ◌∷◌, ◌∙◌, refl, arith}
+use Rattle.std.proofs.Common.{◌≡◌, suc, ◌+◌, [], ◌∷◌, ◌∙◌, refl, arith}
 use Rattle.std.specs.Prelude.{nat_eq, if◌then◌else◌}
 use Rattle.gos_netlist.specs.Settling.{at}
 use Rattle.gos_gates.specs.values.Stored.{StoredIsKept, KeptIsNotStored}

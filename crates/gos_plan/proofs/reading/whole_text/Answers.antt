@@ -19,7 +19,7 @@ returns-in_err-v-clause-wrong c =
 pub returns-then-finished-clause-in_range : goal.returns-then-finished-clause-in_range
 returns-then-finished-clause-in_range c =
     let read = c.in_ok-v.ensures.read in
-    in_range (seen_values c.in_ok-v.v) read.is read.keeps c.in_ok-v.ensures.in_range
+    in_range c.in_ok-v.v.format (seen_values c.in_ok-v.v) read.is read.keeps c.in_ok-v.ensures.in_range
 
 pub returns-then-finished-clause-is : goal.returns-then-finished-clause-is
 returns-then-finished-clause-is c =
@@ -28,7 +28,7 @@ returns-then-finished-clause-is c =
     let start = c.new-cursor.ensures in
     let read = c.in_ok-v.ensures.read in
     let ended : new.at ≡ length text = c.if-finished.ensures.0 refl ∙ ap length (read.same ∙ start.text) in
-    all_read text new (plan_of (seen_values c.in_ok-v.v)) c.requires (from_start text c.new-cursor.result new (plan_of (seen_values c.in_ok-v.v)) start.text start.at read) ended
+    all_read text new (c.in_ok-v.v.format, plan_of (seen_values c.in_ok-v.v)) c.requires (from_start text c.new-cursor.result new (c.in_ok-v.v.format, plan_of (seen_values c.in_ok-v.v)) start.text start.at read) ended
 
 pub returns-else-finished-clause-wrong : goal.returns-else-finished-clause-wrong
 returns-else-finished-clause-wrong c =
@@ -38,4 +38,4 @@ returns-else-finished-clause-wrong c =
     let read = c.in_ok-v.ensures.read in
     let more : new.at ≢ length text = λ same. absurd (cc (c.if-finished.ensures.1 (same ∙ sym (ap length (read.same ∙ start.text))))) in
     subst (λ (n : ℕ). HasFault text (faults.Form n)) (sym c.at.ensures.at)
-    (fault_behind text new (plan_of (seen_values c.in_ok-v.v)) c.requires (from_start text c.new-cursor.result new (plan_of (seen_values c.in_ok-v.v)) start.text start.at read) more)
+    (fault_behind text new (c.in_ok-v.v.format, plan_of (seen_values c.in_ok-v.v)) c.requires (from_start text c.new-cursor.result new (c.in_ok-v.v.format, plan_of (seen_values c.in_ok-v.v)) start.text start.at read) more)

@@ -6,7 +6,7 @@ use Rattle.gos_plan.proofs.TextLemmas.{SoFar}
 use Rattle.gos_plan.proofs.sections.part_lines.Given as goal
 
 abbrev pub invariant-loop-left : goal.invariant-loop-left
-invariant-loop-left l = SoFar part_line l.count l.initial.cursor l.cursor (map part_of l.parts.items) l.left × All IsInRange l.parts.items
+invariant-loop-left l = SoFar (part_line l.format) l.count l.initial.cursor l.cursor (map part_of l.parts.items) l.left × All IsInRange l.parts.items
 
 abbrev pub decreases-loop-left : goal.decreases-loop-left
 decreases-loop-left l = l.left

@@ -5,7 +5,8 @@ use Rattle.gos_netlist.specs.Seen.{cell_of}
 use Rattle.gos_gates.specs.Cells.{bit}
 use Rattle.gos_gates.specs.Wires.{incoming_of}
 use Rattle.gos_gates.specs.share.Share.{row_cells}
-use Rattle.gos_gates.specs.share.inner.Seen.{all_of, Places}
+use Rattle.gos_gates.specs.Cells.{Places}
+use Rattle.gos_gates.specs.share.inner.Seen.{all_of}
 use Rattle.gos_gates.proofs.lemmas.share.SharingLemmas.{head_placed}
 use Rattle.gos_gates.proofs.share.row.place.Goals as goal
 
