@@ -12,6 +12,7 @@ use Rattle.gos_netlist.specs.declared.fault.NetTextFault.TheVariants as text
 use Rattle.gos_netcheck.specs.declared.fault.NetFault.TheVariants as net
 use Rattle.gos_pulse.specs.declared.fault.PulseFault.TheVariants as pulse
 use Rattle.gos_aiger.specs.declared.fault.GateFault.TheVariants as gates
+use Rattle.gos_witness.specs.declared.fault.ExplainFault.TheVariants as explain
 use Rattle.gos_command.specs.Lines.{IsLineOf}
 use Rattle.gos_command.specs.declared.status.Cause.{Cause}
 use Rattle.gos_command.specs.declared.status.Cause.TheVariants as causes
@@ -41,6 +42,7 @@ IsRealCause (causes.Net fault) = fault ≢ text.NoMemory
 IsRealCause (causes.Refused fault) = fault ≢ net.NoMemory
 IsRealCause (causes.Pulse fault) = fault ≢ pulse.NoMemory
 IsRealCause (causes.Gates fault) = fault ≢ gates.NoMemory
+IsRealCause (causes.Explain fault) = fault ≢ explain.NoMemory
 
 -- the fault has a cause in a file, and this is its line
 abbrev pub IsTold : Fault → List ℕ → Type 0

@@ -1,7 +1,7 @@
 -- The lines that commands print.
 --
 -- A fault's line is the file's name, a colon, a space and what is wrong there; a letter with a number tells the fault. Places
--- count bytes from 0, lines count from 1.
+-- count bytes from 0, lines count from 1 but those of moves.
 use Rattle.std.specs.Prelude.{◌≡◌, ℕ, List, [], ◌∷◌, ◌++◌, codes, map, Option, Some, None}
 use Rattle.std.specs.Fmt.{decimal}
 use Rattle.gos_lex.specs.declared.fault.LexFault.{LexFault}
@@ -32,6 +32,8 @@ use Rattle.gos_pulse.specs.declared.fault.PulseFault.{PulseFault}
 use Rattle.gos_pulse.specs.declared.fault.PulseFault.TheVariants as pulse
 use Rattle.gos_aiger.specs.declared.fault.GateFault.{GateFault}
 use Rattle.gos_aiger.specs.declared.fault.GateFault.TheVariants as gates
+use Rattle.gos_witness.specs.declared.fault.ExplainFault.{ExplainFault}
+use Rattle.gos_witness.specs.declared.fault.ExplainFault.TheVariants as explain
 use Rattle.gos_command.specs.declared.status.Cause.{Cause}
 use Rattle.gos_command.specs.declared.status.Cause.TheVariants as causes
 use Rattle.gos_command.specs.declared.status.Fault.{Fault}
@@ -87,6 +89,7 @@ check_text (check.Width span width value) =
 check_text (check.TypeTooLarge span handshakes) = codes "C7 at " ++ span_text span ++ counted (codes " handshakes ") handshakes
 check_text (check.Repeated name first second) = twice_text (codes "C8 ") name first second
 check_text (check.TooHeavy weight) = counted (codes "C9 weight ") weight
+check_text (check.Length span length) = codes "C10 at " ++ span_text span ++ counted (codes " length ") length
 check_text check.NoMemory = []
 
 abbrev pub object_text : ObjectFault → List ℕ
@@ -149,6 +152,14 @@ abbrev pub gates_text : GateFault → List ℕ
 gates_text (gates.TooLarge bits) = counted (codes "G1 bits ") bits
 gates_text gates.NoMemory = []
 
+-- lines of moves and labels count from 0
+abbrev pub explain_text : ExplainFault → List ℕ
+explain_text (explain.Form at) = counted (codes "M1 at ") at
+explain_text (explain.Wrong line) = counted (codes "M2 line ") line
+explain_text (explain.Labels matched) = counted (codes "M3 labels ") matched
+explain_text (explain.Nodes nodes) = counted (codes "M4 nodes ") nodes
+explain_text explain.NoMemory = []
+
 abbrev pub cause_text : Option Netlist → Cause → List ℕ
 cause_text of (causes.Lex fault) = lex_text fault
 cause_text of (causes.Syntax fault) = syntax_text fault
@@ -159,6 +170,7 @@ cause_text of (causes.Net fault) = net_text fault
 cause_text of (causes.Refused fault) = refusal_text fault
 cause_text of (causes.Pulse fault) = pulse_text of fault
 cause_text of (causes.Gates fault) = gates_text fault
+cause_text of (causes.Explain fault) = explain_text fault
 
 -- the line of a fault, whose events are those of this netlist
 abbrev pub fault_line : Option Netlist → Fault → List ℕ
@@ -181,6 +193,7 @@ report_text (reports.Cells before after) = counted (codes "ok cells ") before ++
 report_text (reports.Gates counts) =
     counted (codes "ok inputs ") counts.inputs ++ counted (codes " latches ") counts.latches
     ++ counted (codes " outputs ") counts.outputs ++ counted (codes " ands ") counts.ands
+report_text (reports.Explained lines labels) = counted (codes "ok lines ") lines ++ counted (codes " labels ") labels
 
 -- its line
 abbrev pub report_line : Report → List ℕ

@@ -35,6 +35,7 @@ pub fn check_text(alloc: Global, fault: &CheckFault) -> Result<Vec<u8>, NoMemory
             second,
         } => twice_text(alloc, b"C8 ", name.bytes(), *first, *second),
         CheckFault::TooHeavy { weight } => counted(alloc, b"C9 weight ", *weight),
+        CheckFault::Length { span, length } => length_text(alloc, *span, *length),
         CheckFault::NoMemory => Err(NoMemory),
     }
 }
@@ -120,6 +121,15 @@ fn large_text(alloc: Global, span: Span, handshakes: u64) -> Result<Vec<u8>, NoM
     let mut text = b"C7 at ".to_vec(alloc)?;
     add_span(alloc, &mut text, span)?;
     add_count(alloc, &mut text, b" handshakes ", handshakes)?;
+    Ok(text)
+}
+
+fn length_text(alloc: Global, span: Span, length: u32) -> Result<Vec<u8>, NoMemory>
+    ensures { IfOk result (λ text. text.items ≡ codes "C10 at " ++ span_text span ++ counted (codes " length ") length) }
+{
+    let mut text = b"C10 at ".to_vec(alloc)?;
+    add_span(alloc, &mut text, span)?;
+    add_count(alloc, &mut text, b" length ", u64::from(length))?;
     Ok(text)
 }
 

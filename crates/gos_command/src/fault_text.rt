@@ -11,8 +11,9 @@ ghost use Rattle.gos_netlist.specs.Seen.{number_of};
 ghost use Rattle.gos_netcheck.specs.declared.fault.NetFault.TheVariants as net;
 ghost use Rattle.gos_pulse.specs.declared.fault.PulseFault.TheVariants as pulse;
 ghost use Rattle.gos_aiger.specs.declared.fault.GateFault.TheVariants as gates;
+ghost use Rattle.gos_witness.specs.declared.fault.ExplainFault.TheVariants as explain;
 ghost use Rattle.gos_command.specs.Ends.{IsRealCause};
-ghost use Rattle.gos_command.specs.Lines.{counted, lex_text, syntax_text, object_text, net_text, refusal_text, event_name, pulse_text, gates_text, cause_text, fault_line};
+ghost use Rattle.gos_command.specs.Lines.{counted, lex_text, syntax_text, object_text, net_text, refusal_text, event_name, pulse_text, gates_text, explain_text, cause_text, fault_line};
 
 use crate::check_text::check_text;
 use crate::link_text::link_text;
@@ -25,6 +26,7 @@ use gos_plan::ObjectFault;
 use gos_pulse::{PulseFault, name_of_number};
 use gos_syntax::SyntaxFault;
 use gos_types::NoMemory;
+use gos_witness::ExplainFault;
 use std::alloc::Global;
 
 /// The line of a fault of this file, which is not want of memory. An event is named as one of the netlist.
@@ -60,6 +62,7 @@ fn cause_text(alloc: Global, cause: &Cause, net: Option<&Netlist>) -> Result<Vec
         Cause::Refused(fault) => refusal_text(alloc, fault),
         Cause::Pulse(fault) => pulse_text(alloc, fault, net),
         Cause::Gates(fault) => gates_text(alloc, fault),
+        Cause::Explain(fault) => explain_text(alloc, fault),
     }
 }
 
@@ -142,6 +145,19 @@ fn gates_text(alloc: Global, fault: &GateFault) -> Result<Vec<u8>, NoMemory>
     match fault {
         GateFault::TooLarge { bits } => counted(alloc, b"G1 bits ", *bits),
         GateFault::NoMemory => Err(NoMemory),
+    }
+}
+
+fn explain_text(alloc: Global, fault: &ExplainFault) -> Result<Vec<u8>, NoMemory>
+    ensures cause { IfOk result (λ _. fault.now ≢ explain.NoMemory) }
+    ensures text { IfOk result (λ text. text.items ≡ explain_text fault.now) }
+{
+    match fault {
+        ExplainFault::Form { at } => counted(alloc, b"M1 at ", *at as u64),
+        ExplainFault::Wrong { line } => counted(alloc, b"M2 line ", *line),
+        ExplainFault::Labels { matched } => counted(alloc, b"M3 labels ", *matched),
+        ExplainFault::Nodes { nodes } => counted(alloc, b"M4 nodes ", *nodes),
+        ExplainFault::NoMemory => Err(NoMemory),
     }
 }
 

@@ -45,6 +45,8 @@ pub enum Report {
     Cells { before: u64, after: u64 },
     /// The numbers of a circuit of gates.
     Gates(GateCounts),
+    /// How many lines of moves explain a trace, and how many labels it has.
+    Explained { lines: u64, labels: u64 },
 }
 
 /// The line of a command that is done.
@@ -70,6 +72,7 @@ fn told_text(alloc: Global, report: Report) -> Result<Vec<u8>, NoMemory>
         ),
         Report::Cells { before, after } => cells_text(alloc, before, after),
         Report::Gates(counts) => gate_counts_text(alloc, counts),
+        Report::Explained { lines, labels } => explained_text(alloc, lines, labels),
     }
 }
 
@@ -89,6 +92,14 @@ fn cells_text(alloc: Global, before: u64, after: u64) -> Result<Vec<u8>, NoMemor
 {
     let mut text = counted(alloc, b"ok cells ", before)?;
     add_count(alloc, &mut text, b" to ", after)?;
+    Ok(text)
+}
+
+fn explained_text(alloc: Global, lines: u64, labels: u64) -> Result<Vec<u8>, NoMemory>
+    ensures { IfOk result (λ text. text.items ≡ report_text (reports.Explained lines labels)) }
+{
+    let mut text = counted(alloc, b"ok lines ", lines)?;
+    add_count(alloc, &mut text, b" labels ", labels)?;
     Ok(text)
 }
 

@@ -12,6 +12,7 @@ use gos_netlist::NetTextFault;
 use gos_plan::ObjectFault;
 use gos_pulse::PulseFault;
 use gos_syntax::SyntaxFault;
+use gos_witness::ExplainFault;
 
 /// Why a file was rejected. In a `Status` it is never want of memory.
 #[derive(Debug, Drop)]
@@ -34,6 +35,8 @@ pub enum Cause {
     Pulse(PulseFault),
     /// The netlist is not lowered to gates.
     Gates(GateFault),
+    /// The trace is not explained, or its program is too large.
+    Explain(ExplainFault),
 }
 
 /// A file that was rejected.

@@ -15,21 +15,23 @@ use Rattle.gos_tool.specs.circuits.Complete.{LinkIsNotRejected}
 use Rattle.gos_tool.specs.netlists.Complete.{TidyIsNotRejected, GatesAreNotRejected}
 use Rattle.gos_tool.specs.simulate.Complete.{SimIsNotRejected}
 use Rattle.gos_tool.specs.build.Complete.{BuildIsNotRejected}
-use Rattle.gos_tool.specs.Command.{Command, Check, Compile, Link, Sim, Build, Demo, Tidy, Gates, Means}
+use Rattle.gos_tool.specs.explained.Complete.{VerifiedIsNotRejected}
+use Rattle.gos_tool.specs.Command.{Command, Check, Compile, Link, Sim, Build, Demo, Tidy, Gates, Verify, Means}
 use Rattle.gos_tool.specs.Run.{IsRejected}
 use Rattle.gos_tool.specs.Complete.{AreRight, RightIsNotRejected}
 use Rattle.gos_tool.proofs.EndLemmas.{same_meaning}
 
 pub right_is_not_rejected : AcceptedIsNotRejected → LinkIsNotRejected → SimIsNotRejected → BuildIsNotRejected → TidyIsNotRejected → GatesAreNotRejected
-    → RightIsNotRejected
-right_is_not_rejected source link sim build tidy gates (Check name) files new fault line right wrong = source files name right.0 fault line right.1 wrong.2
-right_is_not_rejected source link sim build tidy gates (Compile name object) files new fault line right wrong = source files name right.0 fault line right.1 wrong.2
-right_is_not_rejected source link sim build tidy gates (Link own) files new fault line right wrong = link files own fault line right wrong.1
-right_is_not_rejected source link sim build tidy gates (Sim net pulses trace) files new fault line right wrong = sim files net pulses fault line right wrong.2
-right_is_not_rejected source link sim build tidy gates (Build own) files new fault line right wrong = build files new own fault line right wrong
-right_is_not_rejected source link sim build tidy gates (Demo levels) files new fault line right wrong = cc wrong
-right_is_not_rejected source link sim build tidy gates (Tidy net out) files new fault line right wrong = tidy files net fault line right wrong.2
-right_is_not_rejected source link sim build tidy gates (Gates net out) files new fault line right wrong = gates files net fault line right wrong.2
+    → VerifiedIsNotRejected → RightIsNotRejected
+right_is_not_rejected source link sim build tidy gates verify (Check name) files new fault line right wrong = source files name right.0 fault line right.1 wrong.2
+right_is_not_rejected source link sim build tidy gates verify (Compile name object) files new fault line right wrong = source files name right.0 fault line right.1 wrong.2
+right_is_not_rejected source link sim build tidy gates verify (Link own) files new fault line right wrong = link files own fault line right wrong.1
+right_is_not_rejected source link sim build tidy gates verify (Sim net pulses trace) files new fault line right wrong = sim files net pulses fault line right wrong.2
+right_is_not_rejected source link sim build tidy gates verify (Build own) files new fault line right wrong = build files new own fault line right wrong
+right_is_not_rejected source link sim build tidy gates verify (Demo levels) files new fault line right wrong = cc wrong
+right_is_not_rejected source link sim build tidy gates verify (Tidy net out) files new fault line right wrong = tidy files net fault line right wrong.2
+right_is_not_rejected source link sim build tidy gates verify (Gates net out) files new fault line right wrong = gates files net fault line right wrong.2
+right_is_not_rejected source link sim build tidy gates verify (Verify own moves) files new fault line right wrong = verify files own moves fault line right wrong.1
 
 -- one status of two
 abbrev IsDoneOrShort : Status → Type 0

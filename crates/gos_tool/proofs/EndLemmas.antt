@@ -14,7 +14,7 @@ use Rattle.gos_command.specs.declared.status.Status.{Status}
 use Rattle.gos_command.specs.declared.status.Status.TheVariants as statuses
 use Rattle.gos_command.specs.declared.stop.Stop.{Stop}
 use Rattle.gos_command.specs.declared.stop.Stop.TheVariants as stops
-use Rattle.gos_tool.specs.Calls.{read_source, read_build_file, compile_calls, link_calls, sim_calls, build_calls, rewrite_calls, write_calls, GoesByBuild}
+use Rattle.gos_tool.specs.Calls.{read_source, read_build_file, compile_calls, link_calls, sim_calls, build_calls, rewrite_calls, verify_calls, write_calls, GoesByBuild}
 use Rattle.gos_tool.specs.objects.Checked.{IsSourceFault}
 use Rattle.gos_tool.specs.circuits.Linked.{RejectsLink}
 use Rattle.gos_tool.specs.netlists.Netlist.{IsNetFault}
@@ -24,7 +24,8 @@ use Rattle.gos_tool.specs.build.Headline.{Headline}
 use Rattle.gos_tool.specs.build.Paced.{HeadlineHolds}
 use Rattle.gos_tool.specs.demo.DemoFiles.{build_file, demo_files}
 use Rattle.gos_tool.specs.demo.Demo.{with_demo, with_files, names_of}
-use Rattle.gos_tool.specs.Command.{Command, Check, Compile, Link, Sim, Build, Demo, Tidy, Gates, Means}
+use Rattle.gos_tool.specs.explained.Verified.{RejectsVerify}
+use Rattle.gos_tool.specs.Command.{Command, Check, Compile, Link, Sim, Build, Demo, Tidy, Gates, Verify, Means}
 use Rattle.gos_tool.proofs.WordLemmas.{levels_in, levels_back}
 use Rattle.gos_tool.specs.Causes.{IsOneOf, StopsFor}
 use Rattle.gos_tool.specs.Run.{Tells, kinds_of, IsDone, IsRejected, IsCutShort, KeepsOthers, CallsOf, EndsDone, EndsRejected, IsUnsaid, IsUntold}
@@ -54,7 +55,7 @@ with_one_file letter file =
 
 abbrev with_two_files : ℕ → Word → Word → Command
 with_two_files letter file made =
-    if nat_eq letter 109 then Compile file made else (if nat_eq letter 100 then Tidy file made else Gates file made)
+    if nat_eq letter 109 then Compile file made else (if nat_eq letter 100 then Tidy file made else (if nat_eq letter 114 then Verify file made else Gates file made))
 
 abbrev read_back : List Word → Option Command
 read_back (verb ∷ file ∷ []) = Some (with_one_file (third verb) file)
@@ -71,6 +72,7 @@ is_read_back words (Build own) means = ap read_back means.0
 is_read_back words (Demo levels) means = ap read_back means.0 ∙ ap (λ (n : ℕ). Some (Demo n)) (levels_back levels means.1.1)
 is_read_back words (Tidy net out) means = ap read_back means.0
 is_read_back words (Gates net out) means = ap read_back means.0
+is_read_back words (Verify own moves) means = ap read_back means.0
 
 -- words are one command at most
 pub same_meaning : (words : List Word) (c d : Command) → Means words c → Means words d → c ≡ d
@@ -219,6 +221,15 @@ gates_rejected net out old new (Err (stops.Rejected rejection)) kept file why = 
 gates_rejected net out old new (Err stops.StoreFailed) kept file why = tt
 gates_rejected net out old new (Err stops.NoMemory) kept file why = tt
 
+-- and of `verify`, which leaves all files
+pub verify_rejected : (own moves : Word) (old new : Option Files) (ended : Result Report Stop) → new ≡ old
+    → IfErr ended (λ stop. IfStopped stop (λ fault line. IfSome old (λ files. RejectsVerify files own moves fault line)))
+    → IfErr ended (λ stop. IfStopped stop (IsRejected (Verify own moves) old new))
+verify_rejected own moves old new (Ok report) kept why = tt
+verify_rejected own moves old new (Err (stops.Rejected rejection)) kept why = (kept, why)
+verify_rejected own moves old new (Err stops.StoreFailed) kept why = tt
+verify_rejected own moves old new (Err stops.NoMemory) kept why = tt
+
 -- where all calls were made, some were
 short_by_build : (first : List StoreCall) (files : Option Files) (own : Word) (rest : built.Build → List StoreCall) (old new : Calls)
     → GoesByBuild Whole first files own rest old new → GoesByBuild Short first files own rest old new
@@ -235,6 +246,7 @@ short_of (Demo levels) files old new made =
     short_by_build (write_calls (names_of (demo_files levels))) (with_files (demo_files levels) files) (build_file levels).name build_calls old new made
 short_of (Tidy net out) files old new made = all_made (rewrite_calls net out) old new made
 short_of (Gates net out) files old new made = all_made (rewrite_calls net out) old new made
+short_of (Verify own moves) files old new made = short_by_build [] files own (verify_calls moves) old new made
 
 -- how far a command came is told by its status, where its line may be unsaid
 calls_at : (c : Command) (status : Status) (end : Ending) (files : Option Files) (old new : Calls) → status_ending status ≡ end → CallsOf c end files old new

@@ -7,3 +7,4 @@ pub mod netlists
 pub mod simulate
 pub mod build
 pub mod demo
+pub mod explained

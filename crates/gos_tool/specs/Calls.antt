@@ -26,6 +26,10 @@ read_netlist name = Read name 268435457
 abbrev pub read_pulses : Word → StoreCall
 read_pulses name = Read name 16777217
 
+-- a trace file, and a file of moves
+abbrev pub read_explained : Word → StoreCall
+read_explained name = Read name 268435457
+
 -- a source is compiled; and the sources of instances are, each written as its object before the next is read
 abbrev pub compile_calls : Word → Word → List StoreCall
 compile_calls source object = read_source source ∷ Write object ∷ []
@@ -63,6 +67,19 @@ plans_calls b = circuit_calls b ++ simulation_calls b.pulses b.trace
 
 abbrev pub build_calls : Build → List StoreCall
 build_calls b = module_calls b.instances.items ++ plans_calls b
+
+-- the sources of instances are read, with nothing written between
+abbrev pub source_calls : List Instance → List StoreCall
+source_calls [] = []
+source_calls (i ∷ is) = read_source i.source ∷ source_calls is
+
+-- a trace file and a file of moves are read
+abbrev pub explained_calls : Word → Word → List StoreCall
+explained_calls trace moves = read_explained trace ∷ read_explained moves ∷ []
+
+-- what `verify` does once its build file is read
+abbrev pub verify_calls : Word → Build → List StoreCall
+verify_calls moves b = source_calls b.instances.items ++ explained_calls b.trace moves
 
 -- files are written
 abbrev pub write_calls : List Word → List StoreCall

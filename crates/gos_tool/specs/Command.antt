@@ -16,12 +16,13 @@ pub data Command : Type 0 where
   Demo : (levels : ℕ) → Command
   Tidy : (net out : Word) → Command
   Gates : (net out : Word) → Command
+  Verify : (own moves : Word) → Command
 
 -- the words as their bytes
 abbrev pub texts : List (String Global) → List Word
 texts words = map string_bytes words
 
--- The words are this command. A file that is written is none of those that are read.
+-- The words are this command. A file that is written is none of those that are read; of `verify` both may be one.
 abbrev pub Means : List Word → Command → Type 0
 Means words (Check source) = (words ≡ codes "check" ∷ source ∷ []) × IsFileName source
 Means words (Compile source object) =
@@ -34,6 +35,7 @@ Means words (Build own) = (words ≡ codes "build" ∷ own ∷ []) × IsFileName
 Means words (Demo levels) = (words ≡ codes "demo" ∷ decimal levels ∷ []) × IsLevelCount levels
 Means words (Tidy net out) = (words ≡ codes "tidy" ∷ net ∷ out ∷ []) × IsFileName net × IsFileName out × (out ≢ net)
 Means words (Gates net out) = (words ≡ codes "gates" ∷ net ∷ out ∷ []) × IsFileName net × IsFileName out × (out ≢ net)
+Means words (Verify own moves) = (words ≡ codes "verify" ∷ own ∷ moves ∷ []) × IsFileName own × IsFileName moves
 
 -- the words are no command
 abbrev pub MeanNothing : List Word → Type 0
@@ -43,4 +45,4 @@ MeanNothing words = (c : Command) → Means words c → ⊥
 abbrev pub usage_line : List ℕ
 usage_line =
     codes "usage: gos check SRC | compile SRC OBJ | link BUILD | sim NET PULSES TRACE | build BUILD | demo N"
-    ++ codes " | tidy NET OUT | gates NET OUT" ++ 10 ∷ []
+    ++ codes " | tidy NET OUT | gates NET OUT | verify BUILD MOVES" ++ 10 ∷ []

@@ -1,6 +1,6 @@
 -- Which files are right for a command. It is done then, where no call fails, or memory runs out.
 --
--- Read first: Command, Run; Complete of circuits, of simulate and of build.
+-- Read first: Command, Run; Complete of circuits, of simulate, of build and of explained.
 use Rattle.std.specs.Prelude.{ℕ, List, Option, Some}
 use Rattle.gos_outside.specs.Files.{Files, bytes_at}
 use Rattle.gos_syntax.specs.Modules.{SeenModule}
@@ -10,7 +10,8 @@ use Rattle.gos_tool.specs.circuits.Complete.{AreRightToLink}
 use Rattle.gos_tool.specs.simulate.Complete.{AreRightToRun}
 use Rattle.gos_tool.specs.build.Complete.{AreRightToBuild}
 use Rattle.gos_tool.specs.netlists.Complete.{IsRightToTidy, IsRightToLower}
-use Rattle.gos_tool.specs.Command.{Command, Check, Compile, Link, Sim, Build, Demo, Tidy, Gates}
+use Rattle.gos_tool.specs.explained.Complete.{AreRightToVerify}
+use Rattle.gos_tool.specs.Command.{Command, Check, Compile, Link, Sim, Build, Demo, Tidy, Gates, Verify}
 use Rattle.gos_tool.specs.Run.{IsRejected}
 
 -- The files, as they are when the command begins, are right for it. A demo writes its own. Of the files that are left only the
@@ -24,6 +25,7 @@ AreRight (Build own) files new = AreRightToBuild files new own
 AreRight (Demo levels) files new = Unit {0}
 AreRight (Tidy net out) files new = IsRightToTidy (bytes_at files net)
 AreRight (Gates net out) files new = IsRightToLower (bytes_at files net)
+AreRight (Verify own moves) files new = AreRightToVerify files own moves
 
 -- a command rejects no file where they are right
 abbrev pub RightIsNotRejected : Type 0

@@ -9,6 +9,7 @@ pub mod netlists
 pub mod simulate
 pub mod build
 pub mod demo
+pub mod explained
 pub mod Command
 pub mod Run
 pub mod SmallCauses

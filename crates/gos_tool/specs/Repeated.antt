@@ -7,11 +7,11 @@ use Rattle.gos_outside.specs.Files.{Files}
 use Rattle.gos_link.specs.BuildFile.{IsBuildFile}
 use Rattle.gos_link.specs.declared.build.Build as builds
 use Rattle.gos_command.specs.declared.report.Report.{Report}
-use Rattle.gos_tool.specs.Calls.{read_source, compile_calls, sim_calls, link_calls, build_calls, write_calls}
+use Rattle.gos_tool.specs.Calls.{read_source, compile_calls, sim_calls, link_calls, build_calls, verify_calls, write_calls}
 use Rattle.gos_tool.specs.Agreement.{AgreeOn, AgreeOnBuild, WriteTheSame, WriteOneBuild}
 use Rattle.gos_tool.specs.demo.DemoFiles.{IsLevelCount, build_file, demo_files}
 use Rattle.gos_tool.specs.demo.Demo.{names_of}
-use Rattle.gos_tool.specs.Command.{Command, Check, Compile, Link, Sim, Build, Demo, Tidy, Gates}
+use Rattle.gos_tool.specs.Command.{Command, Check, Compile, Link, Sim, Build, Demo, Tidy, Gates, Verify}
 use Rattle.gos_tool.specs.Run.{IsDone}
 
 -- what the command writes and tells is decided by what it reads
@@ -24,6 +24,7 @@ IsDecided (Build own) = Unit {0}
 IsDecided (Demo levels) = IsLevelCount levels
 IsDecided (Tidy net out) = ⊥
 IsDecided (Gates net out) = ⊥
+IsDecided (Verify own moves) = Unit {0}
 
 -- Both stores hold the same bytes in each file that the command reads. `demo` reads what it wrote itself; of `tidy` and `gates` nothing
 -- is said here.
@@ -33,6 +34,7 @@ AgreeFor (Compile source object) files others = AgreeOn (compile_calls source ob
 AgreeFor (Link own) files others = AgreeOnBuild own link_calls files others
 AgreeFor (Sim net pulses trace) files others = AgreeOn (sim_calls net pulses trace) files others
 AgreeFor (Build own) files others = AgreeOnBuild own build_calls files others
+AgreeFor (Verify own moves) files others = AgreeOnBuild own (verify_calls moves) files others
 AgreeFor command files others = Unit {0}
 
 -- what two runs of it write is the same; `demo` writes its own files, and then those of the build that its build file says
@@ -45,6 +47,7 @@ WritesTheSame (Build own) files others new other = WriteOneBuild own build_calls
 WritesTheSame (Demo levels) files others new other =
     (b : builds.Build) × IsBuildFile (build_file levels).text (build_file levels).name b
     × WriteTheSame (write_calls (names_of (demo_files levels)) ++ build_calls b) (Some files) (Some others) new other
+WritesTheSame (Verify own moves) files others new other = WriteOneBuild own (verify_calls moves) files others new other
 WritesTheSame command files others new other = Unit {0}
 
 -- where such a command is done twice with the same files, it writes the same texts into the same files, and tells the same

@@ -1,7 +1,8 @@
 -- How the tool's commands end.
 --
--- Read first: Command; Checked and Compiled of objects; Linked of circuits; Sim of simulate; Built of build; Demo of demo; Tidy and Gates of netlists; Lines
--- of gos_command. `old` and `new` are the files of the store before and after, `written` and `printed` the bytes of the sink.
+-- Read first: Command; Checked and Compiled of objects; Linked of circuits; Sim of simulate; Built of build; Demo of demo; Tidy and Gates
+-- of netlists; Verified of explained; Lines of gos_command. `old` and `new` are the files of the store before and after, `written` and
+-- `printed` the bytes of the sink.
 use Rattle.std.specs.Prelude.{◌≡◌, ◌⊎◌, ℕ, List, [], ◌∷◌, Option, None, IfSome}
 use Rattle.gos_outside.specs.Files.{Files, SameBut}
 use Rattle.gos_outside.specs.OtherFiles.{OthersSame}
@@ -13,8 +14,8 @@ use Rattle.gos_command.specs.Lines.{report_line}
 use Rattle.gos_command.specs.Ends.{IsTold}
 use Rattle.gos_command.specs.declared.report.Report.{Report}
 use Rattle.gos_command.specs.declared.status.Fault.{Fault}
-use Rattle.gos_tool.specs.Calls.{read_source, compile_calls, link_calls, sim_calls, build_calls, rewrite_calls, GoesByBuild}
-use Rattle.gos_tool.specs.Causes.{Kind, OfSource, OfObject, OfBuild, OfSize, OfNetlist, OfPulses, IsOneOf, TellsWeight, TellsRun, TellsBoth, TellsCells, TellsGates}
+use Rattle.gos_tool.specs.Calls.{read_source, compile_calls, link_calls, sim_calls, build_calls, rewrite_calls, verify_calls, GoesByBuild}
+use Rattle.gos_tool.specs.Causes.{Kind, OfSource, OfObject, OfBuild, OfSize, OfNetlist, OfPulses, OfMoves, IsOneOf, TellsWeight, TellsRun, TellsBoth, TellsCells, TellsGates, TellsExplained}
 use Rattle.gos_tool.specs.objects.Checked.{IsChecked, IsSourceFault}
 use Rattle.gos_tool.specs.objects.Compiled.{IsCompiled, IsCompileCall}
 use Rattle.gos_tool.specs.circuits.Linked as linking
@@ -27,7 +28,8 @@ use Rattle.gos_tool.specs.build.Built as building
 use Rattle.gos_tool.specs.build.Built.{IsBuilt, RejectsBuild, IsBuildCall, IsBuildCutShort}
 use Rattle.gos_tool.specs.demo.Demo as showing
 use Rattle.gos_tool.specs.demo.Demo.{IsDemoDone, IsDemoCall, IsDemoCutShort, CallsOfDemo}
-use Rattle.gos_tool.specs.Command.{Command, Check, Compile, Link, Sim, Build, Demo, Tidy, Gates, Means}
+use Rattle.gos_tool.specs.explained.Verified.{IsVerified, RejectsVerify, IsVerifyCall}
+use Rattle.gos_tool.specs.Command.{Command, Check, Compile, Link, Sim, Build, Demo, Tidy, Gates, Verify, Means}
 
 -- what the command's line tells, where it is done
 abbrev pub Tells : Command → Report → Type 0
@@ -39,6 +41,7 @@ Tells (Build own) report = TellsBoth report
 Tells (Demo levels) report = TellsBoth report
 Tells (Tidy net out) report = TellsCells report
 Tells (Gates net out) report = TellsGates report
+Tells (Verify own moves) report = TellsExplained report
 
 -- The kinds of causes for which it may reject a file. `build` and `demo` read no object and no netlist, and what they compile is never
 -- too large.
@@ -51,6 +54,7 @@ kinds_of (Build own) = OfSource ∷ OfBuild ∷ OfPulses ∷ []
 kinds_of (Demo levels) = OfSource ∷ OfBuild ∷ OfPulses ∷ []
 kinds_of (Tidy net out) = OfNetlist ∷ []
 kinds_of (Gates net out) = OfNetlist ∷ []
+kinds_of (Verify own moves) = OfSource ∷ OfBuild ∷ OfMoves ∷ []
 
 -- all that the command is to do is done, with this report
 abbrev pub IsDone : Command → Option Files → Option Files → Report → Type 0
@@ -62,6 +66,7 @@ IsDone (Build own) old new report = IfSome old (λ files. IsBuilt files new own 
 IsDone (Demo levels) old new report = IfSome old (λ files. IsDemoDone files new levels report)
 IsDone (Tidy net out) old new report = IsTidyDone old new net out report
 IsDone (Gates net out) old new report = AreGatesDone old new net out report
+IsDone (Verify own moves) old new report = (new ≡ old) × IfSome old (λ files. IsVerified files own moves report)
 
 -- The command rejects a file for this fault, with this line: the first that it finds. `demo` rejects none where the store tells its
 -- files.
@@ -78,6 +83,7 @@ IsRejected (Tidy net out) old new fault line =
     (new ≡ old) × (fault.file ≡ net) × IfSome old (λ files. IsNetFault files net fault line)
 IsRejected (Gates net out) old new fault line =
     (new ≡ old) × (fault.file ≡ net) × IfSome old (λ files. IsGatesFault files net fault line)
+IsRejected (Verify own moves) old new fault line = (new ≡ old) × IfSome old (λ files. RejectsVerify files own moves fault line)
 
 -- The command makes this call of the store, after all that is judged before it was right, and this is what it wrote before.
 abbrev pub IsCall : Command → Option Files → Option Files → LastFault → Type 0
@@ -89,6 +95,7 @@ IsCall (Build own) old new fault = IfSome old (λ files. IsBuildCall files new o
 IsCall (Demo levels) old new fault = IfSome old (λ files. IsDemoCall files new levels fault)
 IsCall (Tidy net out) old new fault = IsTidyCall old new net out fault
 IsCall (Gates net out) old new fault = IsGatesCall old new net out fault
+IsCall (Verify own moves) old new fault = (new ≡ old) × IfSome old (λ files. IsVerifyCall files own moves fault)
 
 -- What the command leaves where memory runs out before its end: the first of its files, each as where all is done.
 abbrev pub IsCutShort : Command → Option Files → Option Files → Type 0
@@ -100,6 +107,7 @@ IsCutShort (Build own) old new = IfSome old (λ files. IsBuildCutShort files new
 IsCutShort (Demo levels) old new = IfSome old (λ files. IsDemoCutShort files new levels)
 IsCutShort (Tidy net out) old new = new ≡ old
 IsCutShort (Gates net out) old new = new ≡ old
+IsCutShort (Verify own moves) old new = new ≡ old
 
 -- all files but those that the command writes are as they were
 abbrev pub KeepsOthers : Command → Option Files → Option Files → Type 0
@@ -111,6 +119,7 @@ KeepsOthers (Build own) old new = building.KeepsUnnamed own old new
 KeepsOthers (Demo levels) old new = OthersSame (showing.written_by levels) old new
 KeepsOthers (Tidy net out) old new = SameBut out old new
 KeepsOthers (Gates net out) old new = SameBut out old new
+KeepsOthers (Verify own moves) old new = new ≡ old
 
 -- The calls of the store that the command makes, up to where it ends.
 abbrev pub CallsOf : Command → Ending → Option Files → Calls → Calls → Type 0
@@ -122,6 +131,7 @@ CallsOf (Build own) ending files old new = GoesByBuild ending [] files own build
 CallsOf (Demo levels) ending files old new = CallsOfDemo ending files levels old new
 CallsOf (Tidy net out) ending files old new = AreMade ending (rewrite_calls net out) old new
 CallsOf (Gates net out) ending files old new = AreMade ending (rewrite_calls net out) old new
+CallsOf (Verify own moves) ending files old new = GoesByBuild ending [] files own (verify_calls moves) old new
 
 -- the words are a command, which is done, and the line that tells so was printed
 pub record EndsDone (words : List Word) (old new : Option Files) (written printed : Option (List ℕ)) : Type 0 where

@@ -11,6 +11,7 @@ ghost use Rattle.gos_tool.specs.Run.{IsDone, IsRejected, IsCall, IsCutShort, Kee
 use crate::build::build;
 use crate::circuits::link_build;
 use crate::demo::{demo, levels_of};
+use crate::explained::verify_moves;
 use crate::netlists::{gates_of, tidy_net};
 use crate::objects::{check_source, compile_source};
 use crate::simulate::sim;
@@ -58,6 +59,11 @@ pub enum Command<'a> {
         net: &'a [u8],
         out: &'a [u8],
     },
+    /// `verify BUILD MOVES`.
+    Verify {
+        own: &'a [u8],
+        moves: &'a [u8],
+    },
 }
 
 /// The command that the words are.
@@ -72,7 +78,7 @@ pub fn command_of(words: &[String]) -> Option<Command<'_>>
             trace.as_bytes(),
         ),
         [verb, read, written] => {
-            two_files_of(verb.as_bytes(), read.as_bytes(), written.as_bytes())
+            two_words_of(verb.as_bytes(), read.as_bytes(), written.as_bytes())
         }
         [verb, word] => one_word_of(verb.as_bytes(), word.as_bytes()),
         _ => None,
@@ -96,8 +102,30 @@ fn sim_of<'a>(verb: &[u8], net: &'a [u8], pulses: &'a [u8], trace: &'a [u8]) -> 
     Some(Command::Sim { net, pulses, trace })
 }
 
+fn two_words_of<'a>(verb: &[u8], one: &'a [u8], other: &'a [u8]) -> Option<Command<'a>>
+    ensures { MatchOption result (MeanNothing (verb.now ∷ one.now ∷ other.now ∷ [])) (λ command.
+        Means (verb.now ∷ one.now ∷ other.now ∷ []) (meant command)) }
+{
+    if verb == b"verify".as_slice() {
+        return verify_of(one, other);
+    }
+    two_files_of(verb, one, other)
+}
+
+// A command that reads two files, which may be one.
+fn verify_of<'a>(own: &'a [u8], moves: &'a [u8]) -> Option<Command<'a>>
+    ensures { MatchOption result (MeanNothing (codes "verify" ∷ own.now ∷ moves.now ∷ [])) (λ command.
+        Means (codes "verify" ∷ own.now ∷ moves.now ∷ []) (meant command)) }
+{
+    if !is_file_name(own) || !is_file_name(moves) {
+        return None;
+    }
+    Some(Command::Verify { own, moves })
+}
+
 // A command that reads one file and writes another.
 fn two_files_of<'a>(verb: &[u8], read: &'a [u8], written: &'a [u8]) -> Option<Command<'a>>
+    requires { verb.now ≢ codes "verify" }
     ensures { MatchOption result (MeanNothing (verb.now ∷ read.now ∷ written.now ∷ [])) (λ command.
         Means (verb.now ∷ read.now ∷ written.now ∷ []) (meant command)) }
 {
@@ -190,5 +218,6 @@ pub fn run_command<S: Store>(
         Command::Demo { levels } => demo(alloc, levels, store),
         Command::Tidy { net, out } => tidy_net(alloc, net, out, store),
         Command::Gates { net, out } => gates_of(alloc, net, out, store),
+        Command::Verify { own, moves } => verify_moves(alloc, own, moves, store),
     }
 }

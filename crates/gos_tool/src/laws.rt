@@ -7,6 +7,7 @@ ghost use Rattle.gos_tool.specs.SmallCauses.{LinkMayBeTooLarge, BuildIsNeverTooL
 
 use crate::build::{one_circuit, right_builds};
 use crate::circuits::{one_link, right_links};
+use crate::explained::{one_verification, right_moves};
 use crate::netlists::right_netlists;
 use crate::objects::{accepted_sources, one_object};
 use crate::simulate::{one_trace, right_runs};
@@ -21,6 +22,7 @@ pub fn right_commands()
     right_runs();
     right_builds();
     right_netlists();
+    right_moves();
 }
 
 /// Where a command but `tidy` or `gates` is done twice, and the files that it reads are the same, it writes the same texts into the
@@ -33,6 +35,7 @@ pub fn same_files()
     one_link();
     one_trace();
     one_circuit();
+    one_verification();
 }
 
 /// Whatever two stores held, the same bytes in a file are the same. Other bytes are not, nor is it to leave what differed. Over one

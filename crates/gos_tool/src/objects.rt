@@ -5,7 +5,7 @@
 // specs/objects/Compiled. Both begin with `module_in` (checking.rt), and the second ends with `write_plan` (compiling.rt);
 // other commands that compile sources do so too. What these two know of a module is said in specs/objects/Typed.
 
-pub use checking::{check_source, module_in};
+pub use checking::{SOURCE_LIMIT, check_source, module_in, module_of};
 pub use compiling::{compile_source, write_plan};
 pub use laws::{accepted_sources, one_object};
 

@@ -317,7 +317,7 @@ fn build_file_is_told_by_its_line(rt: HostRuntime) -> Result<(), Fail> {
 fn no_words_are_answered_with_the_usage(rt: HostRuntime) -> Result<(), Fail> {
     let left = ran(rt.alloc(), &[], &[])?;
     let usage =
-        b"usage: gos check SRC | compile SRC OBJ | link BUILD | sim NET PULSES TRACE | build BUILD | demo N | tidy NET OUT | gates NET OUT\n";
+        b"usage: gos check SRC | compile SRC OBJ | link BUILD | sim NET PULSES TRACE | build BUILD | demo N | tidy NET OUT | gates NET OUT | verify BUILD MOVES\n";
     assert!(rt; left.ended(1, usage));
     Ok(())
 }

@@ -8,7 +8,7 @@ use std::test::Fail;
 const SEQUENCE: &[u8] = b"import c : com import d : com export c ; d : com";
 
 const SEQUENCE_OBJECT: &[u8] =
-    b"gosobj 1\nweight 17\nimports 2\nimport c com\nimport d com\nresult com\nparts 1\nseq\njoints 3\nr.0 p0.2\np0.0 i0.0\np0.1 i1.0\nend\n";
+    b"gosobj 2\nweight 17\nimports 2\nimport c com\nimport d com\nresult com\nparts 1\nseq\njoints 3\nr.0 p0.2\np0.0 i0.0\np0.1 i1.0\nend\n";
 
 // A store's files: this source.
 fn with_source(alloc: Global, source: &[u8]) -> Result<Held, AllocError> {

@@ -10,6 +10,8 @@ mod compiling;
 #[cfg(test)]
 mod demo;
 #[cfg(test)]
+mod explained;
+#[cfg(test)]
 mod failing;
 #[cfg(test)]
 mod linking;

@@ -7,7 +7,7 @@ use std::alloc::{AllocError, Global};
 use std::test::Fail;
 
 const USE: &[u8] =
-    b"gosobj 1\nweight 6\nimports 1\nimport e com\nresult com\nparts 0\njoints 1\nr.0 i0.0\nend\n";
+    b"gosobj 2\nweight 6\nimports 1\nimport e com\nresult com\nparts 0\njoints 1\nr.0 i0.0\nend\n";
 
 // A store's files: this build file, and these objects.
 fn with_build(alloc: Global, build: &[u8], objects: &[(&[u8], &[u8])]) -> Result<Held, AllocError> {
@@ -47,17 +47,17 @@ const FAULTS: [(&[u8], &[u8], &[u8]); 5] = [
     (ONE, b"", b"main.obj: O1 at 0\n"),
     (
         ONE,
-        b"gosobj 1\nweight 5\nimports 0\nresult com\nparts 1\nskip\njoints 1\np0.0 r.0\nend\n",
+        b"gosobj 2\nweight 5\nimports 0\nresult com\nparts 1\nskip\njoints 1\np0.0 r.0\nend\n",
         b"main.obj: O2 joint 0\n",
     ),
     (
         ONE,
-        b"gosobj 1\nweight 5\nimports 65\n",
+        b"gosobj 2\nweight 5\nimports 65\n",
         b"main.obj: O3 limit at 26\n",
     ),
     (
         ONE,
-        b"gosobj 1\nweight 11\nimports 0\nresult fun com com\nparts 0\njoints 1\nr.1 r.0\nend\n",
+        b"gosobj 2\nweight 11\nimports 0\nresult fun com com\nparts 0\njoints 1\nr.1 r.0\nend\n",
         b"b.txt: B10 main\n",
     ),
 ];

@@ -27,43 +27,43 @@ fn object_is_linked(rt: HostRuntime) -> Result<(), Fail> {
 // Objects that are rejected, and the line that each is told.
 const OBJECTS: [(&str, &str); 10] = [
     (
-        "gosobj 1\nweight 5\nimports 0\nresult com\nparts 1\nskip\njoints 1\nr.0 p0.0\nend\n\n",
+        "gosobj 2\nweight 5\nimports 0\nresult com\nparts 1\nskip\njoints 1\nr.0 p0.0\nend\n\n",
         "main.obj: O1 at 74\n",
     ),
     (
-        "gosobj 1\nweight 0\nimports 0\nresult com\nparts 1\nskip\njoints 1\nr.0 p0.0\nend\n",
+        "gosobj 2\nweight 0\nimports 0\nresult com\nparts 1\nskip\njoints 1\nr.0 p0.0\nend\n",
         "main.obj: O1 at 16\n",
     ),
     (
-        "gosobj 1\nweight 8193\nimports 0\nresult com\nparts 1\nskip\njoints 1\nr.0 p0.0\nend\n",
+        "gosobj 2\nweight 8193\nimports 0\nresult com\nparts 1\nskip\njoints 1\nr.0 p0.0\nend\n",
         "main.obj: O1 at 19\n",
     ),
     (
-        "gosobj 1\nweight 5\nimports 65\nresult com\nparts 1\nskip\njoints 1\nr.0 p0.0\nend\n",
+        "gosobj 2\nweight 5\nimports 65\nresult com\nparts 1\nskip\njoints 1\nr.0 p0.0\nend\n",
         "main.obj: O3 limit at 26\n",
     ),
     (
-        "gosobj 1\nweight 5\nimports 4294967296\nresult com\nparts 1\nskip\njoints 1\nr.0 p0.0\nend\n",
+        "gosobj 2\nweight 5\nimports 4294967296\nresult com\nparts 1\nskip\njoints 1\nr.0 p0.0\nend\n",
         "main.obj: O3 limit at 26\n",
     ),
     (
-        "gosobj 1\nweight 5\nimports 0\nresult com\nparts 16385\nskip\njoints 1\nr.0 p0.0\nend\n",
+        "gosobj 2\nweight 5\nimports 0\nresult com\nparts 16385\nskip\njoints 1\nr.0 p0.0\nend\n",
         "main.obj: O3 limit at 45\n",
     ),
     (
-        "gosobj 1\nweight 5\nimports 0\nresult com\nparts 1\nskip\njoints 65537\nr.0 p0.0\nend\n",
+        "gosobj 2\nweight 5\nimports 0\nresult com\nparts 1\nskip\njoints 65537\nr.0 p0.0\nend\n",
         "main.obj: O3 limit at 59\n",
     ),
     (
-        "gosobj 1\nweight 5\nimports 0\nresult com\nparts 1\nskip\njoints 1\nr.0 p1.0\nend\n",
+        "gosobj 2\nweight 5\nimports 0\nresult com\nparts 1\nskip\njoints 1\nr.0 p1.0\nend\n",
         "main.obj: O2 joint 0\n",
     ),
     (
-        "gosobj 1\nweight 5\nimports 0\nresult exp 8\nparts 1\nskip\njoints 1\nr.0 p0.0\nend\n",
+        "gosobj 2\nweight 5\nimports 0\nresult exp 8\nparts 1\nskip\njoints 1\nr.0 p0.0\nend\n",
         "main.obj: O2 joint 0\n",
     ),
     (
-        "gosobj 1\nweight 5\nimports 0\nresult com\nparts 1\nskip\njoints 2\nr.0 p0.0\nr.0 p0.0\nend\n",
+        "gosobj 2\nweight 5\nimports 0\nresult com\nparts 1\nskip\njoints 2\nr.0 p0.0\nr.0 p0.0\nend\n",
         "main.obj: O2 joint 1\n",
     ),
 ];
@@ -93,7 +93,7 @@ fn object_that_is_cut_is_rejected(rt: HostRuntime) -> Result<(), Fail> {
 
 // An object whose result is a function of so many commands.
 fn with_commands(alloc: Global, commands: u64) -> Result<Vec<u8>, AllocError> {
-    let mut object = b"gosobj 1\nweight 5\nimports 0\nresult ".to_vec(alloc)?;
+    let mut object = b"gosobj 2\nweight 5\nimports 0\nresult ".to_vec(alloc)?;
     for _ in 0..commands {
         object.extend_from_slice(b"fun com ")?;
     }
@@ -113,7 +113,7 @@ fn result_of_too_many_handshakes_is_rejected(rt: HostRuntime) -> Result<(), Fail
 
 /// A sequence that is its own first command, and that nobody runs.
 const SELF_ASKING: &[u8] =
-    b"gosobj 1\nweight 5\nimports 0\nresult com\nparts 1\nseq\njoints 1\np0.0 p0.2\nend\n";
+    b"gosobj 2\nweight 5\nimports 0\nresult com\nparts 1\nseq\njoints 1\np0.0 p0.2\nend\n";
 
 // A plan that no module has is laid out all the same, and its circuit never answers.
 #[test]

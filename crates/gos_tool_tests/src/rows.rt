@@ -1,6 +1,6 @@
 // Worked rows of the commands `check`, `compile` and `sim`: files, and what is printed.
 use crate::running::{Left, ran};
-use crate::texts::SKIP_OBJECT;
+use crate::texts::{ONE, SKIP_OBJECT};
 use std::alloc::{AllocError, Global};
 use std::test::Fail;
 
@@ -76,7 +76,7 @@ fn sources_have_these_weights(rt: HostRuntime) -> Result<(), Fail> {
 }
 
 // Sources that are rejected, and the line that each is told.
-const REJECTED: [(&str, &str); 7] = [
+const REJECTED: [(&str, &str); 9] = [
     (
         "import c : com export c || c : com",
         "main.gos: C5 c at 22..23 and 27..28\n",
@@ -93,7 +93,15 @@ const REJECTED: [(&str, &str); 7] = [
         "export skip : exp 5",
         "main.gos: C2 at 7..11 want exp 5 got com\n",
     ),
+    (
+        "export new a[3] : 8 in skip : com",
+        "main.gos: C10 at 13..14 length 3\n",
+    ),
     ("?", "main.gos: L2 byte at 0\n"),
+    (
+        "export 18446744073709551616:64 : exp 64",
+        "main.gos: L3 number at 7\n",
+    ),
     ("", "main.gos: S1 at 0\n"),
     ("import f : com ->", "main.gos: S1 at 17\n"),
 ];
@@ -303,5 +311,22 @@ fn words_that_are_no_command(rt: HostRuntime) -> Result<(), Fail> {
     assert!(rt; is_usage(rt.alloc(), &["check", "a", "b"])?);
     assert!(rt; is_usage(rt.alloc(), &["compile", "a"])?);
     assert!(rt; is_usage(rt.alloc(), &["compile", "a", "a"])?);
+    Ok(())
+}
+
+// The object of `new a[2] : 8 in (a 1:1 := 7:8 ; !(a 1:1))`: both accesses share the array.
+const ARRAY: &[u8] =
+    b"gosobj 2\nweight 80\nimports 0\nresult exp 8\nparts 8\narray 8 2 exp 8\nshare fun exp 1 var 8\nseqexp 8\nassign 8\nlit 8 7\nlit 1 1\nderef 8\nlit 1 1\njoints 12\nr.0 p0.4\np0.0 p2.2\np0.1 p1.0\np1.1 p0.2\np1.2 p0.3\np2.0 p3.2\np2.1 p6.1\np3.0 p4.0\np3.1 p1.5\np1.3 p5.0\np6.0 p1.7\np1.6 p7.0\nend\n";
+
+// An object with an array is linked, and its netlist answers what was written.
+#[test]
+fn an_array_of_an_object_is_linked_and_run(rt: HostRuntime) -> Result<(), Fail> {
+    let alloc = rt.alloc();
+    let files: [(&[u8], &[u8]); 2] = [(b"b.txt", ONE), (b"main.obj", ARRAY)];
+    let linked = ran(alloc, &["link", "b.txt"], &files)?;
+    assert!(rt; linked.ended(0, b"ok weight 80\n"));
+    let net = linked.file(b"out.net").unwrap_or(b"");
+    let left = simulated(alloc, net, b"cycles 100\nnext 0 main.ask\n")?;
+    assert!(rt; left.is_traced(alloc, b"main.ask\nmain.ans 7\ncycles 100\n")?);
     Ok(())
 }

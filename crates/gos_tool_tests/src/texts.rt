@@ -10,4 +10,4 @@ pub const TWO: &[u8] =
 
 /// The object file of `export skip : com`.
 pub const SKIP_OBJECT: &[u8] =
-    b"gosobj 1\nweight 5\nimports 0\nresult com\nparts 1\nskip\njoints 1\nr.0 p0.0\nend\n";
+    b"gosobj 2\nweight 5\nimports 0\nresult com\nparts 1\nskip\njoints 1\nr.0 p0.0\nend\n";

@@ -31,7 +31,9 @@ mutual
   reached_more R S f (i ∷ path) m t h = absurd h
 
   index_more : (R S : Rel) → ((a b : Term) → R a b → S a b) → (path : List ℕ) (m t : Term) → IndexAt path R m t → InIndex S m t
-  index_more R S f (suc zero ∷ suc zero ∷ path) (App h (Both n a)) t (head, b, e, k) = (head, b, e, reached_more R S f path a b k)
+  index_more R S f (suc zero ∷ path) (App h a) t (inr (place, b, e, k)) = inr (place, b, e, reached_more R S f path a b k)
+  index_more R S f (suc zero ∷ suc zero ∷ path) (App h (Both n a)) t (inl (head, b, e, k)) = inl (head, b, e, reached_more R S f path a b k)
+  index_more R S f (suc zero ∷ path) (App h a) t (inl k) = absurd k
   index_more R S f path m t h = absurd h
 
 -- one unfolding more

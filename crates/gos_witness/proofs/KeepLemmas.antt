@@ -102,11 +102,13 @@ leaf_keeps a b (leaves.Lit k w) h fits = refl
 leaf_keeps a b (leaves.Bound n) h fits = refl
 leaf_keeps a b (leaves.Import x) h fits = ap Import (h.names x fits)
 leaf_keeps a b (leaves.Loc p) h fits = refl
+leaf_keeps a b (leaves.Arr p) h fits = refl
 leaf_keeps a b (leaves.Wait x s) h fits = ap (λ y. Wait y s) (h.names x fits)
 
 pub one_keeps : (a b : Tables) (f : OnePart) (m : Term) → KeepsTables a b → FitsOne a f → one_term b f m ≡ one_term a f m
 one_keeps a b (one.Lam t) m h fits = ap (λ u. Lam u m) (h.types t fits)
 one_keeps a b (one.New w) m h fits = refl
+one_keeps a b (one.NewArray n w) m h fits = refl
 one_keeps a b one.Fst m h fits = refl
 one_keeps a b one.Snd m h fits = refl
 one_keeps a b one.Deref m h fits = refl
@@ -121,11 +123,13 @@ fits_leaf a b (leaves.Lit k w) h fits = fits
 fits_leaf a b (leaves.Bound n) h fits = tt
 fits_leaf a b (leaves.Import x) h fits = omega (arith, fits, h.more_names)
 fits_leaf a b (leaves.Loc p) h fits = tt
+fits_leaf a b (leaves.Arr p) h fits = tt
 fits_leaf a b (leaves.Wait x s) h fits = omega (arith, fits, h.more_names)
 
 pub fits_one : (a b : Tables) (f : OnePart) → KeepsTables a b → FitsOne a f → FitsOne b f
 fits_one a b (one.Lam t) h fits = omega (arith, fits, h.more_types)
 fits_one a b (one.New w) h fits = fits
+fits_one a b (one.NewArray n w) h fits = fits
 fits_one a b one.Fst h fits = tt
 fits_one a b one.Snd h fits = tt
 fits_one a b one.Deref h fits = tt

@@ -26,6 +26,7 @@ pub mod NextLemmas
 pub mod DownLemmas
 pub mod InstantiateLemmas
 pub mod StoreLemmas
+pub mod AccessLemmas
 pub mod ShowLemmas
 pub mod ImportLemmas
 pub mod OneWayLemmas

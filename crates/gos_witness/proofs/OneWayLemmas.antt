@@ -4,9 +4,10 @@ use Rattle.std.specs.Prelude.{slice_get}
 use Rattle.std.proofs.lemmas.Bool.{eq-eqb, ne_eqb}
 use Rattle.std.proofs.lemmas.Option.{same_Some}
 use Rattle.gos_types.specs.Types.{Type', Com, Exp, Var, Fun}
-use Rattle.gos_model.specs.Terms.{Name, Term, Skip, Lit, Import, Lam, App, Both, Fst, Snd, Seq, Par, If, While, Assign, Deref, New, Not, Bin, Loc, Scope, Wait, Held, Put}
+use Rattle.gos_model.specs.Terms.{Name, Term, Skip, Lit, Import, Lam, App, Both, Fst, Snd, Seq, Par, If, While, Assign, Deref, New, NewArray, Not, Bin, Loc, Arr, Scope, Wait, Held, Put}
 use Rattle.gos_model.specs.Typing.{Imports, import_type}
-use Rattle.gos_model.specs.Stores.{Entry, variable_at, Store, entry_at}
+use Rattle.gos_model.specs.Stores.{Entry, variable_at, array_at, Store, entry_at}
+use Rattle.gos_model.specs.Steps.{Locates}
 use Rattle.gos_model.specs.Reach.{Rel, Rewrites}
 use Rattle.gos_model.specs.Accesses.{AccessPuts, AccessTakes, ReadEnds, WriteEnds}
 use Rattle.gos_model.specs.Labels.{Label as Shown, IsAnswer}
@@ -21,6 +22,7 @@ use Rattle.gos_witness.specs.inner.Rows.{StepsTo, Shows}
 use Rattle.gos_witness.specs.inner.Places.{replaced, At}
 use Rattle.gos_witness.specs.declared.walking.Zone.{Zone}
 use Rattle.gos_witness.specs.declared.walking.Zone.TheVariants as zones
+use Rattle.gos_model.proofs.StoreLemmas.{one_number}
 use Rattle.gos_witness.proofs.PlaceLemmas.{at_found}
 
 -- a change at a way leads to one term, where the change of the part does
@@ -51,11 +53,11 @@ least_one s l k h j = by (nat_lt l k) refl (nat_lt k l) refl
 lit_parts : (m : Term) (k w j v : ℕ) → m ≡ Lit k w → m ≡ Lit j v → (k ≡ j) × (w ≡ v)
 lit_parts m k w j v e f = let same : Lit k w ≡ Lit j v = sym e ∙ f in (grind (arith, same), grind (arith, same))
 
-loc_entry : (s : Store) (m : Term) (e f : Entry) → m ≡ Loc e.place → m ≡ Loc f.place → entry_at s e.place ≡ Some e → entry_at s f.place ≡ Some f → e ≡ f
-loc_entry s m e f is is' at at' =
-    let same : Loc e.place ≡ Loc f.place = sym is ∙ is' in
-    let place : e.place ≡ f.place = grind (arith, same) in
-    same_Some e f (sym at ∙ ap (entry_at s) place ∙ at')
+one_entry : (s : Store) (m : Term) (e f : Entry) (i j : ℕ) → Locates m e.place i → Locates m f.place j → entry_at s e.place ≡ Some e → entry_at s f.place ≡ Some f
+    → (e ≡ f) × (i ≡ j)
+one_entry s m e f i j is is' at at' =
+    let (place, index) = one_number m e.place i f.place j is is' in
+    (same_Some e f (sym at ∙ ap (entry_at s) place ∙ at'), index)
 
 abbrev first_place : List Entry → ℕ
 first_place [] = 0
@@ -85,11 +87,11 @@ steps_one s a b (Not m) t u ((k, w, e, is, same), x) ((k', w', e', is', same'), 
     (is ∙ (λ i. Lit (complement (width i) (value i)) (width i)) ∙ sym is', same ∙ sym same')
 steps_one s a b (Assign m n) t u ((k, w, e, is, same), x) ((k', w', e', is', same'), x') =
     let (value, width) = lit_parts n k w k' w' e e' in (is ∙ ap (λ j. Put m j) value ∙ sym is', same ∙ sym same')
-steps_one s a b (Put m k) t u ((e, j, at, has, num, is, same), x) ((e', j', at', has', num', is', same'), x') =
-    let one = loc_entry s m e e' at at' has has' in (is ∙ sym is', same ∙ ap (λ (f : Entry). store_put s f.place 0 k) one ∙ sym same')
-steps_one s a b (Deref m) t u ((e, j, at, has, num, is, same), x) ((e', j', at', has', num', is', same'), x') =
-    let one = loc_entry s m e e' at at' has has' in
-    let number : j ≡ j' = same_Some j j' (sym num ∙ (ap (λ (f : Entry). slice_get f.numbers 0) one ∙ num')) in
+steps_one s a b (Put m k) t u ((e, h, j, at, has, num, is, same), x) ((e', h', j', at', has', num', is', same'), x') =
+    let (one, index) = one_entry s m e e' h h' at at' has has' in (is ∙ sym is', same ∙ ((λ i. store_put s (one i).place (index i) k) ∙ sym same'))
+steps_one s a b (Deref m) t u ((e, h, j, at, has, num, is, same), x) ((e', h', j', at', has', num', is', same'), x') =
+    let (one, index) = one_entry s m e e' h h' at at' has has' in
+    let number : j ≡ j' = same_Some j j' (sym num ∙ ((λ i. slice_get (one i).numbers (index i)) ∙ num')) in
     let width : e.width ≡ e'.width = ap (λ (f : Entry). f.width) one in
     (is ∙ ((λ i. Lit (number i) (width i)) ∙ sym is'), same ∙ sym same')
 steps_one s a b (New w m) t u ((l, new, is, same), (k, least, taken)) ((l', new', is', same'), (k', least', taken')) =
@@ -99,6 +101,13 @@ steps_one s a b (New w m) t u ((l, new, is, same), (k, least, taken)) ((l', new'
     let second : l' ≡ k' = ap first_place there in
     let one : l ≡ l' = first ∙ least_one s k k' least least' ∙ sym second in
     (is ∙ ap (λ (p : ℕ). Scope p (instantiate m (Loc p))) one ∙ sym is', same ∙ ap (λ (p : ℕ). variable_at p w 0 ∷ s) one ∙ sym same')
+steps_one s a b (NewArray n w m) t u ((l, new, is, same), (k, least, taken)) ((l', new', is', same'), (k', least', taken')) =
+    let here : ◌≡◌ {A = List Entry} (array_at l w n ∷ s) (array_at k w n ∷ s) = sym same ∙ taken in
+    let there : ◌≡◌ {A = List Entry} (array_at l' w n ∷ s) (array_at k' w n ∷ s) = sym same' ∙ taken' in
+    let first : l ≡ k = ap first_place here in
+    let second : l' ≡ k' = ap first_place there in
+    let one : l ≡ l' = first ∙ least_one s k k' least least' ∙ sym second in
+    (is ∙ ap (λ (p : ℕ). Scope p (instantiate m (Arr p))) one ∙ sym is', same ∙ ap (λ (p : ℕ). array_at p w n ∷ s) one ∙ sym same')
 steps_one s a b (Scope l m) t u ((value, is, same), x) ((value', is', same'), x') = (is ∙ sym is', same ∙ sym same')
 steps_one s a b m t u (h, x) (k, y) = absurd h
 

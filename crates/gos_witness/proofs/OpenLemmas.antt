@@ -7,7 +7,8 @@ use Rattle.std.proofs.lemmas.Option.{slice_get_within}
 use Rattle.gos_syntax.specs.Modules.{SeenImport, SeenModule}
 use Rattle.gos_model.specs.Sources.{import_of}
 use Rattle.gos_model.specs.Linking.{giver_of, add_open, open_of, open_from}
-use Rattle.gos_witness.specs.Substituted.{imports_if, imports_at, binds_of, instances_of, linked_program, IsBind}
+use Rattle.gos_netlist.specs.declared.nets.Side.TheVariants.{Take}
+use Rattle.gos_witness.specs.Substituted.{AreOnSides, imports_if, imports_at, binds_of, instances_of, linked_program, IsBind}
 use Rattle.gos_witness.proofs.BuildLemmas.{same_giver, next_imports}
 use Rattle.gos_netlist.specs.Writable.{IsPortType}
 use Rattle.gos_model.specs.Typing.{Imported, Imports}
@@ -110,3 +111,13 @@ all_imports ms bs vs all own u m at =
 pub one_more_named : (ports : List ProgramPort) (p : ProgramPort) → AllByRecursion IsNamed ports → IsNamed p → AllByRecursion IsNamed (ports ++ p ∷ [])
 one_more_named [] p all one = (one, tt)
 one_more_named (q ∷ ports) p all one = (all.0, one_more_named ports p all.1 one)
+
+-- one port more that is taken
+one_more_on_side : (ports : List ProgramPort) (p : ProgramPort) → AllByRecursion (λ q. q.side ≡ Take) ports → p.side ≡ Take
+    → AllByRecursion (λ q. q.side ≡ Take) (ports ++ p ∷ [])
+one_more_on_side [] p all one = (one, tt)
+one_more_on_side (q ∷ ports) p all one = (all.0, one_more_on_side ports p all.1 one)
+
+pub one_more_taken : (ports : List ProgramPort) (p : ProgramPort) → AreOnSides ports → p.side ≡ Take → AreOnSides (ports ++ p ∷ [])
+one_more_taken [] p all one = absurd all
+one_more_taken (q ∷ ports) p all one = (all.0, one_more_on_side ports p all.1 one)

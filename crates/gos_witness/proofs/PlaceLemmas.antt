@@ -1,7 +1,7 @@
 -- A change at a way is a change of the part there.
 use Rattle.std.proofs.Common.{◌≡◌, ◌<◌, ◌⊎◌, ℕ, zero, suc, List, [], ◌∷◌, ◌++◌, length, refl, sym, ap, subst, arith, Some, None, inl, inr, ◌∙◌}
 use Rattle.std.proofs.lemmas.Option.{none-some}
-use Rattle.gos_model.specs.Terms.{Term, Skip, App, Both, Fst, Snd, Seq, Par, If, Assign, Deref, Not, Bin, Scope, Wait, Held, Put}
+use Rattle.gos_model.specs.Terms.{Term, Skip, App, Both, Fst, Snd, Seq, Par, If, Assign, Deref, Not, Bin, Arr, Scope, Wait, Held, Put}
 use Rattle.gos_model.specs.Reach.{Rel}
 use Rattle.gos_model.specs.Paths.{ReachedAt, IndexAt}
 use Rattle.gos_swaps.specs.doings.Heads.{UnderAt, HeadAt, HeadInIndexAt}
@@ -17,7 +17,7 @@ use Rattle.gos_witness.specs.declared.walking.Frame.{Frame}
 use Rattle.gos_witness.specs.declared.walking.Frame.TheVariants as frames
 use Rattle.gos_witness.specs.NodeLists.{Tables, Listed, leaf_term, one_term, two_term}
 use Rattle.gos_witness.specs.inner.Keeping.{Keeps}
-use Rattle.gos_witness.specs.inner.Places.{pair, argument, child, with_child, and_part, part_at, replaced, At, fill, plug, FitsFrame, AreFrames}
+use Rattle.gos_witness.specs.inner.Places.{pair, own, argument, child, with_child, and_part, part_at, replaced, At, fill, plug, FitsFrame, AreFrames}
 use Rattle.gos_witness.proofs.KeepLemmas.{one_keeps, fits_one}
 
 -- a way begins among reached places, or among heads
@@ -75,9 +75,13 @@ mutual
   reached_found R (i ∷ path) m t h = absurd h
 
   index_found : (R : Rel) (path : List ℕ) (m t : Term) → IndexAt path R m t → Found zones.Access path R m t
-  index_found R (suc zero ∷ suc zero ∷ path) (App h (Both n a)) t ((z, eh), b, e, k) =
+  index_found R (suc zero ∷ path) (App h n) t (inr ((l, eh), b, e, k)) =
+      let (x, y, at, r, is) = reached_found R path n b k in
+      subst (λ (q : Term). Found zones.Access (1 ∷ path) R (App q n) t) (sym eh) (x, y, at, r, e ∙ (λ i. App (eh i) (is i)))
+  index_found R (suc zero ∷ suc zero ∷ path) (App h (Both n a)) t (inl ((z, eh), b, e, k)) =
       let (x, y, at, r, is) = reached_found R path a b k in
       subst (λ (q : Term). Found zones.Access (1 ∷ 1 ∷ path) R (App q (Both n a)) t) (sym eh) (x, y, at, r, e ∙ (λ i. App (eh i) (Both n (is i))))
+  index_found R (suc zero ∷ path) (App h n) t (inl k) = absurd k
   index_found R path m t h = absurd h
 
 mutual
@@ -118,9 +122,13 @@ mutual
   head_found R (i ∷ path) m t h = absurd h
 
   head_index_found : (R : Rel) (path : List ℕ) (m t : Term) → HeadInIndexAt path R m t → Found zones.Aside path R m t
-  head_index_found R (suc zero ∷ suc zero ∷ path) (App h (Both n a)) t ((z, eh), b, e, k) =
+  head_index_found R (suc zero ∷ path) (App h n) t (inr ((l, eh), b, e, k)) =
+      let (x, y, at, r, is) = head_found R path n b k in
+      subst (λ (q : Term). Found zones.Aside (1 ∷ path) R (App q n) t) (sym eh) (x, y, at, r, e ∙ (λ i. App (eh i) (is i)))
+  head_index_found R (suc zero ∷ suc zero ∷ path) (App h (Both n a)) t (inl ((z, eh), b, e, k)) =
       let (x, y, at, r, is) = head_found R path a b k in
       subst (λ (q : Term). Found zones.Aside (1 ∷ 1 ∷ path) R (App q (Both n a)) t) (sym eh) (x, y, at, r, e ∙ (λ i. App (eh i) (Both n (is i))))
+  head_index_found R (suc zero ∷ path) (App h n) t (inl k) = absurd k
   head_index_found R path m t h = absurd h
 
 -- what is changed at a way is found there
@@ -130,17 +138,18 @@ at_found zones.Head R path m t h = head_found R path m t h
 at_found z R path m t h = absurd h
 
 -- no argument is reached but that of an access on the way to its index
-no_argument : (z : Zone) → ((n : Term) → pair z n ≡ None) → (path : List ℕ) (m n x : Term)
+no_argument : (z : Zone) → ((n : Term) → pair z n ≡ None) → ((n : Term) → own z n ≡ None) → (path : List ℕ) (m n x : Term)
     → and_part (λ y c. part_at y path c) (argument z m n) ≡ Some x → ⊥
-no_argument z none path (Wait w zero) n x e = none-some x (sym (ap (and_part (λ y c. part_at y path c)) (none n)) ∙ e)
-no_argument z none path m n x e = none-some x e
+no_argument z none not_own path (Wait w zero) n x e = none-some x (sym (ap (and_part (λ y c. part_at y path c)) (none n)) ∙ e)
+no_argument z none not_own path (Arr l) n x e = none-some x (sym (ap (and_part (λ y c. part_at y path c)) (not_own n)) ∙ e)
+no_argument z none not_own path m n x e = none-some x e
 
 under_at : (R : Rel) (path : List ℕ) (m x y : Term) → part_at zones.Under path m ≡ Some x → R x y → UnderAt path R m (replaced zones.Under path m y)
 under_at R [] m x y e r = subst (λ (q : Term). R q y) (sym (grind (arith, e))) r
 under_at R (zero ∷ path) (App m n) x y e r = (replaced zones.Under path m y, refl, under_at R path m x y e r)
 under_at R (zero ∷ path) (Fst m) x y e r = (replaced zones.Under path m y, refl, under_at R path m x y e r)
 under_at R (zero ∷ path) (Snd m) x y e r = (replaced zones.Under path m y, refl, under_at R path m x y e r)
-under_at R (suc zero ∷ path) (App m n) x y e r = absurd (no_argument zones.Under (λ q. refl) path m n x e)
+under_at R (suc zero ∷ path) (App m n) x y e r = absurd (no_argument zones.Under (λ q. refl) (λ q. refl) path m n x e)
 under_at R (suc zero ∷ path) Skip x y e r = absurd (none-some x e)
 under_at R (suc (suc i) ∷ path) Skip x y e r = absurd (none-some x e)
 under_at R (i ∷ path) m x y e r = absurd (none-some x e)
@@ -159,7 +168,7 @@ mutual
   reached_at R (zero ∷ path) (Scope l m) x y e r = (replaced zones.Reached path m y, refl, reached_at R path m x y e r)
   reached_at R (zero ∷ path) (Put m k) x y e r = (replaced zones.Access path m y, refl, index_at R path m x y e r)
   reached_at R (zero ∷ path) (Deref m) x y e r = (replaced zones.Access path m y, refl, index_at R path m x y e r)
-  reached_at R (suc zero ∷ path) (App m n) x y e r = absurd (no_argument zones.Reached (λ q. refl) path m n x e)
+  reached_at R (suc zero ∷ path) (App m n) x y e r = absurd (no_argument zones.Reached (λ q. refl) (λ q. refl) path m n x e)
   reached_at R (suc (suc i) ∷ path) Skip x y e r = absurd (none-some x e)
   reached_at R (i ∷ path) m x y e r = absurd (none-some x e)
 
@@ -168,8 +177,10 @@ mutual
   index_at R (zero ∷ path) Skip x y e r = absurd (none-some x e)
   index_at R (suc zero ∷ []) (App (Wait z zero) n) x y e r = absurd (none-some x e)
   index_at R (suc zero ∷ zero ∷ path) (App (Wait z zero) Skip) x y e r = absurd (none-some x e)
-  index_at R (suc zero ∷ suc zero ∷ path) (App (Wait z zero) (Both n a)) x y e r = ((z, refl), replaced zones.Reached path a y, refl, reached_at R path a x y e r)
-  index_at R (suc zero ∷ suc zero ∷ path) (App (Wait z zero) (App m n)) x y e r = absurd (no_argument zones.Pair (λ q. refl) path m n x e)
+  index_at R (suc zero ∷ path) (App (Arr l) n) x y e r = inr ((l, refl), replaced zones.Reached path n y, refl, reached_at R path n x y e r)
+  index_at R (suc zero ∷ suc zero ∷ path) (App (Wait z zero) (Both n a)) x y e r =
+      inl ((z, refl), replaced zones.Reached path a y, refl, reached_at R path a x y e r)
+  index_at R (suc zero ∷ suc zero ∷ path) (App (Wait z zero) (App m n)) x y e r = absurd (no_argument zones.Pair (λ q. refl) (λ q. refl) path m n x e)
   index_at R (suc zero ∷ suc (suc i) ∷ path) (App (Wait z zero) Skip) x y e r = absurd (none-some x e)
   index_at R (suc (suc i) ∷ path) Skip x y e r = absurd (none-some x e)
   index_at R path m x y e r = absurd (none-some x e)
@@ -191,7 +202,7 @@ mutual
   head_at R (zero ∷ path) (Snd m) x y e r = (replaced zones.Under path m y, refl, under_at R path m x y e r)
   head_at R (zero ∷ path) (Put m k) x y e r = (replaced zones.Aside path m y, refl, aside_at R path m x y e r)
   head_at R (zero ∷ path) (Deref m) x y e r = (replaced zones.Aside path m y, refl, aside_at R path m x y e r)
-  head_at R (suc zero ∷ path) (App m n) x y e r = absurd (no_argument zones.Head (λ q. refl) path m n x e)
+  head_at R (suc zero ∷ path) (App m n) x y e r = absurd (no_argument zones.Head (λ q. refl) (λ q. refl) path m n x e)
   head_at R (suc (suc i) ∷ path) Skip x y e r = absurd (none-some x e)
   head_at R (i ∷ path) m x y e r = absurd (none-some x e)
 
@@ -203,8 +214,10 @@ mutual
   aside_at R (zero ∷ path) (Snd m) x y e r = inl (replaced zones.Under path m y, refl, under_at R path m x y e r)
   aside_at R (suc zero ∷ []) (App (Wait z zero) n) x y e r = absurd (none-some x e)
   aside_at R (suc zero ∷ zero ∷ path) (App (Wait z zero) Skip) x y e r = absurd (none-some x e)
-  aside_at R (suc zero ∷ suc zero ∷ path) (App (Wait z zero) (Both n a)) x y e r = inr ((z, refl), replaced zones.Head path a y, refl, head_at R path a x y e r)
-  aside_at R (suc zero ∷ suc zero ∷ path) (App (Wait z zero) (App m n)) x y e r = absurd (no_argument zones.HeadPair (λ q. refl) path m n x e)
+  aside_at R (suc zero ∷ path) (App (Arr l) n) x y e r = inr (inr ((l, refl), replaced zones.Head path n y, refl, head_at R path n x y e r))
+  aside_at R (suc zero ∷ suc zero ∷ path) (App (Wait z zero) (Both n a)) x y e r =
+      inr (inl ((z, refl), replaced zones.Head path a y, refl, head_at R path a x y e r))
+  aside_at R (suc zero ∷ suc zero ∷ path) (App (Wait z zero) (App m n)) x y e r = absurd (no_argument zones.HeadPair (λ q. refl) (λ q. refl) path m n x e)
   aside_at R (suc zero ∷ suc (suc i) ∷ path) (App (Wait z zero) Skip) x y e r = absurd (none-some x e)
   aside_at R (suc (suc i) ∷ path) Skip x y e r = absurd (none-some x e)
   aside_at R path m x y e r = absurd (none-some x e)
@@ -222,12 +235,14 @@ leaf_child z a (leaves.Lit k w) i = refl
 leaf_child z a (leaves.Bound n) i = refl
 leaf_child z a (leaves.Import x) i = refl
 leaf_child z a (leaves.Loc p) i = refl
+leaf_child z a (leaves.Arr p) i = refl
 leaf_child z a (leaves.Wait x s) i = refl
 
 pub one_past : (z : Zone) (a : Tables) (f : OnePart) (m : Term) (i : ℕ) → 0 < i → child z (one_term a f m) i ≡ None
 one_past z a f m zero h = absurd (omega (arith, h))
 one_past z a (one.Lam t) m (suc i) h = refl
 one_past z a (one.New w) m (suc i) h = refl
+one_past z a (one.NewArray n w) m (suc i) h = refl
 one_past z a one.Fst m (suc i) h = refl
 one_past z a one.Snd m (suc i) h = refl
 one_past z a one.Deref m (suc i) h = refl
@@ -254,6 +269,7 @@ if_past z m n p (suc i) h = refl
 pub one_with : (a : Tables) (f : OnePart) (m x : Term) → with_child 0 (one_term a f m) x ≡ one_term a f x
 one_with a (one.Lam t) m x = refl
 one_with a (one.New w) m x = refl
+one_with a (one.NewArray n w) m x = refl
 one_with a one.Fst m x = refl
 one_with a one.Snd m x = refl
 one_with a one.Deref m x = refl

@@ -1,7 +1,7 @@
 -- A closed term is put in, form by form.
 use Rattle.std.proofs.Common.{Bool, true, false, ◌≡◌, ◌≤◌, ◌+◌, ◌*◌, ℕ, suc, List, [], ◌∷◌, ◌++◌, refl, ap, arith, ◌∙◌}
 use Rattle.std.specs.Prelude.{nat_eq, if◌then◌else◌}
-use Rattle.gos_model.specs.Terms.{Term, Skip, Lit, Bound, Import, Lam, App, Both, Fst, Snd, Seq, Par, If, While, Assign, Deref, New, Not, Bin, Loc, Scope, Wait, Held, Put}
+use Rattle.gos_model.specs.Terms.{Term, Skip, Lit, Bound, Import, Lam, App, Both, Fst, Snd, Seq, Par, If, While, Assign, Deref, New, NewArray, Not, Bin, Loc, Arr, Scope, Wait, Held, Put}
 use Rattle.gos_model.specs.Substitution.{put_at}
 use Rattle.gos_witness.specs.Sizes.{size}
 use Rattle.gos_witness.specs.Needs.{needs}
@@ -39,9 +39,11 @@ closed_stays d n (While m p) h = λ i. While (closed_stays d n m (grind (arith, 
 closed_stays d n (Assign m p) h = λ i. Assign (closed_stays d n m (grind (arith, h)) i) (closed_stays d n p (grind (arith, h)) i)
 closed_stays d n (Deref m) h = ap Deref (closed_stays d n m h)
 closed_stays d n (New w m) h = ap (New w) (closed_stays (suc d) n m (omega (arith, h)))
+closed_stays d n (NewArray k w m) h = ap (NewArray k w) (closed_stays (suc d) n m (omega (arith, h)))
 closed_stays d n (Not m) h = ap Not (closed_stays d n m h)
 closed_stays d n (Bin op m p) h = λ i. Bin op (closed_stays d n m (grind (arith, h)) i) (closed_stays d n p (grind (arith, h)) i)
 closed_stays d n (Loc l) h = refl
+closed_stays d n (Arr l) h = refl
 closed_stays d n (Scope l m) h = ap (Scope l) (closed_stays d n m h)
 closed_stays d n (Wait x s) h = refl
 closed_stays d n (Held k op m) h = ap (Held k op) (closed_stays d n m h)
@@ -51,6 +53,7 @@ closed_stays d n (Put m k) h = ap (λ x. Put x k) (closed_stays d n m h)
 pub put_one : (a : Tables) (o : OnePart) (d : ℕ) (n m : Term) → put_at d n (one_term a o m) ≡ one_term a o (put_at (d + binders_of o) n m)
 put_one a (one.Lam t) d n m = let e : suc d ≡ d + 1 = omega arith in ap (λ (k : ℕ). one_term a (one.Lam t) (put_at k n m)) e
 put_one a (one.New w) d n m = let e : suc d ≡ d + 1 = omega arith in ap (λ (k : ℕ). New w (put_at k n m)) e
+put_one a (one.NewArray c w) d n m = let e : suc d ≡ d + 1 = omega arith in ap (λ (k : ℕ). NewArray c w (put_at k n m)) e
 put_one a one.Fst d n m = let e : d ≡ d + 0 = omega arith in ap (λ (k : ℕ). Fst (put_at k n m)) e
 put_one a one.Snd d n m = let e : d ≡ d + 0 = omega arith in ap (λ (k : ℕ). Snd (put_at k n m)) e
 put_one a one.Deref d n m = let e : d ≡ d + 0 = omega arith in ap (λ (k : ℕ). Deref (put_at k n m)) e

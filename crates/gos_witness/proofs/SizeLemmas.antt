@@ -13,6 +13,7 @@ use Rattle.gos_witness.specs.NodeLists.{Tables, one_term, two_term, binders_of}
 pub size_one : (a : Tables) (o : OnePart) (m : Term) → size (one_term a o m) ≡ 1 + size m
 size_one a (one.Lam t) m = refl
 size_one a (one.New w) m = refl
+size_one a (one.NewArray n w) m = refl
 size_one a one.Fst m = refl
 size_one a one.Snd m = refl
 size_one a one.Deref m = refl
@@ -33,6 +34,7 @@ size_two (two.Bin op) m p = refl
 pub needs_one : (a : Tables) (o : OnePart) (m : Term) → needs (one_term a o m) ≡ needs m - binders_of o
 needs_one a (one.Lam t) m = refl
 needs_one a (one.New w) m = refl
+needs_one a (one.NewArray n w) m = refl
 needs_one a one.Fst m = omega arith
 needs_one a one.Snd m = omega arith
 needs_one a one.Deref m = omega arith

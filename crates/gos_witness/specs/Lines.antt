@@ -1,11 +1,11 @@
 -- Lines: a list of moves, written down so that it can be made again.
 --
 -- Read first: Sizes; Moves of gos_model, Heads of gos_swaps. A line says where something happens, and what happens
--- follows: an unfolding, a computation step, the next label, or the next label by the root's rule. A new variable takes
--- the least location that the store doesn't have.
+-- follows: an unfolding, a computation step, the next label, or the next label by the root's rule. A new variable or array
+-- takes the least location that the store doesn't have.
 use Rattle.std.specs.Prelude.{◌≡◌, ◌≢◌, ◌⊎◌, ◌<◌, ◌≤◌, ◌+◌, ℕ, List, [], ◌∷◌, ◌++◌, length, None}
-use Rattle.gos_model.specs.Terms.{Term, New}
-use Rattle.gos_model.specs.Stores.{variable_at, Store, entry_at}
+use Rattle.gos_model.specs.Terms.{Term, New, NewArray}
+use Rattle.gos_model.specs.Stores.{variable_at, array_at, Store, entry_at}
 use Rattle.gos_model.specs.Reach.{Rewrites}
 use Rattle.gos_model.specs.Paths.{ReachedAt}
 use Rattle.gos_swaps.specs.doings.Heads.{HeadAt}
@@ -29,9 +29,10 @@ pub record IsLeastNew (s : Store) (l : ℕ) : Type 0 where
   pub new : entry_at s l ≡ None
   pub least : (k : ℕ) → k < l → entry_at s k ≢ None
 
--- a new variable takes that one
+-- a new variable takes that one, and so does a new array
 abbrev pub TakesLeast : Store → Store → Term → Type 0
 TakesLeast s s' (New w m) = (l : ℕ) × IsLeastNew s l × (s' ≡ variable_at l w 0 ∷ s)
+TakesLeast s s' (NewArray n w m) = (l : ℕ) × IsLeastNew s l × (s' ≡ array_at l w n ∷ s)
 TakesLeast s s' m = Unit {0}
 
 -- what a line makes of a running term

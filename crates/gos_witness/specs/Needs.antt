@@ -2,7 +2,7 @@
 --
 -- Read first: Substitution of gos_model. A term that needs none is closed, and nothing is put into it.
 use Rattle.std.specs.Prelude.{ℕ, ◌+◌, ◌-◌, max}
-use Rattle.gos_model.specs.Terms.{Term, Skip, Lit, Bound, Import, Lam, App, Both, Fst, Snd, Seq, Par, If, While, Assign, Deref, New, Not, Bin, Loc, Scope, Wait, Held, Put}
+use Rattle.gos_model.specs.Terms.{Term, Skip, Lit, Bound, Import, Lam, App, Both, Fst, Snd, Seq, Par, If, While, Assign, Deref, New, NewArray, Not, Bin, Loc, Arr, Scope, Wait, Held, Put}
 
 abbrev pub needs : Term → ℕ
 needs Skip = 0
@@ -21,9 +21,11 @@ needs (While m n) = max (needs m) (needs n)
 needs (Assign m n) = max (needs m) (needs n)
 needs (Deref m) = needs m
 needs (New w m) = needs m - 1
+needs (NewArray n w m) = needs m - 1
 needs (Not m) = needs m
 needs (Bin op m n) = max (needs m) (needs n)
 needs (Loc l) = 0
+needs (Arr l) = 0
 needs (Scope l m) = needs m
 needs (Wait x s) = 0
 needs (Held k op n) = needs n

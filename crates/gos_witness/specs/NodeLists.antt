@@ -5,7 +5,7 @@
 use Rattle.std.specs.Prelude.{◌≡◌, ◌<◌, ◌≤◌, ◌⊎◌, ℕ, List, [], ◌∷◌, ◌++◌, length, Option, Some, None, slice_get, get_or}
 use Rattle.gos_types.specs.declared.types.Ty.{Ty}
 use Rattle.gos_types.specs.Types.{Type', Com, type_of}
-use Rattle.gos_model.specs.Terms.{Name, Term, Skip, Lit, Bound, Import, Lam, App, Both, Fst, Snd, Seq, Par, If, While, Assign, Deref, New, Not, Bin, Loc, Scope, Wait, Held, Put}
+use Rattle.gos_model.specs.Terms.{Name, Term, Skip, Lit, Bound, Import, Lam, App, Both, Fst, Snd, Seq, Par, If, While, Assign, Deref, New, NewArray, Not, Bin, Loc, Arr, Scope, Wait, Held, Put}
 use Rattle.gos_model.specs.Sources.{op_of}
 use Rattle.gos_witness.specs.Sizes.{size}
 use Rattle.gos_witness.specs.Needs.{needs}
@@ -52,11 +52,13 @@ leaf_term a (leaves.Lit k w) = Lit k w
 leaf_term a (leaves.Bound n) = Bound n
 leaf_term a (leaves.Import x) = Import (name_at a x)
 leaf_term a (leaves.Loc p) = Loc p
+leaf_term a (leaves.Arr p) = Arr p
 leaf_term a (leaves.Wait x s) = Wait (name_at a x) s
 
 abbrev pub one_term : Tables → OnePart → Term → Term
 one_term a (one.Lam t) m = Lam (type_at a t) m
 one_term a (one.New w) m = New w m
+one_term a (one.NewArray n w) m = NewArray n w m
 one_term a one.Fst m = Fst m
 one_term a one.Snd m = Snd m
 one_term a one.Deref m = Deref m
@@ -78,6 +80,7 @@ two_term (two.Bin op) m n = Bin (op_of op) m n
 abbrev pub binders_of : OnePart → ℕ
 binders_of (one.Lam t) = 1
 binders_of (one.New w) = 1
+binders_of (one.NewArray n w) = 1
 binders_of o = 0
 
 -- the term of a form, by the terms of the nodes before it
@@ -115,11 +118,13 @@ FitsLeaf a (leaves.Lit k w) = IsNarrow w
 FitsLeaf a (leaves.Bound n) = Unit {0}
 FitsLeaf a (leaves.Import x) = x < length a.names
 FitsLeaf a (leaves.Loc p) = Unit {0}
+FitsLeaf a (leaves.Arr p) = Unit {0}
 FitsLeaf a (leaves.Wait x s) = x < length a.names
 
 abbrev pub FitsOne : Tables → OnePart → Type 0
 FitsOne a (one.Lam t) = t < length a.types
 FitsOne a (one.New w) = IsNarrow w
+FitsOne a (one.NewArray n w) = IsNarrow w
 FitsOne a o = Unit {0}
 
 -- and the parts of a form come before number i

@@ -2,7 +2,7 @@
 --
 -- Read first: Terms of gos_model. Types, numbers, names and locations are no nodes of their own.
 use Rattle.std.specs.Prelude.{ℕ, ◌+◌}
-use Rattle.gos_model.specs.Terms.{Term, Skip, Lit, Bound, Import, Lam, App, Both, Fst, Snd, Seq, Par, If, While, Assign, Deref, New, Not, Bin, Loc, Scope, Wait, Held, Put}
+use Rattle.gos_model.specs.Terms.{Term, Skip, Lit, Bound, Import, Lam, App, Both, Fst, Snd, Seq, Par, If, While, Assign, Deref, New, NewArray, Not, Bin, Loc, Arr, Scope, Wait, Held, Put}
 use Rattle.gos_model.specs.Moves.{Config, Idle, Running}
 
 abbrev pub size : Term → ℕ
@@ -22,9 +22,11 @@ size (While m n) = 1 + size m + size n
 size (Assign m n) = 1 + size m + size n
 size (Deref m) = 1 + size m
 size (New w m) = 1 + size m
+size (NewArray n w m) = 1 + size m
 size (Not m) = 1 + size m
 size (Bin op m n) = 1 + size m + size n
 size (Loc l) = 1
+size (Arr l) = 1
 size (Scope l m) = 1 + size m
 size (Wait x s) = 1
 size (Held k op n) = 1 + size n

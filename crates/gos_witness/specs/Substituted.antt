@@ -7,6 +7,7 @@ use Rattle.std.specs.Prelude.{◌≡◌, ◌<◌, ◌≤◌, ℕ, List, [], ◌�
 use Rattle.std.specs.List.{AllByRecursion}
 use Rattle.gos_types.specs.Types.{Type', Com, type_of}
 use Rattle.gos_netlist.specs.Writable.{IsPortType}
+use Rattle.gos_netlist.specs.declared.nets.Side.TheVariants.{Give, Take}
 use Rattle.gos_syntax.specs.Modules.{SeenImport, SeenModule}
 use Rattle.gos_model.specs.Terms as terms
 use Rattle.gos_model.specs.Terms.{Name, Term}
@@ -16,6 +17,7 @@ use Rattle.gos_model.specs.Sources.{program_of}
 use Rattle.gos_model.specs.Linking.{Bind, Instances, substituted}
 use Rattle.gos_witness.specs.declared.binding.Bound.{Bound}
 use Rattle.gos_witness.specs.declared.fault.ExplainFault.{ExplainFault}
+use Rattle.gos_witness.specs.declared.program.ProgramPort.{ProgramPort}
 use Rattle.gos_witness.specs.declared.fault.ExplainFault.TheVariants as faults
 use Rattle.gos_witness.specs.Sizes.{size}
 use Rattle.gos_witness.specs.Ports.{ArePorts, imported}
@@ -58,10 +60,11 @@ pub record IsBind (ms : List SeenModule) (b : Bound) : Type 0 where
   pub import : b.import < length (imports_at ms b.user)
   pub giver : b.giver < length ms
 
--- literals and variables have at most 64 bits
+-- literals, variables and arrays have at most 64 bits
 abbrev pub HasNarrow : Term → Type 0
 HasNarrow (terms.Lit k w) = w ≤ 64
 HasNarrow (terms.New w m) = (w ≤ 64) × HasNarrow m
+HasNarrow (terms.NewArray n w m) = (w ≤ 64) × HasNarrow m
 HasNarrow (terms.Lam a m) = HasNarrow m
 HasNarrow (terms.App m n) = HasNarrow m × HasNarrow n
 HasNarrow (terms.Both m n) = HasNarrow m × HasNarrow n
@@ -113,11 +116,17 @@ face x t = record { name = x; ty = t }
 abbrev pub root_port : List SeenModule → ℕ → Name → Imported
 root_port ms root x = face x (outcome_if (slice_get ms root))
 
+-- the root's port comes first and is given to the surroundings, and the others are taken from them
+abbrev pub AreOnSides : List ProgramPort → Type 0
+AreOnSides [] = ⊥
+AreOnSides (root ∷ ports) = (root.side ≡ Give) × AllByRecursion (λ p. p.side ≡ Take) ports
+
 -- the program of linked modules, with the root's port and behind it those of the open imports; it has at most 1,000,000 nodes
 pub record IsLinked (ms : List SeenModule) (bs : List Bound) (root : ℕ) (name : Name) (p : SeenProgram) : Type 0 where
   pub program : program_in p ≡ linked_program ms bs root
   pub ports : ArePorts p.ports
   pub faces : map imported p.ports ≡ root_port ms root name ∷ (linked_program ms bs root).imports
+  pub sides : AreOnSides p.ports
   pub small : size (linked_program ms bs root).body ≤ 1000000
 
 -- why there is no program: it has more than 1,000,000 nodes, and the count ends with the next one

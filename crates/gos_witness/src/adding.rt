@@ -68,6 +68,19 @@ pub(crate) fn add(
             body,
             ..
         } => { add_block(alloc, list, supplies, binders, name, *width, body) }
+        Source::Array {
+            name,
+            length,
+            width,
+            body,
+            ..
+        } => {
+            let one = OnePart::NewArray {
+                length: *length,
+                width: *width,
+            };
+            add_array(alloc, list, supplies, binders, name, one, body)
+        }
         Source::App(m, n) => add_two(alloc, list, supplies, binders, TwoParts::App, m, n),
         Source::Pair(m, n) => add_two(alloc, list, supplies, binders, TwoParts::Both, m, n),
         Source::Fst(m) => add_one(alloc, list, supplies, binders, OnePart::Fst, m),
@@ -155,6 +168,32 @@ fn add_block(
     };
     let body = add(alloc, list, supplies, &inner, body)?;
     list.push(Form::One(OnePart::New(width), body))
+}
+
+// Adds a block with an array, which is this form.
+#[cycle(adding)]
+fn add_array(
+    alloc: Global,
+    list: &mut NodeList,
+    supplies: &[Supply],
+    binders: &Binders,
+    name: &Name,
+    one: OnePart,
+    body: &Term,
+) -> Result<u32, NoMemory>
+    requires there { AreThere list.old supplies.now }
+    requires form { FitsOne list.old.tables one }
+    requires narrow { HasNarrow (term_of (name.now ∷ names_of binders.now) (tree body.now)) }
+    ensures added { IfOk result (IsAdded list.old list.new supplies.now (λ f.
+        one_term list.old.tables one (meant (name.now ∷ names_of binders.now) (tree body.now) f))) }
+    ensures keeps { Keeps list.old list.new }
+{
+    let inner = Binders::Binder {
+        name: &*name,
+        outer: &*binders,
+    };
+    let body = add(alloc, list, supplies, &inner, body)?;
+    list.push(Form::One(one, body))
 }
 
 // Adds a form of one part, which names no type.

@@ -1,6 +1,6 @@
 // Laws of the definitions. Each is the contract of a function that does nothing.
 ghost use Rattle.gos_witness.specs.SmallLines.{OneIsLeft, SharedCountsTwice, SharedIsSeen, SkipIsExplained, SkipMakesNoStep};
-ghost use Rattle.gos_witness.specs.SmallSteps.{FirstIsRead, FirstIsWritten, LeastIsTaken};
+ghost use Rattle.gos_witness.specs.SmallSteps.{FirstIsRead, FirstIsWritten, IndexIsReached, IndexIsRead, IndexIsWritten, LeastIsTaken};
 ghost use Rattle.gos_witness.specs.Verify.{AlwaysOneAnswer, ExplainedIsTrace};
 
 /// Where lines explain labels, the labels are a trace of the program, whoever wrote the lines.
@@ -23,10 +23,14 @@ pub fn small_lines()
     ensures counts { SharedCountsTwice }
 {}
 
-/// Small computation steps: of a location the number at index 0 is read and written, and no other. A location that the store lacks,
-/// or that has no number, is neither read nor written. A new variable takes the least location that is new.
+/// Small computation steps: of a variable's location the number at index 0 is read and written, and no other. A location that the
+/// store lacks, or that has no number, is neither read nor written. Of an array the number at the index is, once a line at 0, 1 has
+/// evaluated it; outside the array there is none. A new variable or array takes the least location that is new.
 pub fn small_steps()
     ensures read { FirstIsRead }
     ensures written { FirstIsWritten }
     ensures least { LeastIsTaken }
+    ensures index_reached { IndexIsReached }
+    ensures index_read { IndexIsRead }
+    ensures index_written { IndexIsWritten }
 {}

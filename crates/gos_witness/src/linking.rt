@@ -15,7 +15,7 @@ use std::alloc::Global;
 /// of the ports is the root's, of this name; behind it stand those of the open imports, in the order of the modules.
 ///
 /// The root, and the modules and imports that the binds name, are there, some order puts each giver below those whom it serves, and
-/// literals and variables have at most 64 bits. The root's result and the open imports have types of ports and different names, and
+/// literals, variables and arrays have at most 64 bits. The root's result and the open imports have types of ports and different names, and
 /// fewer than 2^32 imports are open.
 ///
 /// `Nodes` is a program of more than 1,000,000 nodes: the count ends at 1,000,001. Beside want of memory there is no other fault.

@@ -28,8 +28,10 @@ pub enum Leaf {
     Bound(u32),
     /// An import.
     Import(u32),
-    /// A location.
+    /// A variable's location.
     Loc(u32),
+    /// An array's location.
+    Arr(u32),
     /// A wait for this event of a port.
     Wait { name: u32, event: u32 },
 }
@@ -41,6 +43,8 @@ pub enum OnePart {
     Lam(u32),
     /// `new` of this width.
     New(u32),
+    /// `new` of so many numbers of this width.
+    NewArray { length: u32, width: u32 },
     /// `fst pair`
     Fst,
     /// `snd pair`
@@ -49,7 +53,7 @@ pub enum OnePart {
     Deref,
     /// `not operand`
     Not,
-    /// A block whose variable is this location.
+    /// A block whose variable or array is at this location.
     Scope(u32),
     /// An operator whose left operand gave this number.
     Held { value: u64, op: Op },
@@ -139,7 +143,7 @@ impl OnePart {
         ensures { result ≡ binders_of self }
     {
         match self {
-            OnePart::Lam(_) | OnePart::New(_) => 1,
+            OnePart::Lam(_) | OnePart::New(_) | OnePart::NewArray { .. } => 1,
             _ => 0,
         }
     }

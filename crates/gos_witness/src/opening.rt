@@ -6,7 +6,7 @@ ghost use Rattle.gos_types.specs.Types.{type_of};
 ghost use Rattle.gos_netlist.specs.Seen.{ground_type};
 ghost use Rattle.gos_netlist.specs.Writable.{IsPortType};
 ghost use Rattle.gos_witness.specs.Ports.{imported};
-ghost use Rattle.gos_witness.specs.Substituted.{AreLinkable, MayBePorts, import_name, linked_program, root_port};
+ghost use Rattle.gos_witness.specs.Substituted.{AreLinkable, AreOnSides, MayBePorts, import_name, linked_program, root_port};
 ghost use Rattle.gos_witness.specs.inner.Built.{AllImports, AreImports, giver_in, is_made, open_in, opens_from};
 ghost use Rattle.gos_witness.specs.inner.TraceParts.{IsNamed};
 
@@ -37,6 +37,7 @@ fn port(alloc: Global, name: &Name, side: Side, ty: &Ty) -> Result<ProgramPort, 
     requires { IsPortType (type_of ty.now) }
     ensures face { IfOk result (λ port. imported port ≡ record { name = name.now; ty = type_of ty.now }) }
     ensures named { IfOk result IsNamed }
+    ensures side { IfOk result (λ port. port.side ≡ side) }
 {
     Ok(ProgramPort {
         name: copy_of(alloc, name)?,
@@ -68,7 +69,7 @@ fn is_bound(imports: &[Import], binds: &[Bound], name: &Name) -> bool
 }
 
 // Adds the ports of a module's imports that nothing serves.
-#[tactic(auto, using(crate::proofs::OpenLemmas::one_more_named))]
+#[tactic(auto, using(crate::proofs::OpenLemmas::one_more_named, crate::proofs::OpenLemmas::one_more_taken))]
 fn push_open(
     alloc: Global,
     ports: &mut Vec<ProgramPort>,
@@ -78,7 +79,9 @@ fn push_open(
     requires imports { AreImports (length imports.now) binds.now }
     requires types { AllByRecursion (λ x. IsPortType x.ty) (open_in imports.now binds.now imports.now) }
     requires named { AllByRecursion IsNamed ports.old.items }
+    requires sides { AreOnSides ports.old.items }
     ensures named { IfOk result (λ _. AllByRecursion IsNamed ports.new.items) }
+    ensures sides { IfOk result (λ _. AreOnSides ports.new.items) }
     ensures faces { IfOk result (λ _. map imported ports.new.items ≡ map imported ports.old.items ++ open_in imports.now binds.now imports.now) }
 {
     for import in imports {
@@ -100,7 +103,9 @@ pub(crate) fn push_all_open(
     requires imports { AllImports modules.now lists.now }
     requires types { AllByRecursion (λ x. IsPortType x.ty) (opens_from lists.now 0 modules.now) }
     requires named { AllByRecursion IsNamed ports.old.items }
+    requires sides { AreOnSides ports.old.items }
     ensures named { IfOk result (λ _. AllByRecursion IsNamed ports.new.items) }
+    ensures sides { IfOk result (λ _. AreOnSides ports.new.items) }
     ensures faces { IfOk result (λ _. map imported ports.new.items ≡ map imported ports.old.items ++ opens_from lists.now 0 modules.now) }
 {
     for number in 0..modules.len() {
@@ -123,6 +128,7 @@ pub(crate) fn ports_of(
     ensures faces { IfOk result (λ ports. map imported ports.items
         ≡ root_port modules.now root name.now ∷ (linked_program modules.now binds.now root).imports) }
     ensures named { IfOk result (λ ports. AllByRecursion IsNamed ports.items) }
+    ensures sides { IfOk result (λ ports. AreOnSides ports.items) }
 {
     let by_user = by_user(alloc, modules.len(), binds)?;
     let source = &modules[root];

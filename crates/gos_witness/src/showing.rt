@@ -80,7 +80,7 @@ fn leaf_behind(list: &NodeList, port: &ProgramPort, label: Label, leaf: Leaf) ->
     match leaf {
         Leaf::Import(name) => asked(list, port, label, name),
         Leaf::Wait { name, event } => answered(list, port, label, name, event),
-        Leaf::Skip | Leaf::Lit { .. } | Leaf::Bound(_) | Leaf::Loc(_) => None,
+        Leaf::Skip | Leaf::Lit { .. } | Leaf::Bound(_) | Leaf::Loc(_) | Leaf::Arr(_) => None,
     }
 }
 

@@ -1,15 +1,16 @@
 // Computation steps: one row for each form.
-ghost use Rattle.std.specs.Prelude.{◌≡◌, ◌<◌, ◌≤◌, List, None, Some, IfOk, length, if◌then◌else◌};
-ghost use Rattle.gos_model.specs.Terms.{Assign, Bin, Deref, Held, If, New, Not, Par, Put, Scope, Seq, While, result_of, result_width};
+ghost use Rattle.std.specs.Prelude.{◌≡◌, ◌<◌, ◌≤◌, List, None, Some, IfOk, length, replicate, if◌then◌else◌};
+ghost use Rattle.gos_model.specs.Terms.{Assign, Bin, Deref, Held, If, New, NewArray, Not, Par, Put, Scope, Seq, While, result_of, result_width};
+ghost use Rattle.gos_model.specs.Substitution.{instantiate};
 ghost use Rattle.gos_model.specs.Sources.{op_of};
-ghost use Rattle.gos_witness.specs.NodeLists.{FitsOne, one_term, seen, two_term};
+ghost use Rattle.gos_witness.specs.NodeLists.{FitsLeaf, FitsOne, leaf_term, one_term, seen, two_term};
 ghost use Rattle.gos_witness.specs.inner.Keeping.{Keeps};
 ghost use Rattle.gos_witness.specs.inner.Rows.{AreNarrow, Outcome};
 
 use crate::nodes::{Form, Leaf, NodeList, OnePart, TwoParts};
 use crate::putting::instantiate;
 use crate::reading_nodes::{Number, is_skip, is_value, location, number_at};
-use crate::store::{Entry, entry_at, least_new, put, without};
+use crate::store::{Entry, least_new, number_in, put, without};
 use gos_syntax::Op;
 use gos_types::{NoMemory, difference, greatest, sum};
 use std::alloc::Global;
@@ -166,7 +167,10 @@ fn step_one(
     match one {
         OnePart::Lam(_) | OnePart::Fst | OnePart::Snd => Ok(None),
         OnePart::New(width) => begin(alloc, list, store, width, part),
-        OnePart::Scope(place) => end(alloc, list, store, place, part),
+        OnePart::NewArray { length, width } => {
+            begin_array(alloc, list, store, length, width, part)
+        }
+        OnePart::Scope(place) => Ok(end(list, store, place, part)),
         OnePart::Deref => read(list, store, part),
         OnePart::Put(value) => write(list, store, value, part),
         OnePart::Not => turned(list, part),
@@ -190,60 +194,107 @@ fn begin(
     ensures narrow { AreNarrow store.new.items }
 {
     let place = least_new(store)?;
-    let variable = list.push(Form::Leaf(Leaf::Loc(place)))?;
-    let block = instantiate(alloc, list, body, variable)?;
-    let next = list.push(Form::One(OnePart::Scope(place), block))?;
+    let next = open_block(alloc, list, place, Leaf::Loc(place), body)?;
+    let numbers = zeros(alloc, 1)?;
     let entry = Entry {
         place,
         width,
-        number: 0,
+        numbers,
     };
     store.insert(0, entry)?;
     Ok(Some(next))
 }
 
-// The end of a block.
-fn end(
+// So does a new array.
+fn begin_array(
     alloc: Global,
-    list: &NodeList,
+    list: &mut NodeList,
     store: &mut Vec<Entry>,
-    place: u32,
+    count: u32,
+    width: u32,
     body: u32,
 ) -> Result<Option<u32>, NoMemory>
+    requires body { body < length list.old.nodes }
+    requires width { width ≤ 64 }
+    requires narrow { AreNarrow store.old.items }
+    ensures outcome { IfOk result (Outcome list.new store.old.items store.new.items (NewArray count width (seen list.old body))) }
+    ensures keeps { Keeps list.old list.new }
+    ensures narrow { AreNarrow store.new.items }
+{
+    let place = least_new(store)?;
+    let next = open_block(alloc, list, place, Leaf::Arr(place), body)?;
+    let numbers = zeros(alloc, count)?;
+    let entry = Entry {
+        place,
+        width,
+        numbers,
+    };
+    store.insert(0, entry)?;
+    Ok(Some(next))
+}
+
+// A block with a leaf for its variable or array, which is at this location.
+fn open_block(
+    alloc: Global,
+    list: &mut NodeList,
+    place: u32,
+    leaf: Leaf,
+    body: u32,
+) -> Result<u32, NoMemory>
+    requires leaf { FitsLeaf list.old.tables leaf }
+    requires body { body < length list.old.nodes }
+    ensures term { IfOk result (λ next. seen list.new next ≡ Scope place (instantiate (seen list.old body) (leaf_term list.old.tables leaf))) }
+    ensures there { IfOk result (λ next. next < length list.new.nodes) }
+    ensures keeps { Keeps list.old list.new }
+{
+    let variable = list.push(Form::Leaf(leaf))?;
+    let block = instantiate(alloc, list, body, variable)?;
+    list.push(Form::One(OnePart::Scope(place), block))
+}
+
+// So many zeros.
+fn zeros(alloc: Global, count: u32) -> Result<Vec<u64>, NoMemory>
+    ensures { IfOk result (λ numbers. numbers.items ≡ replicate count 0) }
+{
+    Ok(vec![in alloc; 0; count as usize]?)
+}
+
+// The end of a block.
+fn end(list: &NodeList, store: &mut Vec<Entry>, place: u32, body: u32) -> Option<u32>
     requires body { body < length list.now.nodes }
     requires narrow { AreNarrow store.old.items }
-    ensures outcome { IfOk result (Outcome list.now store.old.items store.new.items (Scope place (seen list.now body))) }
+    ensures outcome { Outcome list.now store.old.items store.new.items (Scope place (seen list.now body)) result }
     ensures narrow { AreNarrow store.new.items }
 {
     if !is_value(list, body) {
-        return Ok(None);
+        return None;
     }
-    *store = without(alloc, store, place)?;
-    Ok(Some(body))
+    without(store, place);
+    Some(body)
 }
 
-// A variable is read.
+// A variable is read, or an array at an index.
 fn read(list: &mut NodeList, store: &[Entry], variable: u32) -> Result<Option<u32>, NoMemory>
     requires variable { variable < length list.old.nodes }
     requires narrow { AreNarrow store.now }
     ensures outcome { IfOk result (Outcome list.new store.now store.now (Deref (seen list.old variable))) }
     ensures keeps { Keeps list.old list.new }
 {
-    let Some(place) = location(list, variable) else {
+    let Some(at) = location(list, variable) else {
         return Ok(None);
     };
-    let Some(entry) = entry_at(store, place) else {
+    let Some(number) = number_in(store, at.place, at.index) else {
         return Ok(None);
     };
     let value = Leaf::Lit {
-        value: entry.number,
-        width: entry.width,
+        value: number.value,
+        width: number.width,
     };
     let next = list.push(Form::Leaf(value))?;
     Ok(Some(next))
 }
 
-// A variable is written.
+// A variable is written, or an array at an index.
 fn write(
     list: &mut NodeList,
     store: &mut [Entry],
@@ -256,14 +307,14 @@ fn write(
     ensures keeps { Keeps list.old list.new }
     ensures narrow { AreNarrow store.new }
 {
-    let Some(place) = location(list, variable) else {
+    let Some(at) = location(list, variable) else {
         return Ok(None);
     };
-    let Some(entry) = entry_at(store, place) else {
+    let Some(_) = number_in(store, at.place, at.index) else {
         return Ok(None);
     };
     let next = list.push(Form::Leaf(Leaf::Skip))?;
-    put(store, entry.place, value);
+    put(store, at.place, at.index, value);
     Ok(Some(next))
 }
 

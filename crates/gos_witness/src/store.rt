@@ -1,74 +1,88 @@
-// The numbers of the local variables of a running program, newest first.
+// The numbers of the local variables and arrays of a running program, newest first.
 //
-// Each location is a variable's, so an entry has one number, that at index 0 (`entry_of` in specs/inner/Rows). An entry of several
-// numbers would have a list in its place, whose length stays: then `entry_of` takes that list, `put` has an index, reading looks
-// whether there is a number at it, and `without` moves the entries that it leaves.
-ghost use Rattle.std.specs.Prelude.{◌≡◌, ◌≤◌, ◌∷◌, ◌++◌, [], None, Some, IfOk, IfSome, MatchOption};
-ghost use Rattle.gos_model.specs.Stores.{entry_at, store_put, without};
+// A location has a list of numbers, whose length stays: a variable's has one.
+ghost use Rattle.std.specs.Prelude.{◌≡◌, ◌≤◌, None, Some, IfOk, IfSome, MatchOption, set, slice_get};
+ghost use Rattle.gos_model.specs.Stores.{entry_at, number_at, store_put, without};
 ghost use Rattle.gos_witness.specs.Lines.{IsLeastNew};
-ghost use Rattle.gos_witness.specs.inner.Rows.{AreNarrow, entries_of, entry_of};
+ghost use Rattle.gos_witness.specs.inner.Rows.{AreNarrow, entries_of, entry_of, IsNumberAt};
 
+use crate::reading_nodes::Number;
 use gos_types::NoMemory;
-use std::alloc::Global;
 
-/// A location, its width and its number.
-#[derive(Clone, Copy)]
+/// A location, the width of its numbers, and the numbers in the order of their indexes.
+#[derive(Drop)]
 pub struct Entry {
     pub place: u32,
     pub width: u32,
-    pub number: u64,
+    pub numbers: Vec<u64>,
 }
 
-/// What the store has at a location.
-pub fn entry_at(store: &[Entry], place: u32) -> Option<Entry>
+// What the store has at a location.
+fn entry_at(store: &[Entry], place: u32) -> Option<&Entry>
     ensures found { MatchOption result (entry_at (entries_of store.now) place ≡ None)
-        (λ entry. entry_at (entries_of store.now) place ≡ Some (entry_of entry)) }
-    ensures place { IfSome result (λ entry. entry.place ≡ place) }
-    ensures narrow { AreNarrow store.now → IfSome result (λ entry. entry.width ≤ 64) }
+        (λ entry. entry_at (entries_of store.now) place ≡ Some (entry_of entry.now)) }
+    ensures place { IfSome result (λ entry. entry.now.place ≡ place) }
+    ensures narrow { AreNarrow store.now → IfSome result (λ entry. entry.now.width ≤ 64) }
 {
     for entry in store {
         if entry.place == place {
-            return Some(*entry);
+            return Some(entry);
         }
     }
     None
 }
 
-/// The store with another number at a location.
-pub fn put(store: &mut [Entry], place: u32, number: u64)
-    ensures put { entries_of store.new ≡ store_put (entries_of store.old) place 0 number }
+/// The number at an index of a location, if the store has one there.
+pub fn number_in(store: &[Entry], place: u32, index: u64) -> Option<Number>
+    ensures number { MatchOption result (number_at (entries_of store.now) place index ≡ None) (IsNumberAt (entries_of store.now) place index) }
+    ensures narrow { AreNarrow store.now → IfSome result (λ number. number.width ≤ 64) }
+{
+    let entry = entry_at(store, place)?;
+    let value = item_at(entry.numbers.as_slice(), index)?;
+    Some(Number {
+        value,
+        width: entry.width,
+    })
+}
+
+// An item of a list, if it has one there.
+fn item_at(items: &[u64], index: u64) -> Option<u64>
+    ensures { result ≡ slice_get items.now index }
+{
+    items.get(index as usize).copied()
+}
+
+/// The store with another number at an index of a location.
+pub fn put(store: &mut [Entry], place: u32, index: u64, number: u64)
+    ensures put { entries_of store.new ≡ store_put (entries_of store.old) place index number }
     ensures narrow { AreNarrow store.old → AreNarrow store.new }
 {
-    for index in 0..store.len() {
-        if store[index].place == place {
-            store[index].number = number;
+    for at in 0..store.len() {
+        if store[at].place == place {
+            set_number(&mut store[at], index, number);
             return;
         }
     }
 }
 
-/// The store without a location.
-pub fn without(alloc: Global, store: &[Entry], place: u32) -> Result<Vec<Entry>, NoMemory>
-    ensures left { IfOk result (λ left. entries_of left.items ≡ without (entries_of store.now) place) }
-    ensures narrow { AreNarrow store.now → IfOk result (λ left. AreNarrow left.items) }
+// Another number at an index of an entry, if it has one there.
+fn set_number(entry: &mut Entry, index: u64, number: u64)
+    ensures place { entry.new.place ≡ entry.old.place }
+    ensures width { entry.new.width ≡ entry.old.width }
+    ensures numbers { entry.new.numbers.items ≡ set entry.old.numbers.items index number }
 {
-    let mut left = Vec::new(alloc);
-    for entry in store {
-        push_other(&mut left, *entry, place)?;
+    let at = index as usize;
+    if at < entry.numbers.len() {
+        entry.numbers[at] = number;
     }
-    Ok(left)
 }
 
-// Adds an entry, unless it is that of the location.
-#[tactic(auto, using(crate::proofs::StoreLemmas::entries_more, crate::proofs::StoreLemmas::narrow_more))]
-fn push_other(left: &mut Vec<Entry>, entry: Entry, place: u32) -> Result<(), NoMemory>
-    ensures left { IfOk result (λ _. entries_of left.new.items ≡ entries_of left.old.items ++ without (entry_of entry ∷ []) place) }
-    ensures narrow { entry.width ≤ 64 → AreNarrow left.old.items → IfOk result (λ _. AreNarrow left.new.items) }
+/// The store without a location.
+pub fn without(store: &mut Vec<Entry>, place: u32)
+    ensures left { entries_of store.new.items ≡ without (entries_of store.old.items) place }
+    ensures narrow { AreNarrow store.old.items → AreNarrow store.new.items }
 {
-    if entry.place != place {
-        left.push(entry)?;
-    }
-    Ok(())
+    store.retain(|entry| entry.place != place);
 }
 
 /// The least location that the store doesn't have.

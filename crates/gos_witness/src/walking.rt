@@ -1,13 +1,12 @@
 // Ways down a term, and what stands around a place.
-ghost use Rattle.std.specs.Prelude.{◌≡◌, ◌↔◌, ◌<◌, ◌≤◌, ℕ, length, None, Some, IfOk, IsTrue, MatchOption, if◌then◌else◌};
+ghost use Rattle.std.specs.Prelude.{◌≡◌, ◌<◌, ◌≤◌, ℕ, length, None, Some, IfOk, MatchOption, if◌then◌else◌};
 ghost use Rattle.gos_model.specs.Terms.{Term, If};
-ghost use Rattle.gos_model.specs.Reach.{IsArrayHead};
 ghost use Rattle.gos_witness.specs.NodeLists.{Fits, Listed, Tables, one_term, seen, shape, two_term};
 ghost use Rattle.gos_witness.specs.inner.Keeping.{Keeps};
-ghost use Rattle.gos_witness.specs.inner.Places.{AreFrames, EntersAt, FitsFrame, IsPlace, aside, child, ended, fill, index, pair, part_at, plug, reached, under};
+ghost use Rattle.gos_witness.specs.inner.Places.{AreFrames, EntersAt, FitsFrame, IsAccess, IsPlace, argument, aside, child, ended, fill, index, own, pair, part_at, plug, reached, under};
 
 use crate::nodes::{Form, NodeList, OnePart, TwoParts};
-use crate::reading_nodes::is_asking;
+use crate::reading_nodes::{Access, access_of};
 use gos_types::NoMemory;
 use std::alloc::Global;
 
@@ -90,7 +89,7 @@ impl Zone {
         }
     }
 
-    // Where the argument of an access lies whose index is reached.
+    // Where the argument of a port's access lies whose index is reached.
     fn pair(self) -> Option<Zone>
         ensures { MatchOption result ((m : Term) → pair self m ≡ None) (λ zone. (m : Term) → pair self m ≡ Some (zone, m)) }
     {
@@ -101,7 +100,30 @@ impl Zone {
         }
     }
 
-    // Where the index of an access lies, as it is now.
+    // Where the index of an access of an array lies.
+    fn own(self) -> Option<Zone>
+        ensures { MatchOption result ((m : Term) → own self m ≡ None) (λ zone. (m : Term) → own self m ≡ Some (zone, m)) }
+    {
+        match self {
+            Zone::Access => Some(Zone::Reached),
+            Zone::Aside => Some(Zone::Head),
+            _ => None,
+        }
+    }
+
+    // Where the argument of an application lies.
+    fn argument(self, access: Access) -> Option<Zone>
+        ensures { MatchOption result ((m n : Term) → IsAccess access m → argument self m n ≡ None)
+            (λ zone. (m n : Term) → IsAccess access m → argument self m n ≡ Some (zone, n)) }
+    {
+        match access {
+            Access::No => None,
+            Access::Port => self.pair(),
+            Access::Array(_) => self.own(),
+        }
+    }
+
+    // Where the index of a port's access lies, as it is now.
     fn index(self) -> Option<Zone>
         ensures { MatchOption result ((m : Term) → index self m ≡ None) (λ zone. (m : Term) → index self m ≡ Some (zone, m)) }
     {
@@ -128,7 +150,7 @@ impl Zone {
             (λ zone. (a : Tables) (m : Term) → child self (one_term a one m) 0 ≡ Some (zone, m)) }
     {
         match one {
-            OnePart::Lam(_) | OnePart::New(_) => None,
+            OnePart::Lam(_) | OnePart::New(_) | OnePart::NewArray { .. } => None,
             OnePart::Fst | OnePart::Snd => self.under(),
             OnePart::Deref | OnePart::Put(_) => self.aside(),
             OnePart::Not | OnePart::Scope(_) | OnePart::Held { .. } => self.reached(),
@@ -147,16 +169,16 @@ impl Zone {
         }
     }
 
-    // Where the second part of a form of two parts lies. Only that of an access that asks for its index does in an application.
-    fn below_second(self, two: TwoParts, asks: bool) -> Option<Zone>
-        ensures { MatchOption result ((m n : Term) → (IsTrue asks ↔ IsArrayHead m) → child self (two_term two m n) 1 ≡ None)
-            (λ zone. (m n : Term) → (IsTrue asks ↔ IsArrayHead m) → child self (two_term two m n) 1 ≡ Some (zone, n)) }
+    // Where the second part of a form of two parts lies. That of an application does only in an access whose index is reached.
+    fn below_second(self, two: TwoParts, access: Access) -> Option<Zone>
+        ensures { MatchOption result ((m n : Term) → IsAccess access m → child self (two_term two m n) 1 ≡ None)
+            (λ zone. (m n : Term) → IsAccess access m → child self (two_term two m n) 1 ≡ Some (zone, n)) }
     {
         match two {
             TwoParts::Par | TwoParts::Assign => self.reached(),
-            TwoParts::App if asks => self.pair(),
+            TwoParts::App => self.argument(access),
             TwoParts::Both => self.index(),
-            TwoParts::App | TwoParts::Seq | TwoParts::While | TwoParts::Bin(_) => None,
+            TwoParts::Seq | TwoParts::While | TwoParts::Bin(_) => None,
         }
     }
 
@@ -221,7 +243,7 @@ impl Zone {
                 })
             }
             1 => {
-                let zone = self.below_second(two, is_asking(list, first))?;
+                let zone = self.below_second(two, access_of(list, first))?;
                 let frame = Frame::Second(two, first);
                 Some(Entered {
                     zone,

@@ -1,5 +1,6 @@
 -- The kinds of causes that a command may stop for.
-use Rattle.std.proofs.Common.{◌≡◌, ◌≢◌, ℕ, inl, inr, List, [], ◌∷◌, ◌++◌, refl, sym, ap, subst}
+use Rattle.std.proofs.Common.{◌≡◌, ◌≢◌, ℕ, inl, inr, List, [], ◌∷◌, ◌++◌, Result, Ok, Err, refl, sym, ap, subst}
+use Rattle.std.specs.Prelude.{IfErr}
 use Rattle.gos_link.specs.declared.fault.LinkFault.{LinkFault}
 use Rattle.gos_link.specs.declared.fault.LinkFault.TheVariants as links
 use Rattle.gos_command.specs.Ends.{IfStopped, IsRealCause}
@@ -29,6 +30,10 @@ pub stops_behind : (more kinds : List Kind) (stop : Stop) → StopsFor kinds sto
 stops_behind more kinds (Rejected r) is = behind more kinds r.fault.cause is
 stops_behind more kinds StoreFailed is = tt
 stops_behind more kinds NoMemory is = tt
+
+pub behind_all : {A : Type 0} (more kinds : List Kind) (r : Result A Stop) → IfErr r (StopsFor kinds) → IfErr r (StopsFor (more ++ kinds))
+behind_all more kinds (Ok x) is = tt
+behind_all more kinds (Err stop) is = stops_behind more kinds stop is
 
 -- a file that is rejected for a cause
 pub stops_for : (kinds : List Kind) (cause : Cause) (stop : Stop) (P : Fault → List ℕ → Type 0) → (IsRealCause cause → IsOneOf kinds cause)

@@ -20,7 +20,8 @@ use Rattle.gos_command.specs.declared.report.Counts.{Counts}
 use Rattle.gos_command.specs.declared.report.Report.{Report}
 use Rattle.gos_command.specs.declared.report.Report.TheVariants as reports
 use Rattle.gos_command.specs.declared.status.Fault.{Fault}
-use Rattle.gos_tool.specs.circuits.Plans.{IsPlansDone, IsPlansCause, IsBuildFault, IsPlansCall, IsPlansCutShort}
+use Rattle.gos_tool.specs.Causes.{IsFileFault}
+use Rattle.gos_tool.specs.circuits.Plans.{IsPlansDone, IsPlansCause, IsPlansCall, IsPlansCutShort}
 use Rattle.gos_tool.specs.circuits.Linked.{SaysBuild, IsFormCause}
 use Rattle.gos_tool.specs.simulate.Simulation.{LeavesTrace, IsPulseFault, IsSimulationCall}
 use Rattle.gos_tool.specs.build.Programs.{program_along, IsTyped}
@@ -66,7 +67,7 @@ pub record RejectsPulses (old new : Option Files) (b : Build) (plans : List Seen
 -- a source, with the objects written of those before it; before all the build file for its form.
 abbrev pub RejectsPlans : Option Files → Option Files → Word → Build → List SeenPlan → Fault → List ℕ → Type 0
 RejectsPlans old new own b plans fault line =
-    (IsBuildFault own (IsPlansCause b plans) fault line × (new ≡ old)) ⊎ RejectsPulses old new b plans fault line
+    (IsFileFault own (IsPlansCause b plans) fault line × (new ≡ old)) ⊎ RejectsPulses old new b plans fault line
 
 abbrev pub RejectsInstances : Files → Option Files → Word → Build → Fault → List ℕ → Type 0
 RejectsInstances files new own b fault line =
@@ -76,7 +77,7 @@ RejectsInstances files new own b fault line =
 
 abbrev pub RejectsBuild : Files → Option Files → Word → Fault → List ℕ → Type 0
 RejectsBuild files new own fault line =
-    (IsBuildFault own (IsFormCause (bytes_at files own) own) fault line × (new ≡ Some files))
+    (IsFileFault own (IsFormCause (bytes_at files own) own) fault line × (new ≡ Some files))
     ⊎ ((b : Build) × SaysBuild files own b × RejectsInstances files new own b fault line)
 
 -- The calls of the store, each where what is judged before it is right, with what was written before it: those once the plans

@@ -23,8 +23,9 @@ use Rattle.gos_command.specs.declared.report.Report.TheVariants as reports
 use Rattle.gos_command.specs.declared.status.Cause.{Cause}
 use Rattle.gos_command.specs.declared.status.Cause.TheVariants as causes
 use Rattle.gos_command.specs.declared.status.Fault.{Fault}
+use Rattle.gos_tool.specs.Causes.{IsFileFault}
 use Rattle.gos_tool.specs.circuits.Objects.{HoldPlans, RejectsObject, IsObjectCall}
-use Rattle.gos_tool.specs.circuits.Plans.{IsWritten, IsPlansCause, IsBuildFault, IsWriteCall, IsWriteCutShort}
+use Rattle.gos_tool.specs.circuits.Plans.{IsWritten, IsPlansCause, IsWriteCall, IsWriteCutShort}
 
 -- what the build file says
 abbrev pub SaysBuild : Files → Word → Build → Type 0
@@ -65,11 +66,11 @@ IsLinkCause files b cause = (plans : List SeenPlan) × HoldPlans files b.instanc
 -- The first file that is rejected: an object file, or the build file for what it binds; before these the build file for its
 -- form.
 abbrev pub RejectsWhole : Files → Word → Build → Fault → List ℕ → Type 0
-RejectsWhole files own b fault line = RejectsObject files b.instances.items fault line ⊎ IsBuildFault own (IsLinkCause files b) fault line
+RejectsWhole files own b fault line = RejectsObject files b.instances.items fault line ⊎ IsFileFault own (IsLinkCause files b) fault line
 
 abbrev pub RejectsLink : Files → Word → Fault → List ℕ → Type 0
 RejectsLink files own fault line =
-    IsBuildFault own (IsFormCause (bytes_at files own) own) fault line
+    IsFileFault own (IsFormCause (bytes_at files own) own) fault line
     ⊎ ((b : Build) × SaysBuild files own b × RejectsWhole files own b fault line)
 
 -- The calls of the store, each where what is judged before it is right, with what was written before it: those after the

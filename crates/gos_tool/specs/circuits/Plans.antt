@@ -2,10 +2,9 @@
 --
 -- Read first: Linked of gos_link; Circuit; NetText of gos_netlist; VerilogText of gos_verilog. `old` and `new` are the files of
 -- the store before and after. The plans are those of the build's instances, however they came.
-use Rattle.std.specs.Prelude.{◌≡◌, ◌≢◌, ◌⊎◌, ℕ, List, Option, None}
+use Rattle.std.specs.Prelude.{◌≡◌, ◌≢◌, ◌⊎◌, ℕ, List, Option}
 use Rattle.gos_outside.specs.Files.{Files, with_file, SameBut}
 use Rattle.gos_outside.specs.Faults.{LastFault, WriteFault}
-use Rattle.gos_lex.specs.Lines.{Word}
 use Rattle.gos_netlist.specs.Nets.{Netlist}
 use Rattle.gos_netlist.specs.NetText.{text_of}
 use Rattle.gos_plan.specs.Plans.{Plan}
@@ -14,10 +13,8 @@ use Rattle.gos_link.specs.Linked.{IsLinked, IsUnlinked}
 use Rattle.gos_link.specs.declared.build.Build.{Build}
 use Rattle.gos_link.specs.declared.fault.LinkFault.TheVariants as faults
 use Rattle.gos_verilog.specs.VerilogText.{IsVerilogOf}
-use Rattle.gos_command.specs.Lines.{fault_line}
 use Rattle.gos_command.specs.declared.status.Cause.{Cause}
 use Rattle.gos_command.specs.declared.status.Cause.TheVariants as causes
-use Rattle.gos_command.specs.declared.status.Fault.{Fault}
 use Rattle.gos_tool.specs.circuits.Circuit.{IsCircuitOf}
 
 -- the files with the netlist written
@@ -42,12 +39,6 @@ pub record IsPlansDone (old new : Option Files) (b : Build) (plans : List SeenPl
 abbrev pub IsPlansCause : Build → List SeenPlan → Cause → Type 0
 IsPlansCause b plans (causes.Link fault) = (fault ≢ faults.NoMemory) × IsUnlinked b plans fault
 IsPlansCause b plans cause = ⊥
-
--- the build file is rejected for such a cause, with this line
-pub record IsBuildFault (own : Word) (Why : Cause → Type 0) (fault : Fault) (line : List ℕ) : Type 0 where
-  pub file : fault.file ≡ own
-  pub cause : Why fault.cause
-  pub says : line ≡ fault_line None fault
 
 -- The calls of the store, each where what is judged before it is right, with what was written before it: those that write the
 -- circuit, then those from the linking on. A file whose write fails may hold anything.

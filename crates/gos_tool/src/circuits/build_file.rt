@@ -7,9 +7,8 @@ ghost use Rattle.gos_outside.specs.Faults.{CountsFaults, ReadFault};
 ghost use Rattle.gos_outside.specs.Calls.{AreMade};
 ghost use Rattle.gos_link.specs.BuildFile.{IsBuildFile};
 ghost use Rattle.gos_command.specs.Ends.{IfStopped, IsTold, ending};
-ghost use Rattle.gos_tool.specs.Causes.{OfBuild, StopsFor};
+ghost use Rattle.gos_tool.specs.Causes.{IsFileFault, OfBuild, StopsFor};
 ghost use Rattle.gos_tool.specs.Calls.{read_build_file};
-ghost use Rattle.gos_tool.specs.circuits.Plans.{IsBuildFault};
 ghost use Rattle.gos_tool.specs.circuits.Linked.{SaysBuild, IsFormCause};
 
 use gos_command::{Cause, Stop, read_file, reject};
@@ -28,7 +27,7 @@ pub fn build_in<S: Store>(alloc: Global, own: &[u8], store: &mut S) -> Result<Bu
     ensures few_instances { IfOk result (λ build. length build.instances.items ≤ 65536) }
     ensures few_binds { IfOk result (λ build. length build.binds.items ≤ 65536) }
     ensures rejected { IfErr result (λ stop. IfStopped stop (λ fault line. IfSome (S.contents store.old) (λ files.
-        IsBuildFault own.now (IsFormCause (bytes_at files own.now) own.now) fault line))) }
+        IsFileFault own.now (IsFormCause (bytes_at files own.now) own.now) fault line))) }
     ensures told { IfErr result (λ stop. IfStopped stop IsTold) }
     ensures kind { IfErr result (StopsFor (OfBuild ∷ [])) }
     ensures calls { AreMade (ending result) (read_build_file own.now ∷ []) (S.calls store.old) (S.calls store.new) }

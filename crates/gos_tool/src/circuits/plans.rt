@@ -9,9 +9,9 @@ ghost use Rattle.gos_plan.specs.Ranges.{AreInRange};
 ghost use Rattle.gos_plan.specs.Seen.{SeenPlan, plan_of};
 ghost use Rattle.gos_link.specs.Linked.{IsLinkable, IsLinked};
 ghost use Rattle.gos_command.specs.Ends.{IfStopped, IsTold, ending};
-ghost use Rattle.gos_tool.specs.Causes.{OfBuild, OfSize, StopsFor};
+ghost use Rattle.gos_tool.specs.Causes.{IsFileFault, OfBuild, OfSize, StopsFor};
 ghost use Rattle.gos_tool.specs.Calls.{circuit_calls};
-ghost use Rattle.gos_tool.specs.circuits.Plans.{IsWritten, IsPlansDone, IsPlansCause, IsBuildFault, IsWriteCall, IsPlansCall, IsWriteCutShort, IsPlansCutShort};
+ghost use Rattle.gos_tool.specs.circuits.Plans.{IsWritten, IsPlansDone, IsPlansCause, IsWriteCall, IsPlansCall, IsWriteCutShort, IsPlansCutShort};
 
 use crate::circuits::laying::circuit;
 use gos_command::{Cause, Stop, reject, write_file};
@@ -45,7 +45,7 @@ pub fn link_plans<S: Store>(
     requires own { IsFileName own.now }
     requires plans { IsLinkable build.now plans.now }
     ensures done { IfOk result (λ linked. IsPlansDone (S.contents store.old) (S.contents store.new) build.now plans.now linked.weight linked.net) }
-    ensures rejected { IfErr result (λ stop. IfStopped stop (IsBuildFault own.now (IsPlansCause build.now plans.now))) }
+    ensures rejected { IfErr result (λ stop. IfStopped stop (IsFileFault own.now (IsPlansCause build.now plans.now))) }
     ensures told { IfErr result (λ stop. IfStopped stop IsTold) }
     ensures rejected_files { IfErr result (λ stop. IfStopped stop (λ fault line. S.contents store.new ≡ S.contents store.old)) }
     ensures kind { IfErr result (StopsFor (OfBuild ∷ OfSize ∷ [])) }

@@ -20,7 +20,7 @@ use gos_syntax::{Module, parse};
 use std::alloc::Global;
 
 /// The longest source file, in bytes.
-const SOURCE_LIMIT: usize = 65_536;
+pub const SOURCE_LIMIT: usize = 65_536;
 
 /// Reads a source file, and tells the weight of its module.
 ///
@@ -84,8 +84,8 @@ fn typed_module(alloc: Global, text: &[u8]) -> Result<Linear, Cause>
     }
 }
 
-// The module of a text, or why it is none.
-fn module_of(alloc: Global, text: &[u8]) -> Result<Module, Cause>
+/// The module of a text, or why it is none.
+pub fn module_of(alloc: Global, text: &[u8]) -> Result<Module, Cause>
     ensures source { IfOk result (IsSource text.now) }
     ensures countable { IfOk result IsCountableModule }
     ensures kind { IfErr result (λ cause. kind_of cause ≡ OfSource) }

@@ -3,12 +3,14 @@
 -- Read first: NodeLists; Paths of gos_model, Heads of gos_swaps. A way goes down reached places (ReachedAt), or reached places and then heads
 -- (HeadAt), by zones. Beside these relations stand the part that it leads to, and the whole with another term there.
 use Rattle.std.specs.Prelude.{◌≡◌, ◌<◌, ℕ, zero, suc, List, [], ◌∷◌, Option, Some, None, length}
-use Rattle.gos_model.specs.Terms.{Term, Lam, App, Both, Fst, Snd, Seq, Par, If, While, Assign, Deref, New, Not, Bin, Scope, Wait, Held, Put}
-use Rattle.gos_model.specs.Reach.{Rel}
+use Rattle.gos_model.specs.Terms.{Term, Lam, App, Both, Fst, Snd, Seq, Par, If, While, Assign, Deref, New, NewArray, Not, Bin, Arr, Scope, Wait, Held, Put}
+use Rattle.gos_model.specs.Reach.{Rel, IsArrayHead, IsArrayPlace}
 use Rattle.gos_model.specs.Paths.{ReachedAt}
 use Rattle.gos_swaps.specs.doings.Heads.{HeadAt}
 use Rattle.gos_witness.specs.NodeLists.{Tables, Listed, one_term, two_term, seen, shape, FitsOne, Fits}
 use Rattle.gos_witness.specs.declared.nodes.Form.{Form}
+use Rattle.gos_witness.specs.declared.reading_nodes.Access.{Access}
+use Rattle.gos_witness.specs.declared.reading_nodes.Access.TheVariants as accesses
 use Rattle.gos_witness.specs.declared.walking.Zone.{Zone}
 use Rattle.gos_witness.specs.declared.walking.Zone.TheVariants as zones
 use Rattle.gos_witness.specs.declared.walking.Frame.{Frame}
@@ -33,15 +35,28 @@ aside zones.Reached m = Some (zones.Access, m)
 aside zones.Head m = Some (zones.Aside, m)
 aside z m = None
 
--- the pair of an access whose index is reached, and the index, as it is now
+-- The argument of an access whose index is reached. That of a port is a pair, whose second is the index, as it is now; that of an
+-- array of the program's own is the index.
 abbrev pub pair : Zone → Term → Option (Zone × Term)
 pair zones.Access m = Some (zones.Pair, m)
 pair zones.Aside m = Some (zones.HeadPair, m)
 pair z m = None
 
+abbrev pub own : Zone → Term → Option (Zone × Term)
+own zones.Access m = Some (zones.Reached, m)
+own zones.Aside m = Some (zones.Head, m)
+own z m = None
+
 abbrev pub argument : Zone → Term → Term → Option (Zone × Term)
 argument z (Wait x zero) n = pair z n
+argument z (Arr l) n = own z n
 argument z m n = None
+
+-- which access an application is, by its function part
+abbrev pub IsAccess : Access → Term → Type 0
+IsAccess accesses.No m = (IsArrayHead m → ⊥) × (IsArrayPlace m → ⊥)
+IsAccess accesses.Port m = IsArrayHead m
+IsAccess (accesses.Array l) m = m ≡ Arr l
 
 abbrev pub index : Zone → Term → Option (Zone × Term)
 index zones.Pair m = Some (zones.Reached, m)
@@ -82,6 +97,7 @@ with_child zero (While m n) x = While x n
 with_child zero (Assign m n) x = Assign x n
 with_child zero (Deref m) x = Deref x
 with_child zero (New w m) x = New w x
+with_child zero (NewArray n w m) x = NewArray n w x
 with_child zero (Not m) x = Not x
 with_child zero (Bin op m n) x = Bin op x n
 with_child zero (Scope l m) x = Scope l x

@@ -1,7 +1,7 @@
 -- What the rows of the program answer.
 --
 -- Read first: NodeLists, Lines; Steps of gos_model.
-use Rattle.std.specs.Prelude.{◌≡◌, ◌<◌, ◌≤◌, ◌⊎◌, ℕ, List, [], ◌∷◌, Option, Some, None, length, map, nat_eq, ◌&&◌, if◌then◌else◌}
+use Rattle.std.specs.Prelude.{◌≡◌, ◌<◌, ◌≤◌, ◌⊎◌, ℕ, List, [], ◌∷◌, Option, Some, None, length, map, nat_eq, slice_get, ◌&&◌, if◌then◌else◌}
 use Rattle.gos_types.specs.Types.{Type'}
 use Rattle.gos_model.specs.Terms.{Term}
 use Rattle.gos_model.specs.Typing.{Imports, import_type}
@@ -17,12 +17,13 @@ use Rattle.gos_witness.specs.declared.nodes.Leaf.{Leaf}
 use Rattle.gos_witness.specs.declared.nodes.OnePart.{OnePart}
 use Rattle.gos_witness.specs.declared.nodes.OnePart.TheVariants as one
 use Rattle.gos_witness.specs.declared.program.ProgramPort.{ProgramPort}
+use Rattle.gos_witness.specs.declared.reading_nodes.Number.{Number}
 use Rattle.gos_witness.specs.NodeLists.{Tables, Listed, FitsLeaf, leaf_term, seen}
 use Rattle.gos_witness.specs.declared.store.Entry.{Entry}
 
--- an entry and a store of the program: each is a variable's, which has one number
+-- an entry and a store of the program
 abbrev pub entry_of : Entry → stores.Entry
-entry_of e = stores.variable_at e.place e.width e.number
+entry_of e = record { place = e.place; width = e.width; numbers = e.numbers.items }
 
 abbrev pub entries_of : List Entry → stores.Store
 entries_of = map entry_of
@@ -31,6 +32,14 @@ entries_of = map entry_of
 abbrev pub AreNarrow : List Entry → Type 0
 AreNarrow [] = Unit {0}
 AreNarrow (e ∷ s) = (e.width ≤ 64) × AreNarrow s
+
+-- a number at an index of a location, with its width
+pub record IsNumberAt (s : stores.Store) (l i : ℕ) (n : Number) : Type 0 where
+  pub entry : stores.Entry
+  pub place : entry.place ≡ l
+  pub there : stores.entry_at s l ≡ Some entry
+  pub number : slice_get entry.numbers i ≡ Some n.value
+  pub width : entry.width ≡ n.width
 
 -- a computation step where it happens, with the least new location
 abbrev pub StepsTo : stores.Store → stores.Store → Term → Term → Type 0

@@ -1,9 +1,9 @@
 use Rattle.std.proofs.Common.{sym, subst}
 use Rattle.std.specs.Prelude.{IfErr}
-use Rattle.gos_command.specs.Ends.{IfStopped}
-use Rattle.gos_tool.specs.Run.{IsRejected, IsCall}
+use Rattle.gos_command.specs.Ends.{IfStopped, ending}
+use Rattle.gos_tool.specs.Run.{IsRejected, IsCall, CallsOf}
 use Rattle.gos_tool.specs.inner.CommandSeen.{meant}
-use Rattle.gos_tool.proofs.EndLemmas.{sim_rejected, compile_rejected, link_rejected, tidy_rejected, gates_rejected}
+use Rattle.gos_tool.proofs.EndLemmas.{sim_rejected, compile_rejected, link_rejected, tidy_rejected, gates_rejected, verify_rejected}
 use Rattle.gos_tool.proofs.command.run_command.Goals as goal
 
 pub returns-in-Sim-clause-failed_call : goal.returns-in-Sim-clause-failed_call
@@ -60,3 +60,20 @@ returns-in-Gates-clause-rejected g c =
     let new = g.S.Store.contents c.gates_of.new.store in
     subst (λ command. IfErr c.gates_of.result (λ stop. IfStopped stop (IsRejected (meant command) old new))) (sym c.in-Gates.is)
     (gates_rejected c.in-Gates.net.now c.in-Gates.out.now old new c.gates_of.result c.gates_of.ensures.rejected_files c.gates_of.ensures.file c.gates_of.ensures.rejected)
+
+pub returns-in-Verify-clause-failed_call : goal.returns-in-Verify-clause-failed_call
+returns-in-Verify-clause-failed_call g c = λ failed.
+    subst (λ command. IsCall (meant command) (g.S.Store.contents c.args.store.now) (g.S.Store.contents c.verify_moves.new.store) (g.S.Store.last_fault c.verify_moves.new.store)) (sym c.in-Verify.is)
+    (c.verify_moves.ensures.same_files, c.verify_moves.ensures.failed_call failed)
+
+pub returns-in-Verify-clause-calls : goal.returns-in-Verify-clause-calls
+returns-in-Verify-clause-calls g c =
+    subst (λ command. CallsOf (meant command) (ending c.verify_moves.result) (g.S.Store.contents c.args.store.now) (g.S.Store.calls c.args.store.now) (g.S.Store.calls c.verify_moves.new.store))
+    (sym c.in-Verify.is) c.verify_moves.ensures.calls
+
+pub returns-in-Verify-clause-rejected : goal.returns-in-Verify-clause-rejected
+returns-in-Verify-clause-rejected g c =
+    let old = g.S.Store.contents c.args.store.now in
+    let new = g.S.Store.contents c.verify_moves.new.store in
+    subst (λ command. IfErr c.verify_moves.result (λ stop. IfStopped stop (IsRejected (meant command) old new))) (sym c.in-Verify.is)
+    (verify_rejected c.in-Verify.own.now c.in-Verify.moves.now old new c.verify_moves.result c.verify_moves.ensures.same_files c.verify_moves.ensures.rejected)

@@ -12,8 +12,8 @@ use Rattle.gos_command.specs.declared.status.Cause.{Cause}
 use Rattle.gos_command.specs.declared.status.Cause.TheVariants as causes
 use Rattle.gos_command.specs.declared.stop.Stop.{Stop}
 use Rattle.gos_command.specs.declared.stop.Stop.TheVariants.{Rejected, StoreFailed, NoMemory}
-use Rattle.gos_tool.specs.Causes.{OfBuild, IsOneOf, StopsFor}
-use Rattle.gos_tool.specs.circuits.Plans.{IsPlansCause, IsBuildFault}
+use Rattle.gos_tool.specs.Causes.{IsFileFault, OfBuild, IsOneOf, StopsFor}
+use Rattle.gos_tool.specs.circuits.Plans.{IsPlansCause}
 use Rattle.gos_tool.specs.build.inner.Compiling.{IsFit, AreFit}
 
 pub one_more_fits : (ps : List SeenPlan) (p : SeenPlan) → AreFit ps → IsFit (plan_of p) → AreFit (ps ++ p ∷ [])
@@ -35,7 +35,7 @@ of_build law b ps (causes.Link fault) linkable fit is = of_link law b ps fault l
 of_build law b ps cause linkable fit is = absurd is
 
 pub never_too_large : SlimIsNeverTooLarge → (own : Word) (b : Build) (ps : List SeenPlan) (stop : Stop) → IsLinkable b ps → AreFit ps
-    → IfStopped stop (IsBuildFault own (IsPlansCause b ps)) → StopsFor (OfBuild ∷ []) stop
+    → IfStopped stop (IsFileFault own (IsPlansCause b ps)) → StopsFor (OfBuild ∷ []) stop
 never_too_large law own b ps (Rejected r) linkable fit is = of_build law b ps r.fault.cause linkable fit is.cause
 never_too_large law own b ps StoreFailed linkable fit is = tt
 never_too_large law own b ps NoMemory linkable fit is = tt

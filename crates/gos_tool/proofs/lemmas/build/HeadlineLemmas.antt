@@ -18,7 +18,7 @@ use Rattle.gos_link.specs.declared.build.Instance.{Instance}
 use Rattle.gos_link.specs.declared.build.Bind as lines
 use Rattle.gos_link.specs.declared.services.Service.{Service}
 use Rattle.gos_link.specs.Services.{BindsOn, import_named, Means}
-use Rattle.gos_tool.specs.build.Objects.{BeginWith, HavePlans}
+use Rattle.gos_tool.specs.build.Objects.{BeginWith}
 use Rattle.gos_tool.specs.build.Programs.{imports_if, bind_in, program_along}
 use Rattle.gos_tool.specs.build.Headline.{SayModules, SayBinds}
 use Rattle.std.proofs.lemmas.Option.{slice_get-map, get_or_from_slice_get}
@@ -52,24 +52,26 @@ named_so is name k x found at =
     let same : get_or is k x ≡ x = get_or_from_slice_get is k x x at in
     (bytes_eq-Decides x.name name).0 (ap (λ (i : PlanImport). bytes_eq i.name name) (sym same) ∙ test)
 
-module _ (is : List Instance) (ms : List SeenModule) (ps : List SeenPlan) (have : HavePlans ms ps) where
-  bound_name : (b : lines.Bind) (s : Service) → Means is ps b s → b.import ≡ (bind_in (map program_of ms) s).import
-  bound_name b s (p, q, x, line, names, fits) =
-      let at_user : slice_get (plans_of ps) s.user ≡ Some (plan_of p) = slice_get-map plan_of ps s.user ∙ ap (option_map plan_of) names.both.of_user in
-      let among : slice_get (plan_of p).imports s.import ≡ Some (import_of x) = slice_get-map import_of p.imports s.import ∙ ap (option_map import_of) names.import in
-      let there : slice_get (imports_of (slice_get (plans_of ps) s.user)) s.import ≡ Some (import_of x) =
-      ap (λ (o : Option Plan). slice_get (imports_of o) s.import) at_user ∙ among in
-      let here : slice_get (imports_if (slice_get (map program_of ms) s.user)) s.import ≡ Some (import_of x) =
-      ap (λ (xs : List Imported). slice_get xs s.import) (sym (same_imports ms ps s.user have)) ∙ there in
-      sym (named_so p.imports b.import s.import x names.named names.import) ∙ sym (ap name_if here)
+module _ (is : List Instance) (ms : List SeenModule) (ps : List SeenPlan)
+    (same : (n : ℕ) → imports_of (slice_get (plans_of ps) n) ≡ imports_if (slice_get (map program_of ms) n))
+  where
+    bound_name : (b : lines.Bind) (s : Service) → Means is ps b s → b.import ≡ (bind_in (map program_of ms) s).import
+    bound_name b s (p, q, x, line, names, fits) =
+        let at_user : slice_get (plans_of ps) s.user ≡ Some (plan_of p) = slice_get-map plan_of ps s.user ∙ ap (option_map plan_of) names.both.of_user in
+        let among : slice_get (plan_of p).imports s.import ≡ Some (import_of x) = slice_get-map import_of p.imports s.import ∙ ap (option_map import_of) names.import in
+        let there : slice_get (imports_of (slice_get (plans_of ps) s.user)) s.import ≡ Some (import_of x) =
+        ap (λ (o : Option Plan). slice_get (imports_of o) s.import) at_user ∙ among in
+        let here : slice_get (imports_if (slice_get (map program_of ms) s.user)) s.import ≡ Some (import_of x) =
+        ap (λ (xs : List Imported). slice_get xs s.import) (sym (same s.user)) ∙ there in
+        sym (named_so p.imports b.import s.import x names.named names.import) ∙ sym (ap name_if here)
 
-  say_binds : (before : List Service) (ls : List lines.Bind) (ss : List Service) → BindsOn is ps before ls ss None → SayBinds is ls (map (bind_in (map program_of ms)) ss)
-  say_binds before [] [] on = tt
-  say_binds before [] (s ∷ ss) on = absurd on
-  say_binds before (l ∷ ls) [] on = absurd on
-  say_binds before (l ∷ ls) (s ∷ ss) on =
-      let (p, q, x, line, names, fits) = on.0.means in
-      (names.both.finds_user, bound_name l s on.0.means, names.both.finds_giver, say_binds (before ++ s ∷ []) ls ss on.1)
+    pub say_binds : (before : List Service) (ls : List lines.Bind) (ss : List Service) → BindsOn is ps before ls ss None → SayBinds is ls (map (bind_in (map program_of ms)) ss)
+    say_binds before [] [] on = tt
+    say_binds before [] (s ∷ ss) on = absurd on
+    say_binds before (l ∷ ls) [] on = absurd on
+    say_binds before (l ∷ ls) (s ∷ ss) on =
+        let (p, q, x, line, names, fits) = on.0.means in
+        (names.both.finds_user, bound_name l s on.0.means, names.both.finds_giver, say_binds (before ++ s ∷ []) ls ss on.1)
 
 -- what was written last stands in the file, and what was written before in another
 pub found_last : (files : Files) (name bytes : Word) → bytes_at (insert files name bytes) name ≡ bytes
@@ -121,7 +123,7 @@ headline_holds files held own report is =
       net = is.built.net;
       says = is.says;
       sources = say_modules files b.instances.items ms is.compiled.written.say is.compiled.all;
-      bound = say_binds b.instances.items ms is.plans have [] b.binds.items done.linked.services done.linked.binds;
+      bound = say_binds b.instances.items ms is.plans (λ n. same_imports ms is.plans n have) [] b.binds.items done.linked.services done.linked.binds;
       named = done.linked.light.grounded.named.placed.finds_root;
       netlist = holds.at_one;
       verilog = subst (λ (text : Word). IsVerilogOf is.built.net text) (sym holds.at_two) written.text;

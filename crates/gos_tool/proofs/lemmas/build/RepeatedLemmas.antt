@@ -12,7 +12,7 @@ use Rattle.gos_plan.specs.Plans.{Plan}
 use Rattle.gos_plan.specs.Seen.{SeenPlan, plan_of}
 use Rattle.gos_expand.specs.Choices.{LaidByIsOne}
 use Rattle.gos_link.specs.Answers.{IsOneBuild, LinkedIsOne}
-use Rattle.gos_link.specs.BuildFile.{IsBuildFile, Sum, whole}
+use Rattle.gos_link.specs.BuildFile.{IsBuildFile, whole}
 use Rattle.gos_link.specs.Linked.{plans_of}
 use Rattle.gos_link.specs.declared.build.Build.{Build}
 use Rattle.gos_link.specs.declared.build.Instance.{Instance}
@@ -30,7 +30,7 @@ use Rattle.gos_tool.specs.build.Objects.{AllWritten, HavePlans, with_objects}
 use Rattle.gos_tool.specs.build.Built.{IsBuilt}
 use Rattle.gos_tool.specs.build.Repeated.{BuildMakesOne}
 use Rattle.gos_tool.proofs.lemmas.AgreeLemmas.{agree_back, agree_front, same_then_same}
-use Rattle.gos_tool.proofs.lemmas.circuits.SameBuildLemmas.{file_in, instances_same, linked_too, pulses_same}
+use Rattle.gos_tool.proofs.lemmas.circuits.SameBuildLemmas.{instances_same, linked_too, pulses_same, trace_same}
 use Rattle.gos_tool.proofs.lemmas.circuits.RepeatedLemmas.{nets_same, written_same}
 use Rattle.gos_tool.proofs.lemmas.simulate.RepeatedLemmas.{traced_as}
 use Rattle.gos_tool.proofs.lemmas.build.HeadlineLemmas.{say_modules}
@@ -148,15 +148,12 @@ module _ (one_build : IsOneBuild) (one_plan : SaysOnePlan) (linked_one : LinkedI
         ∙ ((agree_back (module_calls one.build.instances.items) (plans_calls one.build) files others agree).0
         ∙ (ap (bytes_at others) (pulses_same one.build two.build same) ∙ sym second.held)))
 
-    trace_file : one.build.trace ≡ two.build.trace
-    trace_file = ap (λ (s : Sum). file_in s.trace) same
-
     traces : WriteTheSame (simulation_calls two.build.pulses two.build.trace) (Some first.all) (Some second.all) new other × (one.built.counts ≡ two.built.counts)
     traces =
         trace_one first.all second.all new other two.built.net two.build.pulses two.build.trace one.built.counts two.built.counts
         two.built.written.written.circuit.accepted (on_pulses, tt)
         (traced_as one.built.between (Some first.all) new one.built.net two.built.net one.build.pulses two.build.pulses one.build.trace two.build.trace one.built.counts
-        first.is nets (pulses_same one.build two.build same) trace_file one.built.traced)
+        first.is nets (pulses_same one.build two.build same) (trace_same one.build two.build same) one.built.traced)
         (subst (λ (old : Option Files). LeavesTrace old other two.built.net two.build.pulses two.build.trace two.built.counts) second.is two.built.traced)
 
     traced : WriteTheSame (simulation_calls one.build.pulses one.build.trace) one.built.between two.built.between new other
@@ -164,7 +161,7 @@ module _ (one_build : IsOneBuild) (one_plan : SaysOnePlan) (linked_one : LinkedI
         subst (λ (old : Option Files). WriteTheSame (simulation_calls one.build.pulses one.build.trace) old two.built.between new other) (sym first.is)
         (subst (λ (old : Option Files). WriteTheSame (simulation_calls one.build.pulses one.build.trace) (Some first.all) old new other) (sym second.is)
         (subst (λ (calls : List StoreCall). WriteTheSame calls (Some first.all) (Some second.all) new other)
-        (sym (λ i. simulation_calls (pulses_same one.build two.build same i) (trace_file i))) traces.0))
+        (sym (λ i. simulation_calls (pulses_same one.build two.build same i) (trace_same one.build two.build same i))) traces.0))
 
     weights : one.built.weight ≡ two.built.weight
     weights = one.built.written.weighs ∙ (ap (λ (p : Plan). p.weight) wholes ∙ sym two.built.written.weighs)

@@ -47,6 +47,7 @@ no_form_cause not_wrong text own b is (causes.Net fault) wrong = wrong
 no_form_cause not_wrong text own b is (causes.Refused fault) wrong = wrong
 no_form_cause not_wrong text own b is (causes.Pulse fault) wrong = wrong
 no_form_cause not_wrong text own b is (causes.Gates fault) wrong = wrong
+no_form_cause not_wrong text own b is (causes.Explain fault) wrong = wrong
 
 -- plans without a fault of linking
 pub no_plans_cause : (b : Build) (ps : List SeenPlan) → ((fault : LinkFault) → IsUnlinked b ps fault → ⊥) → (cause : Cause) → IsPlansCause b ps cause → ⊥
@@ -59,6 +60,7 @@ no_plans_cause b ps links (causes.Net fault) wrong = wrong
 no_plans_cause b ps links (causes.Refused fault) wrong = wrong
 no_plans_cause b ps links (causes.Pulse fault) wrong = wrong
 no_plans_cause b ps links (causes.Gates fault) wrong = wrong
+no_plans_cause b ps links (causes.Explain fault) wrong = wrong
 
 -- object files that hold plans
 no_object_cause : ((text : List ℕ) → ReadHasNoFault text) → (files : Files) (i : Instance) (p : SeenPlan) → HoldsPlan files i p
@@ -72,6 +74,7 @@ no_object_cause no_fault files i p held (causes.Net fault) wrong = wrong
 no_object_cause no_fault files i p held (causes.Refused fault) wrong = wrong
 no_object_cause no_fault files i p held (causes.Pulse fault) wrong = wrong
 no_object_cause no_fault files i p held (causes.Gates fault) wrong = wrong
+no_object_cause no_fault files i p held (causes.Explain fault) wrong = wrong
 
 no_object : ((text : List ℕ) → ReadHasNoFault text) → (files : Files) (is : List Instance) (ps : List SeenPlan) (fault : Fault) (line : List ℕ)
     → HoldPlans files is ps → RejectsObject files is fault line → ⊥

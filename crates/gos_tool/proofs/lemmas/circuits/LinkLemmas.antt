@@ -19,10 +19,11 @@ use Rattle.gos_command.specs.Files.{IsReadWhole}
 use Rattle.gos_command.specs.declared.report.Report.TheVariants as reports
 use Rattle.gos_command.specs.declared.status.Fault.{Fault}
 use Rattle.gos_command.proofs.EndLemmas.{of_some, of_some_both}
+use Rattle.gos_tool.specs.Causes.{IsFileFault}
 use Rattle.gos_tool.specs.circuits.Circuit.{IsCircuitOf}
 use Rattle.gos_tool.specs.circuits.Paced.{LinkedCircuitsKeepPace}
 use Rattle.gos_tool.specs.circuits.Objects.{HoldPlans, RejectsObject, IsObjectCall}
-use Rattle.gos_tool.specs.circuits.Plans.{with_net, IsWritten, IsPlansDone, IsPlansCause, IsBuildFault, IsWriteCall, IsPlansCall, IsWriteCutShort, IsPlansCutShort}
+use Rattle.gos_tool.specs.circuits.Plans.{with_net, IsWritten, IsPlansDone, IsPlansCause, IsWriteCall, IsPlansCall, IsWriteCutShort, IsPlansCutShort}
 use Rattle.gos_tool.specs.circuits.Linked.{SaysBuild, IsLinkDone, RejectsLink, IsLinkCall, IsLinkCutShort, KeepsUnnamed}
 
 -- the build file says what was read
@@ -89,7 +90,7 @@ linkable b is ps plans same linked each limits few_instances few_binds =
 
 module _ {old told : Option Files} {own : Word} {b : Build} {plans : List SeenPlan} (has : HasPlans old told own b plans) (new : Option Files) where
   -- they can't be linked
-  pub plans_rejected : (fault : Fault) (line : List ℕ) → IsBuildFault own (IsPlansCause b plans) fault line → IfSome old (λ files. RejectsLink files own fault line)
+  pub plans_rejected : (fault : Fault) (line : List ℕ) → IsFileFault own (IsPlansCause b plans) fault line → IfSome old (λ files. RejectsLink files own fault line)
   plans_rejected fault line wrong =
       of_some_both (λ files. SaysBuild files own b) (λ files. HoldPlans files b.instances.items plans) (λ files. RejectsLink files own fault line) old
       (λ files says h. inr (b, says, inr (record { file = wrong.file; cause = (plans, h, wrong.cause); says = wrong.says }))) has.says has.held

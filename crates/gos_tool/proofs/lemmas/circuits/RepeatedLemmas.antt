@@ -42,7 +42,7 @@ held_same one_plan files others (i ∷ is) (p ∷ ps) (q ∷ qs) agree ((one, ri
     let here : IsRead (bytes_at files i.object) (plan_of q) = subst (λ (text : List ℕ). IsRead text (plan_of q)) (sym agree.0) also in
     let two = here.0 in
     let first : plan_of p ≡ plan_of q =
-    one_plan (bytes_at files i.object) (plan_of p) (plan_of q) one.writable two.writable one.is two.is in
+    (one_plan (bytes_at files i.object) one.format two.format (plan_of p) (plan_of q) one.writable two.writable one.is two.is).1 in
     let rest = held_same one_plan files others is ps qs agree.1 held other in λ j. first j ∷ rest j
 
 -- a plan has one circuit for builds that say the same

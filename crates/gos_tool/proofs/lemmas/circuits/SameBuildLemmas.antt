@@ -12,7 +12,7 @@ use Rattle.gos_link.specs.declared.fault.LinkFault.{LinkFault}
 use Rattle.gos_link.specs.declared.fault.LinkFault.TheVariants as faults
 use Rattle.gos_link.specs.BuildFile.{RootLine, Sum, whole}
 use Rattle.gos_link.specs.Services.{BindsOn, instance_named}
-use Rattle.gos_link.specs.Linked.{AreDifferent, IsGrounded, IsLight, IsLinked, IsNamed, IsPlaced, IsSecond, IsUnlinked, IsWrongWhole, Port, first_unplaced, port_of, ports_of, whole_of}
+use Rattle.gos_link.specs.Linked.{AreDifferent, AreLinks, IsGrounded, IsLight, IsLinked, IsNamed, IsPlaced, IsSecond, IsUnlinked, IsWrongWhole, Port, SeenLinks, first_unplaced, port_of, ports_of, whole_of}
 
 abbrev line_in : Option RootLine → ℕ
 line_in None = 0
@@ -30,7 +30,7 @@ module _ (b c : Build) (same : whole b ≡ whole c) where
   pub instances_same : b.instances.items ≡ c.instances.items
   instances_same = ap (λ (s : Sum). s.instances) same
 
-  binds_same : b.binds.items ≡ c.binds.items
+  pub binds_same : b.binds.items ≡ c.binds.items
   binds_same = ap (λ (s : Sum). s.binds) same
 
   line_same : b.root_line ≡ c.root_line
@@ -44,6 +44,9 @@ module _ (b c : Build) (same : whole b ≡ whole c) where
 
   pub pulses_same : b.pulses ≡ c.pulses
   pulses_same = ap (λ (s : Sum). file_in s.pulses) same
+
+  pub trace_same : b.trace ≡ c.trace
+  trace_same = ap (λ (s : Sum). file_in s.trace) same
 
   found_too : (root : ℕ) → instance_named b.instances.items b.root ≡ Some root → instance_named c.instances.items c.root ≡ Some root
   found_too root found =
@@ -103,6 +106,10 @@ module _ (b c : Build) (same : whole b ≡ whole c) where
     wrong_whole_too (faults.UsedTwice first second) wrong = wrong
     wrong_whole_too (faults.Loop line) wrong = wrong
     wrong_whole_too faults.NoMemory wrong = wrong
+
+  pub links_too : (ps : List SeenPlan) (links : SeenLinks) → AreLinks b ps links → AreLinks c ps links
+  links_too ps links are =
+      record { binds = binds_too ps links.services None are.binds; grounded = grounded_too ps links.services links.root are.grounded }
 
   pub linked_too : (ps : List SeenPlan) (p : Plan) → IsLinked b ps p → IsLinked c ps p
   linked_too ps p linked =

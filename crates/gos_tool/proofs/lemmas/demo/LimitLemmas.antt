@@ -63,6 +63,8 @@ step levels (AWord words.Exp) = let item = item_opens levels in omega (arith, it
 step levels (AWord words.Var) = let item = item_opens levels in omega (arith, item)
 step levels (ASign signs.Open) = let item = opens levels in omega (arith, item)
 step levels (ASign signs.Close) = closes levels
+step levels (ASign signs.OpenSquare) = let item = item_opens levels in omega (arith, item)
+step levels (ASign signs.CloseSquare) = let item = item_opens levels in omega (arith, item)
 step levels (ASign signs.Comma) = let item = item_opens levels in omega (arith, item)
 step levels (ASign signs.Dot) = let item = item_opens levels in omega (arith, item)
 step levels (ASign signs.Colon) = let item = item_opens levels in omega (arith, item)

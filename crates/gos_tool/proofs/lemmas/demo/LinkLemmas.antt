@@ -11,7 +11,7 @@ use Rattle.gos_lex.specs.Lines.{Word}
 use Rattle.gos_model.specs.Typing.{Imported}
 use Rattle.gos_plan.specs.Plans.{Plan}
 use Rattle.gos_plan.specs.Seen.{SeenPlan}
-use Rattle.gos_plan.specs.Size.{shakes_of, plan_size}
+use Rattle.gos_plan.specs.Size.{shakes_of, numbers_of, plan_size}
 use Rattle.gos_plan.specs.Joining.{Link, LeftImport, left_among, all_left, all_parts, all_weight, IsJoining}
 use Rattle.gos_link.specs.declared.build.Instance.{Instance}
 use Rattle.gos_link.specs.declared.build.Bind.{Bind}
@@ -103,7 +103,8 @@ module _ (few_of : JointsAreFew) (b : Build) (ps : List SeenPlan) (ss : List Sor
       ap length joining.imports ∙ (length-map (all_left (whole_of ps services root)) (λ (l : LeftImport). l.import) ∙ ap length (left_is root)) in
       let of_parts : length p.parts ≡ length (all_parts (plans_of ps)) = ap length joining.parts in
       let of_shakes : shakes_of p.parts ≡ shakes_of (all_parts (plans_of ps)) = ap shakes_of joining.parts in
-      (omega (arith, heavy, parts, joints, all, one, of_parts, of_shakes), omega (arith, one))
+      let of_numbers : numbers_of p.parts ≡ numbers_of (all_parts (plans_of ps)) = ap numbers_of joining.parts in
+      (omega (arith, heavy, parts, joints, all, one, of_parts, of_shakes, of_numbers), omega (arith, one))
 
   whole_is_right : (fault : LinkFault) → IsWrongWhole b ps services fault → ⊥
   whole_is_right (faults.NoInstance line name) (same, is_name, none) = some_none _ 0 able.finds_root none

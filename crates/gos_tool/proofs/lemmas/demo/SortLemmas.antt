@@ -11,8 +11,9 @@ use Rattle.gos_plan.specs.Kinds.{Part, part_contacts}
 use Rattle.gos_plan.specs.Plans.{Plan, IsRight, contacts_of_import}
 use Rattle.gos_plan.specs.Seen.{SeenPlan, import_of, plan_of}
 use Rattle.gos_plan.specs.Joining.{Link, left_in, left_among, all_parts, all_weight}
-use Rattle.gos_plan.specs.Size.{shakes_of}
+use Rattle.gos_plan.specs.Size.{shakes_of, numbers_of}
 use Rattle.gos_realises.specs.realises.Slim.{IsSlim, all_shakes}
+use Rattle.gos_realises.proofs.realises.CountLemmas.{numbers-append}
 use Rattle.gos_link.specs.Answers.{EachRight, all_joints}
 use Rattle.gos_link.specs.declared.services.Service.{Service}
 use Rattle.gos_link.specs.Services.{import_named}
@@ -117,7 +118,7 @@ each_right [] (s ∷ ss) are = absurd are
 each_right (p ∷ ps) [] are = absurd are
 each_right (p ∷ ps) (s ∷ ss) are = (are.0.right, each_right ps ss are.1)
 
--- parts, handshakes and joints are few for the weight
+-- parts, handshakes, numbers of arrays and joints are few for the weight
 shakes_both : (ks ls : List Part) → shakes_of (ks ++ ls) ≡ shakes_of ks + shakes_of ls
 shakes_both [] ls = omega arith
 shakes_both (k ∷ ks) ls = let rest = shakes_both ks ls in omega (arith, rest)
@@ -127,7 +128,7 @@ shakes_same [] = refl
 shakes_same (k ∷ ks) = λ i. length (part_contacts k) + shakes_same ks i
 
 pub few_parts : (ps : List SeenPlan) (ss : List Sort) → AreOf ps ss
-    → length (all_parts (plans_of ps)) + shakes_of (all_parts (plans_of ps)) ≤ 4 * all_weight (plans_of ps)
+    → length (all_parts (plans_of ps)) + shakes_of (all_parts (plans_of ps)) + 4 * numbers_of (all_parts (plans_of ps)) ≤ 4 * all_weight (plans_of ps)
 few_parts [] [] are = omega arith
 few_parts [] (s ∷ ss) are = absurd are
 few_parts (p ∷ ps) [] are = absurd are
@@ -136,16 +137,17 @@ few_parts (p ∷ ps) (s ∷ ss) are =
     let others : List Part = all_parts (plans_of ps) in
     let size = length-append parts others in
     let shakes = shakes_both parts others in
+    let numbers = numbers-append parts others in
     let same = shakes_same parts in
-    let one : length parts + all_shakes parts ≤ 4 * p.weight = are.0.slim.ends in
+    let one : length parts + all_shakes parts + 4 * numbers_of parts ≤ 4 * p.weight = are.0.slim.ends in
     let rest = few_parts ps ss are.1 in
-    omega (arith, size, shakes, same, one, rest)
+    omega (arith, size, shakes, numbers, same, one, rest)
 
 pub few_joints : (ps : List SeenPlan) (ss : List Sort) → AreOf ps ss → all_joints (plans_of ps) ≤ 2 * all_weight (plans_of ps)
 few_joints [] [] are = omega arith
 few_joints [] (s ∷ ss) are = absurd are
 few_joints (p ∷ ps) [] are = absurd are
 few_joints (p ∷ ps) (s ∷ ss) are =
-    let one : length (plan_of p).joints ≤ 2 * p.weight = are.0.slim.joints in
+    let one : length (plan_of p).joints + 2 * numbers_of (plan_of p).parts ≤ 2 * p.weight = are.0.slim.joints in
     let rest = few_joints ps ss are.1 in
     omega (arith, one, rest)

@@ -29,6 +29,7 @@ module _ (one_netlist : (text : List ℕ) → IsOneNetlist text) where
   no_net_cause no_fault not_refused text net says (causes.Link why) cause = cause
   no_net_cause no_fault not_refused text net says (causes.Pulse why) cause = cause
   no_net_cause no_fault not_refused text net says (causes.Gates why) cause = cause
+  no_net_cause no_fault not_refused text net says (causes.Explain why) cause = cause
 
 pub tidy_is_not_rejected : ((text : List ℕ) → IsOneNetlist text) → ((text : List ℕ) → ReadHasNoFault text) → ((net : Netlist) → AcceptedHasNoFault net)
     → TidyIsNotRejected
@@ -50,6 +51,7 @@ never_too_large text circuit same few (causes.Link why) cause = cause
 never_too_large text circuit same few (causes.Net why) cause = cause
 never_too_large text circuit same few (causes.Refused why) cause = cause
 never_too_large text circuit same few (causes.Pulse why) cause = cause
+never_too_large text circuit same few (causes.Explain why) cause = cause
 
 pub gates_are_not_rejected : ((text : List ℕ) → IsOneNetlist text) → ((text : List ℕ) → ReadHasNoFault text) → ((net : Netlist) → AcceptedHasNoFault net)
     → GatesAreNotRejected

@@ -24,20 +24,22 @@ use Rattle.gos_compile.specs.Wiring.{IsPlanOf}
 use Rattle.gos_terms.specs.theorem.Modules.{ModuleIsRealised}
 use Rattle.gos_command.specs.declared.report.Report.{Report}
 use Rattle.gos_command.specs.declared.report.Report.TheVariants as reports
+use Rattle.gos_tool.specs.objects.Checked.{IsSource}
 use Rattle.gos_tool.specs.objects.Compiled.{IsPlanOfModule, IsCompiled}
 use Rattle.gos_tool.specs.objects.Typed.{IsTypedAs, IsPlanFor}
 use Rattle.gos_tool.proofs.lemmas.objects.ImportLemmas.{few_imports}
 
 -- a checked module has the imports of the source's
-pub few : (text : List ℕ) (linear : SeenLinear) → IsTypedAs text linear → length linear.imports ≤ 64
-few text linear typed =
-    let m = typed.made in
-    let source = typed.says.source in
+pub few_of : (text : List ℕ) (m : SeenModule) (linear : SeenLinear) → IsSource text m → program_in linear ≡ program_of m → length linear.imports ≤ 64
+few_of text m linear source program =
     let limit = few_imports text source.tokens m source.parsed in
-    let same : length (map import_of linear.imports) ≡ length (map import_of m.imports) = ap (λ (p : Program). length p.imports) typed.program in
+    let same : length (map import_of linear.imports) ≡ length (map import_of m.imports) = ap (λ (p : Program). length p.imports) program in
     let one = length-map linear.imports import_of in
     let other = length-map m.imports import_of in
     omega (arith, limit, same, one, other)
+
+pub few : (text : List ℕ) (linear : SeenLinear) → IsTypedAs text linear → length linear.imports ≤ 64
+few text linear typed = few_of text typed.made linear typed.says.source typed.program
 
 -- what compiling makes is the plan of its module
 pub plan_is_for : {E : Type 0} → ModuleIsRealised → (linear : SeenLinear) → IsChecked linear → (r : Result SeenPlan E)

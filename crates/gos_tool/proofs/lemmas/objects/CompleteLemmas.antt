@@ -106,6 +106,7 @@ refused_for found w (checks.Width span width value) e real r = cc (e, r)
 refused_for found w (checks.TypeTooLarge span handshakes) e real r = cc (e, r)
 refused_for found w (checks.Repeated name first second) e real r = cc (e, r)
 refused_for found w (checks.TooHeavy heavy) e real r = cc (e, r)
+refused_for found w (checks.Length span length) e real r = cc (e, r)
 refused_for found w checks.NoMemory e real r = real refl
 
 module _ (one_way : (text : List ℕ) → ReadsInOneWay text) (one_tree : (items : List Item) → HasOneTree items) where
@@ -146,3 +147,4 @@ accepted_is_not_rejected one_way no_tokens no_module one_tree exactly files name
     by (causes.Refused why) real has = has
     by (causes.Pulse why) real has = has
     by (causes.Gates why) real has = has
+    by (causes.Explain why) real has = has

@@ -42,6 +42,7 @@ module _ (one_file : (net : Netlist) (text : List ℕ) → IsAccepted net → Is
   no_cause net text accepted may (causes.Net why) cause = cause
   no_cause net text accepted may (causes.Refused why) cause = cause
   no_cause net text accepted may (causes.Gates why) cause = cause
+  no_cause net text accepted may (causes.Explain why) cause = cause
 
   pub pulses_are_not_rejected : PulsesAreNotRejected
   pulses_are_not_rejected files net name fault line accepted may wrong = no_cause net (bytes_at files name) accepted may fault.cause wrong.cause

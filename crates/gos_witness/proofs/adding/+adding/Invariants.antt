@@ -20,3 +20,6 @@ decreases-add_two l = 3 * (size (tree l.m.now) + size (tree l.n.now)) + 2
 
 abbrev pub decreases-add_choice : goal.decreases-add_choice
 decreases-add_choice l = 3 * (size (tree l.m.now) + size (tree l.n.now) + size (tree l.p.now)) + 2
+
+abbrev pub decreases-add_array : goal.decreases-add_array
+decreases-add_array l = 3 * size (tree l.body.now) + 2

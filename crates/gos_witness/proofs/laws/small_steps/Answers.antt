@@ -9,3 +9,12 @@ returns-clause-written c = lemmas.first_is_written
 
 pub returns-clause-least : goal.returns-clause-least
 returns-clause-least c = lemmas.least_is_taken
+
+pub returns-clause-index_reached : goal.returns-clause-index_reached
+returns-clause-index_reached c = lemmas.index_is_reached
+
+pub returns-clause-index_read : goal.returns-clause-index_read
+returns-clause-index_read c = lemmas.index_is_read
+
+pub returns-clause-index_written : goal.returns-clause-index_written
+returns-clause-index_written c = lemmas.index_is_written

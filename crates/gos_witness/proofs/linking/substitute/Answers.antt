@@ -27,5 +27,6 @@ returns-clause-linked c =
           same_program ports (root_port modules root name) (seen whole.list whole.root) (linked_program modules binds root) c.in_ok-ports.ensures.faces c.in_ok-whole.ensures.term;
       ports = are_ports modules binds root name ports c.requires.linkable c.requires.ports c.in_ok-ports.ensures.faces c.in_ok-ports.ensures.named;
       faces = c.in_ok-ports.ensures.faces;
+      sides = c.in_ok-ports.ensures.sides;
       small = c.in_ok-whole.ensures.small;
     }

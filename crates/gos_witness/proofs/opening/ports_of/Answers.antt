@@ -10,7 +10,7 @@ use Rattle.gos_model.specs.Typing.{Imports}
 use Rattle.gos_witness.specs.declared.binding.Bound.{Bound}
 use Rattle.gos_witness.specs.declared.program.ProgramPort.{ProgramPort}
 use Rattle.gos_witness.specs.Ports.{imported}
-use Rattle.gos_witness.specs.Substituted.{face, outcome_if, root_port}
+use Rattle.gos_witness.specs.Substituted.{AreOnSides, face, outcome_if, root_port}
 use Rattle.gos_witness.specs.inner.Built.{AllImports, AreByUser, opens_from}
 use Rattle.gos_witness.specs.inner.TraceParts.{IsNamed}
 use Rattle.gos_witness.proofs.OpenLemmas.{MayBeTaken, all_imports, all_opens}
@@ -43,6 +43,11 @@ pub push_all_open-requires-clause-named : goal.push_all_open-requires-clause-nam
 push_all_open-requires-clause-named c =
     let items : c.in_ok-ports.ports.items ≡ c.in_ok-port.port ∷ [] = search rules in
     subst (λ (ps : List ProgramPort). AllByRecursion IsNamed ps) (sym items) (c.in_ok-port.ensures.named, tt)
+
+pub push_all_open-requires-clause-sides : goal.push_all_open-requires-clause-sides
+push_all_open-requires-clause-sides c =
+    let items : c.in_ok-ports.ports.items ≡ c.in_ok-port.port ∷ [] = search rules in
+    subst (λ (ps : List ProgramPort). AreOnSides ps) (sym items) (c.in_ok-port.ensures.side, tt)
 
 pub returns-clause-faces : goal.returns-clause-faces
 returns-clause-faces c =

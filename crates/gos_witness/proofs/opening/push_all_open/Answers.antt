@@ -30,4 +30,5 @@ loop-number-preserved c =
       next_opens lists c.args.modules.now number source old new _ c.loop-number-test.true c.index-modules-number.is more c.loop-number.invariant.0,
       rest_taken lists c.args.modules.now number source c.loop-number-test.true c.index-modules-number.is c.loop-number.invariant.1,
       c.in_ok-push_open.ensures.named,
+      c.in_ok-push_open.ensures.sides,
     )

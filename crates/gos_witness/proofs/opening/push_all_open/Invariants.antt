@@ -1,6 +1,7 @@
 use Rattle.std.proofs.Common.{◌≡◌, ◌++◌, drop, map}
 use Rattle.std.specs.List.{AllByRecursion}
 use Rattle.gos_witness.specs.Ports.{imported}
+use Rattle.gos_witness.specs.Substituted.{AreOnSides}
 use Rattle.gos_witness.specs.inner.Built.{opens_from}
 use Rattle.gos_witness.specs.inner.TraceParts.{IsNamed}
 use Rattle.gos_witness.proofs.OpenLemmas.{MayBeTaken}
@@ -12,3 +13,4 @@ invariant-loop-number l =
     (map imported l.ports.items ++ opens_from l.lists l.number (drop l.number l.modules) ≡ map imported l.initial.ports.items ++ opens_from l.lists 0 l.modules)
     × MayBeTaken (opens_from l.lists l.number (drop l.number l.modules))
     × AllByRecursion IsNamed l.ports.items
+    × AreOnSides l.ports.items

@@ -1,23 +1,22 @@
-use Rattle.std.proofs.Common.{refl, sym, ap, ◌∙◌}
-use Rattle.gos_model.specs.Terms.{Loc}
-use Rattle.gos_model.specs.Stores.{entry_at}
-use Rattle.gos_witness.specs.inner.Rows.{entry_of, entries_of}
+use Rattle.gos_model.proofs.StoreLemmas.{absent_is_not_read}
+use Rattle.gos_witness.specs.NodeLists.{seen}
+use Rattle.gos_witness.specs.inner.Rows.{entries_of}
+use Rattle.gos_witness.proofs.AccessLemmas.{reads}
 use Rattle.gos_witness.proofs.stepping.read.Goals as goal
+
+pub returns-in_default-clause-outcome : goal.returns-in_default-clause-outcome
+returns-in_default-clause-outcome c = λ r t h. let does = h.0 in c.in_default.ensures does.0.place does.1 does.3
+
+pub returns-in_default-number_in-clause-outcome : goal.returns-in_default-number_in-clause-outcome
+returns-in_default-number_in-clause-outcome c = λ r t h.
+    let at = c.in-Some.at in
+    absent_is_not_read (entries_of c.args.store.now) r (seen c.args.list.now c.args.variable) t at.place at.index c.in-Some.ensures c.in_default-number_in.ensures.number h.0
 
 pub returns-clause-outcome : goal.returns-clause-outcome
 returns-clause-outcome c =
-    let known = c.in-Some-entry_at.ensures in (
+    let at = c.in-Some.at in
+    let l = c.push.new.self in (
       c.in_ok-next.ensures.there,
-      (
-        (
-          entry_of c.in-Some-entry_at.entry,
-          c.in-Some-entry_at.entry.number,
-          c.in-Some.ensures ∙ ap Loc (sym known.place),
-          ap (entry_at (entries_of c.args.store.now)) known.place ∙ known.found,
-          refl,
-          c.in_ok-next.ensures.term,
-          refl,
-        ),
-        tt,
-      ),
+      reads (entries_of c.args.store.now) (seen c.args.list.now c.args.variable) (seen l c.in_ok-next.next) at.place at.index c.in-Some-number_in.number
+          c.in-Some.ensures c.in-Some-number_in.ensures.number c.in_ok-next.ensures.term,
     )

@@ -31,3 +31,10 @@ returns-in-Put-clause-outcome c =
     subst (λ (r : List Entry). IfOk c.write.result (Outcome c.write.new.list s r (one_term l.tables c.args.one (seen l c.args.part)))) (sym same)
     (subst (λ (f : OnePart). IfOk c.write.result (Outcome c.write.new.list s new (one_term l.tables f (seen l c.args.part)))) (sym c.in-Put.is)
     (subst (λ (r : List Entry). IfOk c.write.result (Outcome c.write.new.list r new (Put (seen l c.args.part) k))) c.deref_mut.ensures.value c.write.ensures.outcome))
+
+pub returns-in-NewArray-clause-outcome : goal.returns-in-NewArray-clause-outcome
+returns-in-NewArray-clause-outcome c =
+    let l = c.args.list.now in
+    subst (λ (f : OnePart).
+    IfOk c.begin_array.result (Outcome c.begin_array.new.list c.args.store.now.items c.begin_array.new.store.items (one_term l.tables f (seen l c.args.part))))
+    (sym c.in-NewArray.is) c.begin_array.ensures.outcome

@@ -1,0 +1,16 @@
+pub mod SourceLemmas
+pub mod OrderLemmas
+pub mod FaceLemmas
+pub mod LinkableLemmas
+pub mod CauseLemmas
+pub mod HeadlineLemmas
+pub mod EventLemmas
+pub mod TraceLemmas
+pub mod RunLemmas
+pub mod SmallLemmas
+pub mod TextLemmas
+pub mod VerifyLemmas
+pub mod PortLemmas
+pub mod ProgramLemmas
+pub mod CompleteLemmas
+pub mod RepeatedLemmas
