@@ -22,6 +22,7 @@ Nth part of it:
     linked      `link` of 2,400 instances in a chain: hardly more fit into a build file
     netlist     `sim` of a netlist file of 268,435,457 bytes, one too many, which is refused before all else
     pulses      `sim` under a pulse file of 16,777,216 bytes, all but the first line comments
+    labels      `verify` of a trace of 1,000,000 labels of a loop, by five lines of moves for each two
 
 Each is run with a half of that too. Times are of the processor, and each is the least of three runs, or of one that takes ten
 seconds or more. `growth` is how many times as long the whole takes as the half: 2 where the time is linear. `memory` is the most
@@ -129,6 +130,14 @@ def long_pulses(folder, many):
     return words, 'i.pls'
 
 
+def labels(folder, many):
+    rounds = (many - 1) // 2
+    trace = ['0 main.run', *[f'{n} c.{event}' for n in range(rounds) for event in ('run', 'done')], f'cycles {rounds}']
+    put(folder, b__txt=lines('gosbuild 1', 'inst main m.gos m.obj', 'root main', *REST), m__gos='import c : com export while 1:1 do c : com\n',
+        o__trc=lines(*trace), m__txt=lines('gosmoves 1', f'lines {5 * rounds + 1}', 'r', *['s .', 's .', 'l 0', 'l 0', 's .'] * rounds, 'end'))
+    return ['verify', 'b.txt', 'm.txt'], 'm.txt'
+
+
 def names(folder, many):
     long = [f'{n:03}'.rjust(254, 'n') for n in range(many)]
     put(folder, i__pls='cycles 9\n')
@@ -184,6 +193,7 @@ EXTREMES = {
     'names': (names, 42, 'modules', 0), 'open': (open_brackets, 1_024, 'brackets', 2), 'heavy': (heavy, 819, 'commands', 0),
     'instances': (instances, 3_000, 'instances', 2), 'linked': (in_a_chain, 2_400, 'instances', 0),
     'netlist': (long_netlist, 268_435_457, 'bytes', 2), 'pulses': (long_pulses, 16_777_216, 'bytes', 0),
+    'labels': (labels, 1_000_000, 'labels', 0),
 }
 WITH_GOS = (instances, in_a_chain)
 

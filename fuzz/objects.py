@@ -49,6 +49,7 @@ def part(choose, w, v):
     exp, kind = read(w), choose.choice((('com',), ('exp', w), ('var', w), ('fun', ('com',), ('exp', w)), ('pair', ('com',), ('var', v))))
     source = handshakes(kind)
     test, body = ('A', read(1)), ('A', RUN)
+    i = choose.randrange(1, 5)
     return choose.choice([
         ('skip', [('S', RUN)]), (f'lit {w} {choose.randrange(2 ** w)}', [('S', exp)]),
         ('seq', [body, body, ('S', RUN)]), (f'seqexp {w}', [body, ('A', exp), ('S', exp)]),
@@ -60,6 +61,8 @@ def part(choose, w, v):
         (f'deref {w}', [('A', exp), ('S', exp)]),
         (f'local {w} com', [body, ('S', exp), ('S', written(w)), ('S', RUN)]),
         (f'local {w} exp {v}', [('A', read(v)), ('S', exp), ('S', written(w)), ('S', read(v))]),
+        (f'array {w} {2 ** i} com', [body, ('A', read(i)), ('S', exp), ('S', written(w)), ('S', RUN)]),
+        (f'array {w} {2 ** i} exp {v}', [('A', read(v)), ('A', read(i)), ('S', exp), ('S', written(w)), ('S', read(v))]),
         (f'share {type_words(kind)}', turned(source) + source + source),
     ])
 
@@ -88,7 +91,7 @@ def plan(choose, many, result, imports, weight=None):
     ends += [(f'i{n}.{j}', *shake) for n, (_, kind) in enumerate(imports) for j, shake in enumerate(handshakes(kind))]
     joints = joined(choose, ends)
     return lines(
-        'gosobj 1', f'weight {weight or choose.randrange(1, 500)}', f'imports {len(imports)}',
+        'gosobj 2', f'weight {weight or choose.randrange(1, 500)}', f'imports {len(imports)}',
         *[f'import {name} {type_words(kind)}' for name, kind in imports], f'result {type_words(result)}', f'parts {many}',
         *[line for line, _ in parts], f'joints {len(joints)}', *joints, 'end')
 
@@ -99,7 +102,7 @@ def extreme(choose):
     kinds = choose.choice((['skip'], ['share ' + 'fun com ' * (many % 70) + 'com'], ['share ' + 'pair com ' * 63 + 'com'], ['seq', 'not 32']))
     parts = kinds * (many // len(kinds))
     kind = choose.choice(('com', 'fun com ' * many + 'com', 'pair com ' * many + 'com', 'fun ' * many + 'com ' * (many + 1)))
-    return lines('gosobj 1', 'weight 8192', 'imports 0', f'result {kind.strip()}', f'parts {len(parts)}', *parts, 'joints 0', 'end')
+    return lines('gosobj 2', 'weight 8192', 'imports 0', f'result {kind.strip()}', f'parts {len(parts)}', *parts, 'joints 0', 'end')
 
 
 def any_plan(choose, result, prefix=''):

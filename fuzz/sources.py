@@ -13,7 +13,7 @@ COM = ('com',)
 MANY = 50
 WIDTHS = (1, 1, 2, 8, 8, 16, 31, 32)
 TOKEN = re.compile(rb'[A-Za-z_]\w*|[0-9]+|:=|->|\|\||\S')
-SOME_TOKENS = b'import export fun fst snd if then else while do new in skip not com exp var ( ) , . : ; := || | & + - = < ! * -> x 1 8'.split()
+SOME_TOKENS = b'import export fun fst snd if then else while do new in skip not com exp var ( ) [ ] , . : ; := || | & + - = < ! * -> x 1 8'.split()
 
 
 def ground(choose):

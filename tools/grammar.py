@@ -7,7 +7,7 @@ import re
 from dataclasses import dataclass
 
 WORDS = "import export fun fst snd if then else while do new in skip not com exp var".split()
-TOKEN = re.compile(rb"[ \t\r\n]+|#[^\n]*|(?P<name>[A-Za-z_][A-Za-z0-9_]*)|(?P<numeral>[0-9]+)|(?P<sign>:=|\|\||->|[(),.:;|&^+\-=<!*])")
+TOKEN = re.compile(rb"[ \t\r\n]+|#[^\n]*|(?P<name>[A-Za-z_][A-Za-z0-9_]*)|(?P<numeral>[0-9]+)|(?P<sign>:=|\|\||->|[()\[\],.:;|&^+\-=<!*])")
 
 # Each rule's alternatives, as their symbols; the other symbols are tokens. `name` and `numeral` are any of these.
 GRAMMAR = {
@@ -17,7 +17,8 @@ GRAMMAR = {
     "prod": ["base times"],
     "times": ["* prod", ""],
     "base": ["com", "exp numeral", "var numeral", "( type )"],
-    "term": ["fun name : type . term", "new name : numeral in term", "par then_term"],
+    "term": ["fun name : type . term", "new name long : numeral in term", "par then_term"],
+    "long": ["[ numeral ]", ""],
     "then_term": ["; term", ""],
     "par": ["cmd beside"],
     "beside": ["|| par", ""],

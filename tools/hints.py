@@ -135,7 +135,9 @@ def meant_by_term(place, may, stack, kind, last):
         return "there is no multiplication: lib/mul.gos is a module that does it"
     if kind == ":=" and "in" in may:
         return "a local begins with 0, and is written as others are: `new x : 8 in (x := 1:8 ; ..)`"
-    if may == {":"} and place.last(2) in ("new", "fun"):
+    if kind == "[":
+        return "a length stands behind the name of `new a[4] : 8 in ..`; docs/COOKBOOK.md has how a bit of a number is read"
+    if ":" in may and may <= {":", "["} and place.last(2) in ("new", "fun"):
         return {"new": "a local has its bits: `new x : 8 in ..`", "fun": "a parameter has its type: `fun x : com . ..`"}[place.last(2)]
     if "else" in may and kind == ";":
         return "between `then` and `else` stands one command, so `;` wants brackets: `if b then (c ; d) else skip`"
@@ -182,7 +184,6 @@ BYTES = {
     b">>": "there is no `>>`: docs/COOKBOOK.md has shifts to the right", b">=": "there is no `>=`: `a >= b` is `not (a < b)`",
     b">": "there is no `>`: `a > b` is `b < a`",
     b"{": "brackets are `(` and `)`", b"}": "brackets are `(` and `)`",
-    b"[": "there are no arrays; docs/COOKBOOK.md has how a bit of a number is read", b"]": "there are no arrays",
     b"~": "all bits are turned by `not`", b"?": "a choice is `if b then x else y`", b"\\": "a function is `fun x : com . ..`",
     b'"': "there are no texts", b"'": "there are no texts, and no `'` in a name",
 }
@@ -206,7 +207,7 @@ def bound(tokens):
     found = {}
     for at, token in enumerate(tokens):
         words = [it.text for it in tokens[at + 1:at + 6]]
-        if token.kind == "new" and len(words) > 2:
+        if token.kind == "new" and words[1:2] == [":"] and len(words) > 2:
             found[words[0]] = f"var {words[2]}"
         elif token.kind in ("import", "fun") and len(words) > 3:
             whole = " ".join(words[2:4] if words[2] in ("exp", "var") else words[2:3])

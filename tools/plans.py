@@ -11,13 +11,15 @@ import builds
 from builds import Wrong
 
 OPERATORS = "add sub and or xor eq less".split()
-# The cells of each kind but Op, Local and Share, which depend on more.
+# The cells of each kind but Op, Local, Array and Share, which depend on more.
 GATES = {
     "skip": "or", "lit": "or const gate", "seq": "or or or", "seqexp": "or or or gate", "par": "or or reg reg or or and xor xor xor xor",
     "if": "reg and not and or", "ifexp": "reg and not and or gate mux", "while": "or reg and not and", "not": "or or not gate",
     "assign": "or or gate or", "deref": "or or gate",
 }
 LOCAL = "reg or gate reg not gate mux reg or"
+ARRAY = "reg or reg not and or reg mux reg not and and reg reg gate reg not const or"
+ARRAY_NUMBER = "const eq and gate mux reg mux"
 
 
 def parse_type(words):
@@ -63,13 +65,14 @@ def part_handshakes(words):
     if kind == "share":
         return 3 * handshakes(parse_type(numbers)[0])
     w = int(numbers[0]) if numbers else 0
-    v = int(numbers[2]) if len(numbers) > 2 else 0
+    v = int(numbers[2]) if kind == "local" and len(numbers) > 2 else 0
+    index, bits = (int(numbers[1]).bit_length() - 1, int(numbers[3]) if len(numbers) > 3 else 0) if kind == "array" else (0, 0)
     operators = dict.fromkeys(OPERATORS, [(0, w), (0, w), (0, 1 if kind in ("eq", "less") else w)])
     return {
         "skip": [(0, 0)], "lit": [(0, w)], "seq": [(0, 0)] * 3, "seqexp": [(0, 0), (0, w), (0, w)], "par": [(0, 0)] * 3,
         "if": [(0, 1), (0, 0), (0, 0), (0, 0)], "ifexp": [(0, 1), (0, w), (0, w), (0, w)], "while": [(0, 1), (0, 0), (0, 0)],
         "not": [(0, w)] * 2, "assign": [(0, w), (w, 0), (0, 0)], "deref": [(0, w)] * 2,
-        "local": [(0, v), (0, w), (w, 0), (0, v)], **operators,
+        "local": [(0, v), (0, w), (w, 0), (0, v)], "array": [(0, bits), (0, index), (0, w), (w, 0), (0, bits)], **operators,
     }[kind]
 
 
@@ -95,7 +98,7 @@ def plan_of(name, text):
     """The plan of an object's text."""
     lines = text.split("\n")
     try:
-        if lines[0] != "gosobj 1":
+        if lines[0] not in ("gosobj 1", "gosobj 2"):
             raise ValueError
         imports = {name: parse_type(ty)[0] for _, name, *ty in (line.split(" ") for line in counted(lines, "imports"))}
         result = parse_type(next(line for line in lines if line.startswith("result ")).split(" ")[1:])[0]
@@ -114,6 +117,8 @@ def gates_of(words):
         return f"or mux reg reg or {kind} gate".split()
     if kind == "local":
         return LOCAL.split() + ["gate"] * (words[2] == "exp")
+    if kind == "array":
+        return ARRAY.split() + ARRAY_NUMBER.split() * int(words[2]) + ["gate"] * (words[3] == "exp")
     if kind == "share":
         blocks = [cell for role in roles(parse_type(words[1:])[0]) for cell in block_of(*role)]
         return ["reg", "not", "const", *blocks, "or"]

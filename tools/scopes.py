@@ -11,8 +11,10 @@ import grammar
 
 BINDERS = ("import", "fun", "new")
 OF_TYPE = {"com", "exp", "var", "numeral", "(", ")", "*", "->"}
-# The symbols that are still to come behind the first word of `fun x : T . M` and of `new x : w in M`.
-BEHIND_BINDER = 5
+# The symbols that are still to come behind the first word of `fun x : T . M` and of `new x : w in M`, where `x` may have a length.
+BEHIND_BINDER = {"fun": 5, "new": 6}
+# The lengths of arrays, each with the bits of its index.
+LENGTHS = {2: 1, 4: 2, 8: 3, 16: 4}
 # What begins a term and no operand, and what goes on with a form.
 FORMS, GOES_ON = {"if", "while", "fun", "new"}, {")", "then", "else", "do"}
 
@@ -66,9 +68,14 @@ def binder_at(tokens, at):
     """The binder whose first word has this number, or none where no name stands behind it."""
     if [it.kind for it in tokens[at + 1:at + 2]] != ["name"]:
         return None
-    has_type = [it.kind for it in tokens[at + 2:at + 3]] == [":"]
-    written = type_at(tokens, at + 3) if has_type else ""
-    return Binder(tokens[at].kind, tokens[at + 1], f"var {written}" if tokens[at].kind == "new" and written else written)
+    behind = tokens[at + 2:at + 5]
+    length = LENGTHS.get(int(behind[1].text)) if [it.kind for it in behind] == ["[", "numeral", "]"] else 0
+    colon = at + 2 if length == 0 else at + 5
+    has_type = [it.kind for it in tokens[colon:colon + 1]] == [":"] and length is not None
+    written = type_at(tokens, colon + 1) if has_type else ""
+    if tokens[at].kind == "new" and written:
+        written = f"exp {length} -> var {written}" if length else f"var {written}"
+    return Binder(tokens[at].kind, tokens[at + 1], written)
 
 
 def mended(stack, kind):
@@ -112,7 +119,7 @@ def module_of(data):
         if own and own.word == "import":
             module.imports.setdefault(own.name.text, own)
         elif own:
-            scopes.append((len(stack) - (BEHIND_BINDER if may_stand else 1), own))
+            scopes.append((len(stack) - (BEHIND_BINDER[own.word] if may_stand else 1), own))
         elif token.kind == "export":
             module.export = module.export or token
         elif token.kind == ":":

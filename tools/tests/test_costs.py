@@ -194,7 +194,7 @@ share      1     10    10          2
 seq        2      6     6          0
 skip       1      1     1          0
 """, "", 0))
-        self.room.write(p__obj="gosobj 1\n")
+        self.room.write(p__obj="gosobj 2\n")
         self.assertEqual(self.cost("--parts", "b.txt")[1:], ("tools/gos-cost: p.obj: this is no object that is right; gos link says where it stops "
                                                             "being one\n", 1))
         with self.assertRaisesRegex(SystemExit, "usage:"):

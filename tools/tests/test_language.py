@@ -16,11 +16,13 @@ import built
 PAGE = built.TOP / "docs" / "LANGUAGE.md"
 BLOCK = re.compile(r"^```gos\n(.*?)^```$", re.M | re.S)
 COMMENT = re.compile(r"(?m)^# (.*)$")
-FAULT = re.compile(r"([LSC]\d .*?): ")
+FAULT = re.compile(r"([LSC]\d+ .*?): ")
 TAKEN = re.compile(r"is taken: (.*)\.$")
 TOKEN = re.compile(r"[A-Za-z_]\w*|\d+|:=|\|\||->|[^\s\w]")
 # What no short module shows: a text, a name, a nesting, a list of imports, a type and a weight that are too large.
 LONG = {"L1", "L4", "S2", "S3", "C7", "C9"}
+# Arrays are read, and each is refused as yet.
+REFUSED = "C10 "
 
 
 @dataclass
@@ -73,13 +75,13 @@ class Examples(built.Case):
             self.assertRegex(example.text, r"(?m)^# .+\.\n\Z|^# .+\?\n\Z")
 
     def test_all_words_and_signs_stand_in_one_that_is_taken(self):
-        shown = set().union(*(example.tokens() for example in self.examples if not example.fault))
+        shown = set().union(*(example.tokens() for example in self.examples if not example.fault or example.fault.startswith(REFUSED)))
         every = named(self.page, r"The words are") | named(self.page, r"The signs are")
         self.assertEqual(every - shown, set())
 
     def test_each_fault_stands_in_one_that_is_refused(self):
-        shown = {example.fault[:2] for example in self.examples if example.fault}
-        every = set(re.findall(r"(?m)^\| `([LSC]\d) ", (built.TOP / "docs" / "FORMATS.md").read_text()))
+        shown = {example.fault.split()[0] for example in self.examples if example.fault}
+        every = set(re.findall(r"(?m)^\| `([LSC]\d+) ", (built.TOP / "docs" / "FORMATS.md").read_text()))
         self.assertEqual(every - shown, LONG)
 
 

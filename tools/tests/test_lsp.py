@@ -225,7 +225,7 @@ class Diagnostics(Session):
     def test_places_at_the_edges(self):
         for text, code, place in (
             ("", "S1", (0, 0, 0, 0)), ("export skip\n", "S1", (1, 0, 1, 0)), ("export if skip", "S1", (0, 14, 0, 14)),
-            ("export skip skipping : com then", "S1", (0, 27, 0, 31)), ("export 99999999999:8 : exp 8", "L3", (0, 7, 0, 18)),
+            ("export skip skipping : com then", "S1", (0, 27, 0, 31)), ("export 99999999999999999999:8 : exp 8", "L3", (0, 7, 0, 27)),
             ("# \n" * 22_000, "L1", (0, 0, 0, 0)), (f" export {';'.join(['(' + ';'.join(['skip'] * 28) + ')'] * 30)} : com", "C9", (0, 1, 0, 7)),
         ):
             found = self.put("m.gos", text)

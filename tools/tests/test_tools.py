@@ -243,7 +243,7 @@ class Waves(unittest.TestCase):
 
 
 class Pictures(unittest.TestCase):
-    PLAN = "gosobj 1\nweight 15\nimports 0\nresult com\nparts 3\nseq\nskip\nskip\njoints 3\nr.0 p0.2\np0.0 p1.0\np0.1 p2.0\nend\n"
+    PLAN = "gosobj 2\nweight 15\nimports 0\nresult com\nparts 3\nseq\nskip\nskip\njoints 3\nr.0 p0.2\np0.0 p1.0\np0.1 p2.0\nend\n"
 
     def test_plan(self):
         with tempfile.TemporaryDirectory() as room:
@@ -284,9 +284,9 @@ class PartsOfABuild(unittest.TestCase):
     FILES = {
         "b.txt": "gosbuild 1\ninst main main.gos main.obj\ninst p p.gos p.obj\nbind main p p\nroot main\nnet out.net\nverilog out.v\n"
                  "pulses in.pls\ntrace out.trc\n",
-        "main.obj": "gosobj 1\nweight 16\nimports 1\nimport p com\nresult com\nparts 2\nshare com\nseq\njoints 4\np0.0 i0.0\nr.0 p1.2\n"
+        "main.obj": "gosobj 2\nweight 16\nimports 1\nimport p com\nresult com\nparts 2\nshare com\nseq\njoints 4\np0.0 i0.0\nr.0 p1.2\n"
                     "p1.0 p0.1\np1.1 p0.2\nend\n",
-        "p.obj": "gosobj 1\nweight 5\nimports 0\nresult com\nparts 1\nskip\njoints 1\nr.0 p0.0\nend\n",
+        "p.obj": "gosobj 2\nweight 5\nimports 0\nresult com\nparts 1\nskip\njoints 1\nr.0 p0.0\nend\n",
         "out.net": "gosnet 1\ncells 16\ninput 1\nreg 1 14\nreg 1 11\nnot 1 2\nconst 1 0\nmux 1 12 4 2\nor 1 4 13\nor 1 12 13\nreg 1 7\n"
                    "and 1 15 3\nand 1 15 2\nor 1 5 6\nor 1 0 0\nor 1 9 9\nor 1 10 10\nor 1 8 8\nports 1\ngive main com 0 1\nend\n",
     }
@@ -352,7 +352,7 @@ class PartsOfABuild(unittest.TestCase):
     def test_too_large_a_part(self):
         count = 120
         parts = "lit 1 0\n" * count
-        (self.room / "p.obj").write_text(f"gosobj 1\nweight 5\nimports 0\nresult com\nparts {count}\n{parts}joints 0\nend\n")
+        (self.room / "p.obj").write_text(f"gosobj 2\nweight 5\nimports 0\nresult com\nparts {count}\n{parts}joints 0\nend\n")
         gates = [line for at in range(count) for line in ("or 1 0 0", "const 1 0", f"gate 1 {15 + 3 * at} {16 + 3 * at}")]
         lines = self.FILES["out.net"].split("\n")
         (self.room / "out.net").write_text("\n".join(["gosnet 1", f"cells {15 + 3 * count}", *lines[2:17], *gates, *lines[18:]]))
@@ -445,7 +445,7 @@ class Standin(unittest.TestCase):
 class Script(Standin):
     """The script gos, and which program it runs."""
 
-    UNPROVED = r"^gos: not proved on this machine yet: .*/tools/prove proves it, in about 25 minutes on four processors\n$"
+    UNPROVED = r"^gos: not proved on this machine yet: .*/tools/prove proves it, in 25 to 45 minutes on four processors\n$"
 
     def test_a_preview_is_made_once(self):
         for when in ("made first", "this is a preview"):
@@ -593,7 +593,7 @@ class Script(Standin):
         formats = (TOP / "docs/FORMATS.md").read_text()
         self.assertEqual(ran.stdout.split("\n")[0], re.search(r"^    (usage: gos .*)$", formats, re.M)[1])
         commands = re.findall(r"^\| `([a-z]+ [A-Z ]+)` \|", formats.split("\n## ")[1], re.M)
-        self.assertEqual(len(commands), 8)
+        self.assertEqual(len(commands), 9)
         for command in commands:
             self.assertRegex(ran.stdout, rf"(?m)^  {command}  ")
         for status in (*range(6), 70, 127):

@@ -98,7 +98,7 @@ SOURCES = {
 }
 # What may stand, behind these tokens.
 MAY = {
-    "export c : com ;": "`*` or `->` or the end", "import ;": "a name", "export ;": "a term", "export new x ;": "`:`", "export x := ;": "an operand",
+    "export c : com ;": "`*` or `->` or the end", "import ;": "a name", "export ;": "a term", "export new x ;": "`:` or `[`", "export x := ;": "an operand",
     "export c d then": "an argument, an operator, `:`, `:=`, `;` or `||`", "import e : exp ;": "a number",
 }
 BUILD = "gosbuild 1\ninst main main.gos main.obj\ninst lib lib.gos lib.obj\nbind main f lib\nroot main\nnet n\nverilog v\npulses p\ntrace t\n"
@@ -187,7 +187,7 @@ class Sources(Where):
 
     def test_what_may_stand_is_what_gos_takes(self):
         """Behind the beginning of a module, gos rejects a further token in its place just where it may not stand."""
-        kinds = [*grammar.WORDS, *"( ) , . : ; := || | & ^ + - = < ! * ->".split(), "name", "numeral"]
+        kinds = [*grammar.WORDS, *"( ) [ ] , . : ; := || | & ^ + - = < ! * ->".split(), "name", "numeral"]
         texts = {"name": "q", "numeral": "7"}
         for before in ("import x : exp 1 -> com", "export ( if c then y = 1 : 2", "export ( fst y := c"):
             found, _ = grammar.tokens_of(before.encode())

@@ -9,7 +9,7 @@ syntax keyword gosConstant skip
 syntax keyword gosOperator not
 syntax keyword gosType com exp var
 syntax match gosNumber /\<\d\+\>/
-syntax match gosSign /:=\|||\|->\|[;:.,+&^|=<!*()-]/
+syntax match gosSign /:=\|||\|->\|[][;:.,+&^|=<!*()-]/
 syntax match gosComment /#.*$/ contains=@Spell
 
 highlight default link gosModule Include
