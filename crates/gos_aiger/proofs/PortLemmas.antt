@@ -167,7 +167,7 @@ some_bits : (cells : List Cell) (ns : List ℕ) → WidthsFit cells → AllByRec
 some_bits cells [] fits low some = absurd (omega (arith, some))
 some_bits cells (n ∷ ns) fits low some = omega (arith, (width_few cells n fits low.0).0, sum_by-cons (width_of cells) n ns)
 
--- the outputs have at most 192 bits for each bit of the inputs
+-- the outputs have at most 384 bits for each bit of the inputs
 abbrev inward : List Cell → ℕ → Bool
 inward cells n = is_input (function_at cells n)
 
@@ -175,7 +175,7 @@ abbrev outward : List Cell → ℕ → Bool
 outward cells n = not (is_input (function_at cells n))
 
 pub few_outputs : (cells : List Cell) (ports : List NetPort) → WidthsFit cells → AllPortsFit cells ports
-    → sum_by (width_of cells) (filter (outward cells) (port_nets ports)) ≤ 192 * sum_by (width_of cells) (filter (inward cells) (port_nets ports))
+    → sum_by (width_of cells) (filter (outward cells) (port_nets ports)) ≤ 384 * sum_by (width_of cells) (filter (inward cells) (port_nets ports))
 few_outputs cells [] fits fit = omega arith
 few_outputs cells (p ∷ ps) fits fit =
     let here = (fit 0 p refl).0 in

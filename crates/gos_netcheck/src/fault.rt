@@ -11,7 +11,7 @@ pub enum NetFault {
     /// last is a pin of the first one's. The least net stands first.
     #[error("there is a combinational cycle")]
     Cycle { nets: Vec<NetId> },
-    /// The cell is the first one whose width is not 1 to 32, whose constant has more bits, or whose pins have wrong widths.
+    /// The cell is the first one whose width is not 1 to 64, whose constant has more bits, or whose pins have wrong widths.
     #[error("cell {cell} has a wrong width")]
     Width { cell: u32 },
     /// The cell is the first one that names a net that isn't there.

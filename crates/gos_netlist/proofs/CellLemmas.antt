@@ -12,11 +12,11 @@ use Rattle.gos_netlist.specs.NetText.{spaced, word_of, operands, cell_text}
 use Rattle.gos_netlist.specs.Writable.{OperandsFit, IsWritableCell}
 use Rattle.gos_types.specs.Widths.{IsWidth}
 use Rattle.gos_lex.specs.ItemTexts.{IsInRange, IsNumberText, Passed, ended}
-use Rattle.gos_netlist.specs.inner.NetLines.{end_before, numbers_text, AreNets, gate_text, word_for, pin_count, width_end, HasWord, IsGateText, IsOperandsText, IsCellText}
+use Rattle.gos_netlist.specs.inner.NetLines.{end_before, numbers_text, gate_text, word_for, pin_count, width_end, HasWord, IsGateText, IsOperandsText, IsCellText}
 use Rattle.gos_lex.proofs.SequenceLemmas.{Then, IsCode, misses_as, then_first, then_rest}
 use Rattle.gos_netlist.proofs.PassedLemmas.{passed_both, passed_as}
 use Rattle.gos_lex.proofs.NumberTextLemmas.{number_code}
-use Rattle.gos_netlist.proofs.NetsLemmas.{nets_code}
+use Rattle.gos_netlist.proofs.NetsLemmas.{AreNumbers, are_numbers, numbers_code}
 use Rattle.gos_netlist.proofs.WordLemmas.{gate_code}
 
 -- the text of a function's word, and the byte behind the width
@@ -89,23 +89,23 @@ abbrev operand_count : GateWord → ℕ
 operand_count gates.Const = 1
 operand_count word = pin_count word
 
--- all operands are numbers of nets
-operands_are : (w : ℕ) (f : Function) → IsWidth w → OperandsFit w f → AreNets (operand_count (word_for f)) (operands f)
+-- all operands are numbers of 64 bits
+operands_are : (w : ℕ) (f : Function) → IsWidth w → OperandsFit w f → AreNumbers (operand_count (word_for f)) (operands f)
 operands_are w Input is fit = (refl, tt)
 operands_are w (Const k) is fit =
-    let bound : 2 ^ w ≤ 2 ^ 32 = pow-le-pow_right (omega arith) is.1 in
+    let bound : 2 ^ w ≤ 2 ^ GREATEST_WIDTH = pow-le-pow_right (omega arith) is.1 in
     (refl, (omega (arith, fit, bound), tt))
-operands_are w (Not a) is fit = (refl, fit)
-operands_are w (And a b) is fit = (refl, fit)
-operands_are w (Or a b) is fit = (refl, fit)
-operands_are w (Xor a b) is fit = (refl, fit)
-operands_are w (Mux s a b) is fit = (refl, fit)
-operands_are w (Add a b) is fit = (refl, fit)
-operands_are w (Sub a b) is fit = (refl, fit)
-operands_are w (Eq a b) is fit = (refl, fit)
-operands_are w (Less a b) is fit = (refl, fit)
-operands_are w (Gate s a) is fit = (refl, fit)
-operands_are w (Reg a) is fit = (refl, fit)
+operands_are w (Not a) is fit = are_numbers 1 (a ∷ []) (refl, fit)
+operands_are w (And a b) is fit = are_numbers 2 (a ∷ b ∷ []) (refl, fit)
+operands_are w (Or a b) is fit = are_numbers 2 (a ∷ b ∷ []) (refl, fit)
+operands_are w (Xor a b) is fit = are_numbers 2 (a ∷ b ∷ []) (refl, fit)
+operands_are w (Mux s a b) is fit = are_numbers 3 (s ∷ a ∷ b ∷ []) (refl, fit)
+operands_are w (Add a b) is fit = are_numbers 2 (a ∷ b ∷ []) (refl, fit)
+operands_are w (Sub a b) is fit = are_numbers 2 (a ∷ b ∷ []) (refl, fit)
+operands_are w (Eq a b) is fit = are_numbers 2 (a ∷ b ∷ []) (refl, fit)
+operands_are w (Less a b) is fit = are_numbers 2 (a ∷ b ∷ []) (refl, fit)
+operands_are w (Gate s a) is fit = are_numbers 2 (s ∷ a ∷ []) (refl, fit)
+operands_are w (Reg a) is fit = are_numbers 1 (a ∷ []) (refl, fit)
 
 width_is_end : (word : GateWord) → (width_end word ≡ 10) ⊎ (width_end word ≡ 32)
 width_is_end gates.Input = inl refl
@@ -223,8 +223,8 @@ cell_code c d x y is_c is_d same =
     let behind = sym (append_assoc (ended (width_end (word_for c.gate)) (decimal c.width)) (numbers_text (operands c.gate)) x) ∙ (word.1
     ∙ (ap (λ (u : GateWord). (ended (width_end u) (decimal d.width) ++ numbers_text (operands d.gate)) ++ y) (sym word.0) ∙ append_assoc (ended (width_end (word_for c.gate)) (decimal d.width)) (numbers_text (operands d.gate)) y)) in
     let width = width_code (word_for c.gate) c.width d.width (numbers_text (operands c.gate) ++ x) (numbers_text (operands d.gate) ++ y) is_c.0 is_d.0 behind in
-    let numbers = nets_code (operand_count (word_for c.gate)) (operands c.gate) (operands d.gate) x y (operands_are c.width c.gate is_c.0 is_c.1)
-    (subst (λ (u : GateWord). AreNets (operand_count u) (operands d.gate)) (sym word.0) (operands_are d.width d.gate is_d.0 is_d.1)) width.1 in
+    let numbers = numbers_code (operand_count (word_for c.gate)) (operands c.gate) (operands d.gate) x y (operands_are c.width c.gate is_c.0 is_c.1)
+    (subst (λ (u : GateWord). AreNumbers (operand_count u) (operands d.gate)) (sym word.0) (operands_are d.width d.gate is_d.0 is_d.1)) width.1 in
     let gate = function_same c.gate d.gate word.0 numbers.0 in
     ((λ i. record { width = width.0 i; gate = gate i }), numbers.1)
 

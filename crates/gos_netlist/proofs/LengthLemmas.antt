@@ -5,6 +5,7 @@ use Rattle.std.proofs.lemmas.Fmt.{length-decimal-le}
 use Rattle.std.specs.Prelude.{codes}
 use Rattle.std.specs.Fmt.{decimal}
 use Rattle.std.specs.List.{AllByRecursion, flat_map}
+use Rattle.gos_types.specs.declared.widths.TheConstants.{GREATEST_WIDTH}
 use Rattle.gos_types.specs.Types.{Type', Com, Exp, Var, Pair, Fun}
 use Rattle.gos_types.specs.TypeText.{type_text}
 use Rattle.gos_netlist.specs.Nets.{Function, Input, Const, Not, And, Or, Xor, Mux, Add, Sub, Eq, Less, Gate, Reg, Cell, Side, Give, Take, NetPort, Netlist}
@@ -37,9 +38,8 @@ one_length n short = omega (arith, length-append (spaced_number n) [], short)
 operands_length : (w : ℕ) (f : Function) → IsWidth w → OperandsFit w f → length (spaced (operands f)) ≤ 33
 operands_length w Input width fit = omega arith
 operands_length w (Const k) width fit =
-    let most : 2 ^ w ≤ 2 ^ 32 = pow_mono width.1 in
-    let short : length (spaced_number k) ≤ 11 = number_length 10 k (omega arith) (omega (arith, fit, most)) (omega (arith, fit, most)) in
-    omega (arith, one_length k short)
+    let most : 2 ^ w ≤ 2 ^ GREATEST_WIDTH = pow_mono width.1 in
+    omega (arith, length-append (spaced_number k) [], number_length 20 k (omega arith) (omega (arith, fit, most)) (omega (arith, fit, most)))
 operands_length w (Not a) width fit = omega (arith, nets_length (a ∷ []) fit)
 operands_length w (And a b) width fit = omega (arith, nets_length (a ∷ b ∷ []) fit)
 operands_length w (Or a b) width fit = omega (arith, nets_length (a ∷ b ∷ []) fit)

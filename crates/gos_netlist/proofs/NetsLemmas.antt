@@ -1,5 +1,5 @@
 -- Numbers one behind the other, with a space between each two and a line feed behind the last.
-use Rattle.std.proofs.Common.{◌≡◌, inl, inr, ◌⊎◌, ℕ, suc, zero, ◌+◌, ◌-◌, ◌<◌, ◌≤◌, List, [], ◌∷◌, ◌++◌, length, refl, sym, ◌∙◌, ap, subst, arith, append_assoc, append-nil, length-append}
+use Rattle.std.proofs.Common.{◌≡◌, inl, inr, ◌⊎◌, ℕ, suc, zero, ◌+◌, ◌-◌, ◌^◌, ◌<◌, ◌≤◌, List, [], ◌∷◌, ◌++◌, length, refl, sym, ◌∙◌, ap, subst, arith, append_assoc, append-nil, length-append}
 use Rattle.std.specs.Fmt.{decimal}
 use Rattle.std.specs.List.{AllByRecursion, slice_range}
 use Rattle.gos_lex.specs.Items.{TextAt, Misses}
@@ -121,22 +121,38 @@ nets_passed count old new ns left none far =
 pub nets_all : (count : ℕ) (old new : TextAt) (ns : List ℕ) (left : ℕ) → left ≡ 0 → NetsSoFar count old new ns left → AreNets count ns
 nets_all count old new ns left none far = (omega (arith, far.counted, none), far.all)
 
--- lists of nets that are as long don't begin one another
-pub nets_code : (k : ℕ) → IsCode (List ℕ) (AreNets k) numbers_text
-nets_code zero [] [] x y is_v is_w same = (refl, same)
-nets_code zero (v ∷ vs) ws x y is_v is_w same = absurd (omega (arith, is_v.0))
-nets_code zero [] (w ∷ ws) x y is_v is_w same = absurd (omega (arith, is_w.0))
-nets_code (suc k) [] ws x y is_v is_w same = absurd (omega (arith, is_v.0))
-nets_code (suc k) (v ∷ vs) [] x y is_v is_w same = absurd (omega (arith, is_w.0))
-nets_code (suc k) (v ∷ vs) (w ∷ ws) x y is_v is_w same =
+-- so many numbers, of 64 bits
+abbrev pub AreNumbers : ℕ → List ℕ → Type 0
+AreNumbers k ns = (length ns ≡ k) × AllByRecursion (λ n. n < 2 ^ 64) ns
+
+-- the numbers of nets are such
+pub are_numbers : (k : ℕ) (ns : List ℕ) → AreNets k ns → AreNumbers k ns
+are_numbers k ns is = (is.0, all ns is.1)
+  where
+    all : (ns : List ℕ) → AllByRecursion IsNumber ns → AllByRecursion (λ n. n < 2 ^ 64) ns
+    all [] are = tt
+    all (n ∷ ns) are = (omega (arith, are.0), all ns are.1)
+
+-- lists of numbers that are as long don't begin one another
+pub numbers_code : (k : ℕ) → IsCode (List ℕ) (AreNumbers k) numbers_text
+numbers_code zero [] [] x y is_v is_w same = (refl, same)
+numbers_code zero (v ∷ vs) ws x y is_v is_w same = absurd (omega (arith, is_v.0))
+numbers_code zero [] (w ∷ ws) x y is_v is_w same = absurd (omega (arith, is_w.0))
+numbers_code (suc k) [] ws x y is_v is_w same = absurd (omega (arith, is_v.0))
+numbers_code (suc k) (v ∷ vs) [] x y is_v is_w same = absurd (omega (arith, is_w.0))
+numbers_code (suc k) (v ∷ vs) (w ∷ ws) x y is_v is_w same =
     let long_v : length vs ≡ k = omega (arith, is_v.0) in
     let long_w : length ws ≡ k = omega (arith, is_w.0) in
     let ends : end_before ws ≡ end_before vs = end_is ws ∙ (ap end_with (long_w ∙ sym long_v) ∙ sym (end_is vs)) in
-    let first = number_code 0 4294967295 (end_before vs) (omega arith) (is_end_before vs) v w (numbers_text vs ++ x) (numbers_text ws ++ y) (omega arith, is_v.1.0) (omega arith, is_w.1.0)
+    let first = number_code 0 18446744073709551615 (end_before vs) (omega arith) (is_end_before vs) v w (numbers_text vs ++ x) (numbers_text ws ++ y) (omega arith, omega (arith, is_v.1.0)) (omega arith, omega (arith, is_w.1.0))
     (sym (append_assoc (ended (end_before vs) (decimal v)) (numbers_text vs) x) ∙ (same ∙ (append_assoc (ended (end_before ws) (decimal w)) (numbers_text ws) y ∙ ap (λ (c : ℕ). ended c (decimal w) ++ (numbers_text ws ++ y)) ends))) in
-    let rest = nets_code k vs ws x y (long_v, is_v.1.1) (long_w, is_w.1.1) first.1 in
+    let rest = numbers_code k vs ws x y (long_v, is_v.1.1) (long_w, is_w.1.1) first.1 in
     ((λ i. first.0 i ∷ rest.0 i), rest.1)
   where
     is_end_before : (ns : List ℕ) → (end_before ns ≡ 10) ⊎ (end_before ns ≡ 32)
     is_end_before [] = inl refl
     is_end_before (n ∷ ns) = inr refl
+
+-- nor do those of nets
+pub nets_code : (k : ℕ) → IsCode (List ℕ) (AreNets k) numbers_text
+nets_code k vs ws x y is_v is_w same = numbers_code k vs ws x y (are_numbers k vs is_v) (are_numbers k ws is_w) same

@@ -110,6 +110,23 @@ fn pins_and_widths_are_told_in_turn(rt: HostRuntime) -> Result<(), Fail> {
     Ok(())
 }
 
+// 64 bits are the most.
+#[test]
+fn a_cell_of_65_bits_is_refused(rt: HostRuntime) -> Result<(), Fail> {
+    let wide = Cell {
+        width: 65,
+        gate: Gate::Const(0),
+    };
+    assert!(rt;
+        is_refused(
+            rt.alloc(),
+            &[INPUT, REGISTER, wide],
+            "cell 2 has a wrong width"
+        )?
+    );
+    Ok(())
+}
+
 #[test]
 fn ports_and_inputs_are_told_in_turn(rt: HostRuntime) -> Result<(), Fail> {
     let port = [INPUT, bit(Gate::Not(NetId(1))), REGISTER, REGISTER];

@@ -84,15 +84,15 @@ fn relay(alloc: Global) -> Result<Netlist, LexFault>
     Ok(Netlist { cells, ports })
 }
 
-// Asks x for a number of 4 bits, and is done after the answer.
+// Asks x for a number of 64 bits, and is done after the answer.
 fn question(alloc: Global) -> Result<Netlist, LexFault>
     ensures { IfOk result (λ net. length net.cells ≡ 5) }
 {
     let nets = [NetId(1), NetId(2), NetId(3)];
-    let x = port(alloc, b"x", Side::Take, Ground::Exp(4), &nets)?;
+    let x = port(alloc, b"x", Side::Take, Ground::Exp(64), &nets)?;
     let ports = vec![in alloc; main_port(alloc, 0, 4)?, x]?;
     let number = Cell {
-        width: 4,
+        width: 64,
         gate: Gate::Input,
     };
     let cells = vec![in alloc;
@@ -155,9 +155,9 @@ fn answers_in_the_cycle_of_the_question(rt: HostRuntime) -> Result<(), Fail> {
 
 #[test]
 fn gives_numbers(rt: HostRuntime) -> Result<(), Fail> {
-    let file = b"cycles 5\nnext 0 main.run\nnext 3 x.ans 7\n";
+    let file = b"cycles 5\nnext 0 main.run\nnext 3 x.ans 18446744073709551615\n";
     let answered = run_file(rt.alloc(), question(rt.alloc())?, file);
-    let trace = b"0 main.run\n1 x.ask\n3 x.ans 7\n4 main.done\ncycles 5\n";
+    let trace = b"0 main.run\n1 x.ask\n3 x.ans 18446744073709551615\n4 main.done\ncycles 5\n";
     assert!(rt; is_traced(&answered, trace, 0));
     Ok(())
 }

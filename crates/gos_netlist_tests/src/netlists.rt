@@ -104,7 +104,7 @@ const REFUSED: [(&str, bool, usize); 12] = [
     ("gosnet 1\ncells 1\ninput", false, 22),
     ("gosnet 1\ncells 1\nnand 1 0 0\n", false, 18),
     ("gosnet 1\ncells 1\nconst 1 2\n", false, 25),
-    ("gosnet 1\ncells 1\ninput 33\n", false, 24),
+    ("gosnet 1\ncells 1\ninput 65\n", false, 24),
     ("gosnet 1\ncells 0\nports 65537\n", true, 23),
     (
         "gosnet 1\ncells 0\nports 1\ngive 2 com 0 3\nend\n",

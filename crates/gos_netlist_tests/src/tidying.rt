@@ -118,10 +118,10 @@ fn short_gates_go(rt: HostRuntime) -> Result<(), Fail> {
 // The cells of two constants and a gate that folds, whose number is shown by an Exp port of so many bits.
 fn folds(rt: &impl Abort, alloc: Global, gate: &str, shown: &str) -> Result<(), Fail> {
     let text = format!(in alloc;
-        "gosnet 1\ncells 8\ninput 1\nconst 32 4294967295\nconst 32 2\n{gate}\nreg 32 3\nreg 1 0\nconst 1 1\nconst 1 0\nports 1\ngive main exp 32 0 5 4\nend\n"
+        "gosnet 1\ncells 8\ninput 1\nconst 64 18446744073709551615\nconst 64 2\n{gate}\nreg 64 3\nreg 1 0\nconst 1 1\nconst 1 0\nports 1\ngive main exp 64 0 5 4\nend\n"
     )?;
     let tidy = format!(in alloc;
-        "gosnet 1\ncells 4\ninput 1\n{shown}\nreg 32 1\nreg 1 0\nports 1\ngive main exp 32 0 3 2\nend\n"
+        "gosnet 1\ncells 4\ninput 1\n{shown}\nreg 64 1\nreg 1 0\nports 1\ngive main exp 64 0 3 2\nend\n"
     )?;
     becomes(rt, alloc, text.as_str(), tidy.as_str())
 }
@@ -129,13 +129,13 @@ fn folds(rt: &impl Abort, alloc: Global, gate: &str, shown: &str) -> Result<(), 
 #[test]
 fn each_kind_folds(rt: HostRuntime) -> Result<(), Fail> {
     let alloc = rt.alloc();
-    folds(&rt, alloc, "not 32 2", "const 32 4294967293")?;
-    folds(&rt, alloc, "and 32 1 2", "const 32 2")?;
-    folds(&rt, alloc, "or 32 1 2", "const 32 4294967295")?;
-    folds(&rt, alloc, "xor 32 1 2", "const 32 4294967293")?;
-    folds(&rt, alloc, "add 32 1 2", "const 32 1")?;
-    folds(&rt, alloc, "sub 32 2 1", "const 32 3")?;
-    folds(&rt, alloc, "mux 32 6 1 2", "const 32 4294967295")?;
-    folds(&rt, alloc, "gate 32 6 2", "const 32 2")?;
-    folds(&rt, alloc, "gate 32 7 2", "const 32 0")
+    folds(&rt, alloc, "not 64 2", "const 64 18446744073709551613")?;
+    folds(&rt, alloc, "and 64 1 2", "const 64 2")?;
+    folds(&rt, alloc, "or 64 1 2", "const 64 18446744073709551615")?;
+    folds(&rt, alloc, "xor 64 1 2", "const 64 18446744073709551613")?;
+    folds(&rt, alloc, "add 64 1 2", "const 64 1")?;
+    folds(&rt, alloc, "sub 64 2 1", "const 64 3")?;
+    folds(&rt, alloc, "mux 64 6 1 2", "const 64 18446744073709551615")?;
+    folds(&rt, alloc, "gate 64 6 2", "const 64 2")?;
+    folds(&rt, alloc, "gate 64 7 2", "const 64 0")
 }

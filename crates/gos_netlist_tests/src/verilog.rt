@@ -34,35 +34,35 @@ const SORTS: &str =
   input rst;
   input [0:0] main__ask;
   output [0:0] main__ans;
-  output [3:0] main__ansvalue;
+  output [63:0] main__ansvalue;
   output [0:0] v__read;
   input [0:0] v__ans;
-  input [3:0] v__ansvalue;
+  input [63:0] v__ansvalue;
   output [0:0] v__write;
-  output [3:0] v__writevalue;
+  output [63:0] v__writevalue;
   input [0:0] v__done;
   wire [0:0] n0;
   wire [0:0] n1;
-  wire [3:0] n2;
+  wire [63:0] n2;
   wire [0:0] n3;
-  wire [3:0] n4;
-  wire [3:0] n5;
-  wire [3:0] n6;
-  wire [3:0] n7;
-  wire [3:0] n8;
-  wire [3:0] n9;
-  wire [3:0] n10;
-  wire [3:0] n11;
+  wire [63:0] n4;
+  wire [63:0] n5;
+  wire [63:0] n6;
+  wire [63:0] n7;
+  wire [63:0] n8;
+  wire [63:0] n9;
+  wire [63:0] n10;
+  wire [63:0] n11;
   wire [0:0] n12;
   wire [0:0] n13;
-  wire [3:0] n14;
+  wire [63:0] n14;
   reg [0:0] n15;
-  reg [3:0] n16;
+  reg [63:0] n16;
   assign n0 = v__done;
   assign n1 = v__ans;
   assign n2 = v__ansvalue;
   assign n3 = main__ask;
-  assign n4 = 4'd9;
+  assign n4 = 64'd18446744073709551615;
   assign n5 = ~n2;
   assign n6 = n2 & n4;
   assign n7 = n2 | n4;
@@ -72,9 +72,9 @@ const SORTS: &str =
   assign n11 = n2 - n4;
   assign n12 = n2 == n4;
   assign n13 = n2 < n4;
-  assign n14 = n0 ? n2 : 4'd0;
+  assign n14 = n0 ? n2 : 64'd0;
   always @(posedge clk) if (rst) n15 <= 1'd0; else n15 <= n12;
-  always @(posedge clk) if (rst) n16 <= 4'd0; else n16 <= n9;
+  always @(posedge clk) if (rst) n16 <= 64'd0; else n16 <= n9;
   assign main__ans = n15;
   assign main__ansvalue = n16;
   assign v__read = n15;
@@ -106,8 +106,8 @@ fn writes_the_latch(rt: HostRuntime) -> Result<(), Fail> {
     Ok(())
 }
 
-fn four(gate: Gate) -> Cell {
-    Cell { width: 4, gate }
+fn wide(gate: Gate) -> Cell {
+    Cell { width: 64, gate }
 }
 
 // A cell of each sort. The Input cells and the nets of ports stand in different orders.
@@ -117,21 +117,21 @@ fn sorted_cells() -> [Cell; 17] {
     [
         bit(Gate::Input),
         bit(Gate::Input),
-        four(Gate::Input),
+        wide(Gate::Input),
         bit(Gate::Input),
-        four(Gate::Const(9)),
-        four(Gate::Not(a)),
-        four(Gate::And(a, b)),
-        four(Gate::Or(a, b)),
-        four(Gate::Xor(a, b)),
-        four(Gate::Mux(NetId(0), NetId(5), NetId(6))),
-        four(Gate::Add(a, b)),
-        four(Gate::Sub(a, b)),
+        wide(Gate::Const(u64::MAX)),
+        wide(Gate::Not(a)),
+        wide(Gate::And(a, b)),
+        wide(Gate::Or(a, b)),
+        wide(Gate::Xor(a, b)),
+        wide(Gate::Mux(NetId(0), NetId(5), NetId(6))),
+        wide(Gate::Add(a, b)),
+        wide(Gate::Sub(a, b)),
         bit(Gate::Eq(a, b)),
         bit(Gate::Less(a, b)),
-        four(Gate::Gate(NetId(0), a)),
+        wide(Gate::Gate(NetId(0), a)),
         bit(Gate::Reg(NetId(12))),
-        four(Gate::Reg(NetId(9))),
+        wide(Gate::Reg(NetId(9))),
     ]
 }
 
@@ -146,8 +146,8 @@ fn sorted_ports(alloc: Global) -> Result<Vec<Port>, LexFault> {
         NetId(16),
         NetId(0),
     ];
-    let main = port(alloc, b"main", Side::Give, Ground::Exp(4), &given)?;
-    let v = port(alloc, b"v", Side::Take, Ground::Var(4), &taken)?;
+    let main = port(alloc, b"main", Side::Give, Ground::Exp(64), &given)?;
+    let v = port(alloc, b"v", Side::Take, Ground::Var(64), &taken)?;
     Ok(vec![in alloc; main, v]?)
 }
 
@@ -466,9 +466,9 @@ fn tells_an_output_for_an_input(rt: HostRuntime) -> Result<(), Fail> {
 const ENDS: [(&[u8], &[u8], usize); 3] = [
     // This input has more bits.
     (b";\n  assign n2", b"value;\n", 7),
-    // 16 has more than four bits, and 32 more than none.
-    (b"9;\n  assign n5", b"16;\n", 3),
-    (b"0:0] n0", b"32:0] n0", 7),
+    // 2^64 has more than 64 bits, and there are no 65.
+    (b"5;\n  assign n5", b"6;\n", 3),
+    (b"0:0] n0", b"64:0] n0", 7),
 ];
 
 #[test]

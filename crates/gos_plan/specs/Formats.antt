@@ -29,6 +29,10 @@ HasWidthsIn f (Var w) = IsWidthIn f w
 HasWidthsIn f (Pair a b) = HasWidthsIn f a × HasWidthsIn f b
 HasWidthsIn f (Fun a b) = HasWidthsIn f a × HasWidthsIn f b
 
+-- format 1 has widths to 32, and format 2 to 64
+abbrev pub FormatsHaveWidths : Type 0
+FormatsHaveWidths = IsWidthIn One 32 × (IsWidthIn One 33 → ⊥) × IsWidthIn Two 64 × (IsWidthIn Two 65 → ⊥)
+
 -- the first line, and the word of the second
 abbrev pub head_text : Format → List ℕ
 head_text One = codes "gosobj 1\nweight "

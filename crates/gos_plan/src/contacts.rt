@@ -16,9 +16,9 @@ use std::alloc::Global;
 pub struct Contact {
     /// Who makes the request, as the holder of the end sees it.
     pub role: Role,
-    /// How many bits come with the request, 0 to 32.
+    /// How many bits come with the request, 0 to 64.
     pub ask_bits: u32,
-    /// How many bits come with the answer, 0 to 32.
+    /// How many bits come with the answer, 0 to 64.
     pub answer_bits: u32,
 }
 

@@ -24,7 +24,7 @@ pub enum Op2 {
     Less,
 }
 
-/// A kind of parts. Widths are 1 to 32.
+/// A kind of parts. Widths are 1 to 64.
 #[derive(Debug, Drop)]
 pub enum Kind {
     /// Is done at once.

@@ -23,6 +23,7 @@ ghost use Rattle.gos_plan.specs.SmallArrays.{
   SmallNumbersFit,
 };
 ghost use Rattle.gos_plan.specs.ObjectFaults.{IsOnePlan, ReadHasNoFault, HasOneFault, OneReadsAsTwo, OneHasNoArrays};
+ghost use Rattle.gos_plan.specs.Formats.{FormatsHaveWidths};
 
 /// The handshakes of a product and of a function are those of their sides, one behind the other and none lost, where
 /// the argument of a function is seen from its other side. The other side of the other side is the side itself.
@@ -119,8 +120,10 @@ pub fn one_answer()
     ensures fault { (text : List ℕ) → HasOneFault text }
 {}
 
-/// A text of format 1 reads as the same plan where the 1 of its first line is written as 2. An array has no text of format 1.
+/// A text of format 1 reads as the same plan where the 1 of its first line is written as 2. An array has no text of format 1,
+/// nor has a width above 32.
 pub fn two_formats()
     ensures reads { OneReadsAsTwo }
     ensures arrays { OneHasNoArrays }
+    ensures widths { FormatsHaveWidths }
 {}

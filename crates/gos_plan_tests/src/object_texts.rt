@@ -33,26 +33,26 @@ fn a_sequence_reads_and_prints_back(rt: HostRuntime) -> Result<(), Fail> {
 #[test]
 fn each_kind_reads_and_prints_back(rt: HostRuntime) -> Result<(), Fail> {
     let text =
-        b"gosobj 2\nweight 8192\nimports 2\nimport fun fun exp 8 com\nimport v pair var 32 com\nresult exp 1\nparts 20\nskip\nlit 32 4294967295\nseq\nseqexp 1\npar\nif\nifexp 32\nwhile\nadd 8\nsub 8\nand 8\nor 8\nxor 8\neq 8\nless 8\nnot 8\nassign 8\nderef 8\nlocal 8 com\nlocal 8 exp 32\njoints 1\np18.1 p19.1\nend\n";
+        b"gosobj 2\nweight 8192\nimports 2\nimport fun fun exp 8 com\nimport v pair var 64 com\nresult exp 1\nparts 20\nskip\nlit 64 18446744073709551615\nseq\nseqexp 1\npar\nif\nifexp 64\nwhile\nadd 8\nsub 8\nand 8\nor 8\nxor 8\neq 8\nless 8\nnot 8\nassign 8\nderef 8\nlocal 8 com\nlocal 8 exp 64\njoints 1\np18.1 p19.1\nend\n";
     match fault_of(rt.alloc(), text) {
         Some(fault) => assert_eq!(rt; fault, ObjectFault::Joint { index: 0 }),
         None => assert!(rt; false, "both ends of the joint serve"),
     }
     let text =
-        b"gosobj 2\nweight 8192\nimports 2\nimport fun fun exp 8 com\nimport v pair var 32 com\nresult exp 1\nparts 20\nskip\nlit 32 4294967295\nseq\nseqexp 1\npar\nif\nifexp 32\nwhile\nadd 8\nsub 8\nand 8\nor 8\nxor 8\neq 8\nless 8\nnot 8\nassign 8\nderef 8\nshare pair com exp 3\nlocal 8 exp 32\njoints 3\np17.0 p19.1\nr.0 p13.2\np16.0 i0.0\nend\n";
+        b"gosobj 2\nweight 8192\nimports 2\nimport fun fun exp 8 com\nimport v pair var 64 com\nresult exp 1\nparts 20\nskip\nlit 64 18446744073709551615\nseq\nseqexp 1\npar\nif\nifexp 64\nwhile\nadd 8\nsub 8\nand 8\nor 8\nxor 8\neq 8\nless 8\nnot 8\nassign 8\nderef 8\nshare pair com exp 3\nlocal 8 exp 64\njoints 3\np17.0 p19.1\nr.0 p13.2\np16.0 i0.0\nend\n";
     match fault_of(rt.alloc(), text) {
         Some(fault) => assert_eq!(rt; fault, ObjectFault::Joint { index: 2 }),
         None => assert!(rt; false, "both ends of the last joint ask"),
     }
     let text =
-        b"gosobj 2\nweight 8192\nimports 2\nimport fun fun exp 8 com\nimport v pair var 32 com\nresult exp 1\nparts 20\nskip\nlit 32 4294967295\nseq\nseqexp 1\npar\nif\nifexp 32\nwhile\nadd 8\nsub 8\nand 8\nor 8\nxor 8\neq 8\nless 8\nnot 8\nassign 8\nderef 8\nshare pair com exp 3\nlocal 8 exp 32\njoints 3\np17.0 p19.1\nr.0 p13.2\ni0.0 p15.1\nend\n";
+        b"gosobj 2\nweight 8192\nimports 2\nimport fun fun exp 8 com\nimport v pair var 64 com\nresult exp 1\nparts 20\nskip\nlit 64 18446744073709551615\nseq\nseqexp 1\npar\nif\nifexp 64\nwhile\nadd 8\nsub 8\nand 8\nor 8\nxor 8\neq 8\nless 8\nnot 8\nassign 8\nderef 8\nshare pair com exp 3\nlocal 8 exp 64\njoints 3\np17.0 p19.1\nr.0 p13.2\ni0.0 p15.1\nend\n";
     assert!(rt; prints_back(rt.alloc(), text)?);
     Ok(())
 }
 
-// The text of a plan of an array of 32 bits, whose line goes on in this way.
+// The text of a plan of an array of 64 bits, whose line goes on in this way.
 fn array_text(alloc: Global, line: &[u8]) -> Result<Vec<u8>, AllocError> {
-    let mut text = b"gosobj 2\nweight 20\nimports 0\nresult com\nparts 2\narray 32 "
+    let mut text = b"gosobj 2\nweight 20\nimports 0\nresult com\nparts 2\narray 64 "
         .as_slice()
         .to_vec(alloc)?;
     text.extend_from_slice(line)?;
@@ -97,6 +97,8 @@ fn the_first_format_reads_and_prints_as_the_second(rt: HostRuntime) -> Result<()
     assert!(rt; fault_of(alloc, array) == Some(ObjectFault::Form { at: 48 }));
     let and = b"gosobj 1\nweight 5\nimports 0\nresult com\nparts 1\nand 33\n";
     assert!(rt; fault_of(alloc, and) == Some(ObjectFault::Form { at: 52 }));
+    let and = b"gosobj 2\nweight 5\nimports 0\nresult com\nparts 1\nand 65\n";
+    assert!(rt; fault_of(alloc, and) == Some(ObjectFault::Form { at: 52 }));
     Ok(())
 }
 
@@ -129,7 +131,7 @@ fn the_place_is_told_where_a_text_breaks_off(rt: HostRuntime) -> Result<(), Fail
             == Some(ObjectFault::Form { at: 37 })
     );
     assert!(rt;
-        fault_of(alloc, b"gosobj 2\nweight 5\nimports 0\nresult exp 33\n")
+        fault_of(alloc, b"gosobj 2\nweight 5\nimports 0\nresult exp 65\n")
             == Some(ObjectFault::Form { at: 40 })
     );
     let short = b"gosobj 2\nweight 5\nimports 0\nresult com\nparts 1\nseq";

@@ -5,7 +5,7 @@ ghost use Rattle.std.specs.Prelude.{◌≡◌, ◌+◌, ◌-◌, ◌%◌, ◌^�
 ghost use Rattle.gos_types.specs.Widths.{IsWidth};
 
 /// The greatest width of the language, in bits.
-pub const GREATEST_WIDTH: u32 = 32;
+pub const GREATEST_WIDTH: u32 = 64;
 
 /// The greatest number of the language: that of the greatest width.
 pub const GREATEST_NUMBER: u64 = u64::MAX >> (64 - GREATEST_WIDTH);

@@ -5,6 +5,7 @@ use Rattle.std.proofs.lemmas.Bool.{cases_lt}
 use Rattle.std.proofs.lemmas.List.{append_cancel_left}
 use Rattle.std.proofs.Math.Nat.{pow-le-pow_right}
 use Rattle.gos_netlist.specs.Nets.{Function, Input, Const, Not, And, Or, Xor, Mux, Add, Sub, Eq, Less, Gate, Reg, Cell, NetPort, Netlist}
+use Rattle.gos_types.specs.declared.widths.TheConstants.{GREATEST_WIDTH}
 use Rattle.gos_types.specs.Widths.{IsWidth}
 use Rattle.gos_netlist.specs.Writable.{OperandsFit, IsWritableCell, IsWritablePort, IsWritable}
 use Rattle.gos_netcheck.specs.Accepted.{IsAccepted}
@@ -54,7 +55,7 @@ have_bits [] all = tt
 have_bits (c ∷ cells) all = (width_bits c.width all.0.0, have_bits cells all.1)
 
 pub power : (w k : ℕ) → IsWidth w → k < 2 ^ w → IsSmall k
-power w k wide fit = let most : 2 ^ w ≤ 2 ^ 32 = pow-le-pow_right {n = 2} (omega arith) {i = w} {j = 32} wide.1 in omega (arith, fit, most)
+power w k wide fit = let most : 2 ^ w ≤ 2 ^ GREATEST_WIDTH = pow-le-pow_right {n = 2} (omega arith) {i = w} {j = GREATEST_WIDTH} wide.1 in omega (arith, fit, most)
 
 pub small_function : (w : ℕ) (f : Function) → IsWidth w → OperandsFit w f → AreSmall f
 small_function w Input wide fit = tt

@@ -14,7 +14,7 @@ use gos_plan::Kind;
 use std::marker::Model;
 
 /// A part that passes control on: a `Skip`, a sequence, two commands side by side, a choice or a repeated command. A
-/// sequence or a choice may end with a number of 1 to 32 bits.
+/// sequence or a choice may end with a number of 1 to 64 bits.
 #[derive(Debug, Drop)]
 pub struct Control(pub Kind);
 

@@ -14,7 +14,7 @@ use gos_netlist::{NetId, NetPool, Region};
 use gos_types::Ty;
 use std::marker::Model;
 
-/// A part by which two callers use one source of this type, one after the other. Widths in the type are 1 to 32, and
+/// A part by which two callers use one source of this type, one after the other. Widths in the type are 1 to 64, and
 /// it has at most 64 handshakes.
 #[derive(Debug, Drop)]
 pub struct Sharing<'a>(pub &'a Ty);

@@ -13,7 +13,7 @@ use gos_netlist::{NetId, NetPool, Region};
 use gos_plan::Kind;
 use std::marker::Model;
 
-/// A literal, an operator, a complement, an assignment, a read, a local variable or an array. Its widths are 1 to 32, or 0
+/// A literal, an operator, a complement, an assignment, a read, a local variable or an array. Its widths are 1 to 64, or 0
 /// for the body of a local variable or of an array that is a command. A literal has at most its bits, and an array 2, 4, 8 or
 /// 16 numbers.
 #[derive(Debug, Drop)]
