@@ -1,7 +1,7 @@
 -- A term that is judged has its type by the rules, and keeps the limits.
 use Rattle.std.specs.Prelude.{◌≡◌, ◌<◌, ◌≤◌, ◌^◌, ℕ, List, ◌∷◌, Bool, true, false, Option, Some, None, Ok, Err, if◌then◌else◌, ◌&&◌, ◌||◌, ◌==◌, nat_lt, nat_le}
 use Rattle.std.proofs.Common.{arith, refl, sym, subst, ◌∙◌, inl, inr}
-use Rattle.std.proofs.lemmas.Bool.{and_parts, or_cases, eqb-true}
+use Rattle.std.proofs.lemmas.Bool.{or_cases, eqb-true}
 use Rattle.std.proofs.lemmas.Bool.Decides.{nat_tests}
 use Rattle.gos_lex.specs.declared.token.Span.{Span}
 use Rattle.gos_types.specs.declared.widths.TheConstants.{GREATEST_WIDTH}
@@ -18,7 +18,6 @@ use Rattle.gos_check.specs.Written.{is_width, first_of, bad_width, no_bad, small
 use Rattle.gos_check.specs.Scopes.{Binders, type_at, used}
 use Rattle.gos_check.specs.Demands.{application, first_side, second_side, sequence, parallel, choice, looping, assignment, reading, negation, operation, done}
 use Rattle.gos_check.specs.Judging.{place_of, of_two, separate, sized, judged}
-use Rattle.gos_check.specs.declared.written.TheConstants.{ARRAYS}
 use Rattle.gos_check.specs.inner.Walked.{names_of, types_of}
 use Rattle.gos_check.specs.Accepted.{IsSmall, IsWritten, KeepsLimits}
 use Rattle.gos_check.proofs.FoundLemmas.{after_is, small_is, sized_is, done_is, two_is, three_is, separate_is, if_ok}
@@ -68,7 +67,7 @@ unit_is found u h = h
 pub written_width_is : (s : Span) (w : ℕ) → written_width s w ≡ Ok tt → IsWidth w
 written_width_is s w h = width_is w (if_ok (is_width w) tt tt (Width s w 0) h).0
 
-one_length : (n : ℕ) → ((n == 2) || ((n == 4) || ((n == 8) || (n == 16)))) ≡ true → IsLength n
+one_length : (n : ℕ) → is_length n ≡ true → IsLength n
 one_length n h =
     elim (or_cases (n == 2) ((n == 4) || ((n == 8) || (n == 16))) h) [
       | inl e ↦ inl (eqb-true n 2 e)
@@ -78,11 +77,18 @@ one_length n h =
       ]
     ]
 
--- a length that is accepted is one, and there are arrays
-pub written_length_is : (s : Span) (n : ℕ) → written_length s n ≡ Ok tt → (ARRAYS ≡ true) × IsLength n
-written_length_is s n h =
-    let p = and_parts ARRAYS ((n == 2) || ((n == 4) || ((n == 8) || (n == 16)))) (if_ok (is_length n) tt tt (Length s n) h).0 in
-    (p.0, one_length n p.1)
+-- it is at most 16
+at_most : (n : ℕ) → IsLength n → n ≤ 16
+at_most n (inl e) = omega (arith, e)
+at_most n (inr (inl e)) = omega (arith, e)
+at_most n (inr (inr (inl e))) = omega (arith, e)
+at_most n (inr (inr (inr e))) = omega (arith, e)
+
+pub length_few : (n : ℕ) → is_length n ≡ true → n ≤ 16
+length_few n h = at_most n (one_length n h)
+
+pub written_length_is : (s : Span) (n : ℕ) → written_length s n ≡ Ok tt → IsLength n
+written_length_is s n h = one_length n (if_ok (is_length n) tt tt (Length s n) h).0
 
 literal_typed : (s : Span) (k w : ℕ) (t : Type') → literal s k w ≡ Ok t → (t ≡ Exp w) × IsWidth w × (k < 2 ^ w)
 literal_typed s k w t h =
@@ -134,7 +140,7 @@ judged_typed i g (Array s x n u w wt m) t h =
     let q = after_is (judged i (record { name = x; ty = array_type n w } ∷ g) m) (λ b. done (place_of m) b) t p.2 in
     let r = done_is (place_of m) q.0 t q.2 in (
       done_at q.0 t r.1 r.0,
-      (written_length_is u n o.1).1,
+      written_length_is u n o.1,
       written_width_is wt w p.1,
       at_type i _ _ q.0 t r.1 (judged_typed i (record { name = x; ty = array_type n w } ∷ g) m q.0 q.1),
     )
@@ -246,11 +252,8 @@ judged_keeps i g (Array s x n u w wt m) t h =
     let e = sized_is s (after (written_length u n) (array_rule i g x n w wt m)) t h in
     let o = after_is (written_length u n) (array_rule i g x n w wt m) t e.0 in
     let p = after_is (written_width wt w) (λ _. after (judged i (record { name = x; ty = array_type n w } ∷ g) m) (λ b. done (place_of m) b)) t o.2 in
-    let q = after_is (judged i (record { name = x; ty = array_type n w } ∷ g) m) (λ b. done (place_of m) b) t p.2 in (
-      (written_length_is u n o.1).0,
-      small_here i g (Array s x n u w wt m) t h e.1,
-      judged_keeps i (record { name = x; ty = array_type n w } ∷ g) m q.0 q.1,
-    )
+    let q = after_is (judged i (record { name = x; ty = array_type n w } ∷ g) m) (λ b. done (place_of m) b) t p.2 in
+    (small_here i g (Array s x n u w wt m) t h e.1, judged_keeps i (record { name = x; ty = array_type n w } ∷ g) m q.0 q.1)
 judged_keeps i g (If s m n o) t h =
     let e = sized_is s _ t h in
     let p = three_is (judged i g m) (judged i g n) (judged i g o) (λ a b c. choice (place_of m) a (place_of n) b (place_of o) c) t e.0 in

@@ -1,7 +1,6 @@
 -- A term that has a type by the rules, and keeps the limits, is judged to have it.
-use Rattle.std.specs.Prelude.{◌≡◌, ◌<◌, ◌≤◌, ◌^◌, ℕ, List, ◌∷◌, Bool, true, false, Option, Some, None, Ok, Err, if◌then◌else◌, ◌&&◌, ◌||◌, ◌==◌, nat_lt, nat_le}
+use Rattle.std.specs.Prelude.{◌≡◌, ◌<◌, ◌≤◌, ◌^◌, ℕ, List, ◌∷◌, Bool, true, false, Option, Some, None, Ok, Err, if◌then◌else◌, ◌&&◌, nat_lt, nat_le}
 use Rattle.std.proofs.Common.{arith, refl, sym, ap, subst, ◌∙◌, inl, inr}
-use Rattle.std.proofs.lemmas.Bool.{and_from}
 use Rattle.std.proofs.lemmas.Bool.Decides.{nat_tests}
 use Rattle.gos_lex.specs.declared.token.Span.{Span}
 use Rattle.gos_types.specs.declared.widths.TheConstants.{GREATEST_WIDTH}
@@ -20,7 +19,6 @@ use Rattle.gos_check.specs.Scopes.{Binders, type_at, used}
 use Rattle.gos_check.specs.Free.{free, apart}
 use Rattle.gos_check.specs.Demands.{application, first_side, second_side, sequence, parallel, choice, looping, assignment, reading, negation, operation, demanded, done}
 use Rattle.gos_check.specs.Judging.{place_of, of_two, of_three, separate, sized, judged}
-use Rattle.gos_check.specs.declared.written.TheConstants.{ARRAYS}
 use Rattle.gos_check.specs.inner.Walked.{names_of, types_of}
 use Rattle.gos_check.specs.Accepted.{IsSmall, IsWritten, KeepsLimits}
 use Rattle.gos_check.proofs.TypeLemmas.{demanded_same}
@@ -82,20 +80,17 @@ written_ok s t (h, k) = rw (no_bad_width t h) (small_ok s t k)
 written_width_ok : (s : Span) (w : ℕ) → IsWidth w → written_width s w ≡ Ok tt
 written_width_ok s w h = rw (width_test w h) refl
 
-one_test : (n : ℕ) → IsLength n → ((n == 2) || ((n == 4) || ((n == 8) || (n == 16)))) ≡ true
-one_test n (inl e) = rw e refl
-one_test n (inr (inl e)) = rw e refl
-one_test n (inr (inr (inl e))) = rw e refl
-one_test n (inr (inr (inr e))) = rw e refl
-
-length_test : (n : ℕ) → ARRAYS ≡ true → IsLength n → is_length n ≡ true
-length_test n arrays is = and_from ARRAYS ((n == 2) || ((n == 4) || ((n == 8) || (n == 16)))) arrays (one_test n is)
+length_test : (n : ℕ) → IsLength n → is_length n ≡ true
+length_test n (inl e) = rw e refl
+length_test n (inr (inl e)) = rw e refl
+length_test n (inr (inr (inl e))) = rw e refl
+length_test n (inr (inr (inr e))) = rw e refl
 
 tested : (test : Bool) (fault : Fault) → test ≡ true → (let f : Found (Unit {0}) = if test then Ok tt else Err fault in f ≡ Ok tt)
 tested test fault h = rw h refl
 
-written_length_ok : (s : Span) (n : ℕ) → ARRAYS ≡ true → IsLength n → written_length s n ≡ Ok tt
-written_length_ok s n arrays is = tested (is_length n) (Length s n) (length_test n arrays is)
+written_length_ok : (s : Span) (n : ℕ) → IsLength n → written_length s n ≡ Ok tt
+written_length_ok s n is = tested (is_length n) (Length s n) (length_test n is)
 
 literal_ok : (s : Span) (k w : ℕ) → IsWidth w → k < 2 ^ w → literal s k w ≡ Ok (Exp w)
 literal_ok s k w h l = rw (written_width_ok s w h, below k (2 ^ w) l) refl
@@ -151,10 +146,10 @@ typed_judged law i g (New s x w wt m) t h k =
 typed_judged law i g (Array s x n u w wt m) t h k =
     let r = record { name = x; ty = array_type n w } ∷ g in
     sized_ok s (after (written_length u n) (array_rule i g x n w wt m)) t
-    (after_ok (written_length u n) (array_rule i g x n w wt m) tt t (written_length_ok u n k.0 h.1)
+    (after_ok (written_length u n) (array_rule i g x n w wt m) tt t (written_length_ok u n h.1)
     (after_ok (written_width wt w) (λ _. after (judged i (record { name = x; ty = array_type n w } ∷ g) m) (λ b. done (place_of m) b)) tt t (written_width_ok wt w h.2)
-    (after_ok (judged i r m) (λ b. done (place_of m) b) t t (typed_judged law i r m t h.3 k.2) (done_ok (place_of m) t h.0))))
-    (small_type law i (types_of g) (term_of (names_of g) (Array s x n u w wt m)) t h k.1)
+    (after_ok (judged i r m) (λ b. done (place_of m) b) t t (typed_judged law i r m t h.3 k.1) (done_ok (place_of m) t h.0))))
+    (small_type law i (types_of g) (term_of (names_of g) (Array s x n u w wt m)) t h k.0)
 typed_judged law i g (App s m n) t h k =
     sized_ok s _ t
     (two_ok (judged i g m) (judged i g n) (λ a b. separate m n (application (place_of m) a (place_of n) b)) (Fun h.0 t) h.0 t

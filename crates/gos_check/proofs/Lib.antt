@@ -11,6 +11,7 @@ pub mod RefusalLemmas
 pub mod NameLemmas
 pub mod ThingLemmas
 pub mod AcceptLemmas
+pub mod LengthLemmas
 pub mod CompleteLemmas
 pub mod ModuleLemmas
 pub mod CountLemmas

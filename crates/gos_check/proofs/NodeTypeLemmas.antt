@@ -15,6 +15,7 @@ type_of_form t ss (forms.Lit k w) = refl
 type_of_form t ss (forms.Use n) = refl
 type_of_form t ss (forms.Fun' n p a qs f) = refl
 type_of_form t ss (forms.New' n w p a qs f) = refl
+type_of_form t ss (forms.Array' n l w p a qs f) = refl
 type_of_form t ss (forms.App' p a qs f q b rs g) = refl
 type_of_form t ss (forms.Pair' p a qs f q b rs g) = refl
 type_of_form t ss (forms.Fst' p a qs f) = refl

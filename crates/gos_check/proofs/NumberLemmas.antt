@@ -7,7 +7,7 @@ use Rattle.gos_types.specs.Types.{Type', Var, Fun}
 use Rattle.gos_types.proofs.BytesLemmas.{same_bytes_eq}
 use Rattle.gos_model.specs.Terms as terms
 use Rattle.gos_model.specs.Terms.{Name, Term}
-use Rattle.gos_model.specs.Typing.{Imports}
+use Rattle.gos_model.specs.Typing.{Imports, array_type}
 use Rattle.gos_model.specs.Weight.{node_type}
 use Rattle.gos_model.specs.Sources.{use_of, binder_of, bound_or_import, one_further}
 use Rattle.gos_model.proofs.NumberLemmas.{number_cases}
@@ -15,7 +15,7 @@ use Rattle.gos_check.specs.declared.linear.Split.{Split}
 use Rattle.gos_check.specs.declared.opens.Open.{Open}
 use Rattle.gos_check.specs.Scopes.{Binders}
 use Rattle.gos_check.specs.inner.Walked.{names_of, types_of}
-use Rattle.gos_check.specs.Nodes.{Binding, OfFun, OfNew, OneForm, OfFst, OfSnd, OfDeref, OfNot, TwoForm, OfApp, OfBoth, OfSeq, OfPar, OfWhile, OfAssign, OfBin, Numbered, Meaning, shifted, below, inside, meaning, HasTypes, bound_type, binder_term, one_term, two_term, type_of_node}
+use Rattle.gos_check.specs.Nodes.{Binding, OfFun, OfNew, OfArray, OneForm, OfFst, OfSnd, OfDeref, OfNot, TwoForm, OfApp, OfBoth, OfSeq, OfPar, OfWhile, OfAssign, OfBin, Numbered, Meaning, shifted, below, inside, meaning, HasTypes, bound_type, binder_term, one_term, two_term, type_of_node}
 use Rattle.gos_check.specs.Linearity.{times, split_in, sides, used, all_sides, made, IsOneOf, Comes, itself, by_left, by_right, IsSplitBetween, SidesApart}
 use Rattle.gos_check.specs.Opens.{number_in, others, merged_splits, merged_names, merged_next, binder_number, binder_next}
 use Rattle.gos_check.specs.Numbering.{one_type, two_type, binder_type, Result, closed_result, use_result, binder_result, one_result, two_result, inner_splits, inner_names, inner_next, choice_result}
@@ -321,10 +321,14 @@ pub fun_good : (i : Imports) (g : Binders) (n : ℕ) (x : Name) (a : Type') (m :
     → Good i (record { name = x; ty = a } ∷ g) n m r → Good i g n (terms.Lam a m) (binder_result OfFun x a r)
 fun_good i g n x a m r h = binder_good i g n OfFun x a m r refl (ap (λ (t : Type'). Fun a t) h.ty) h
 
--- a block
+-- a block with a variable or with an array
 pub new_good : (i : Imports) (g : Binders) (n : ℕ) (x : Name) (w : ℕ) (m : Term) (r : Result)
     → Good i (record { name = x; ty = Var w } ∷ g) n m r → Good i g n (terms.New w m) (binder_result (OfNew w) x (Var w) r)
 new_good i g n x w m r h = binder_good i g n (OfNew w) x (Var w) m r refl h.ty h
+
+pub array_good : (i : Imports) (g : Binders) (n : ℕ) (x : Name) (l w : ℕ) (m : Term) (r : Result)
+    → Good i (record { name = x; ty = array_type l w } ∷ g) n m r → Good i g n (terms.NewArray l w m) (binder_result (OfArray l w) x (array_type l w) r)
+array_good i g n x l w m r h = binder_good i g n (OfArray l w) x (array_type l w) m r refl h.ty h
 
 one_of-append : (s : Split) (ss ts : List Split) → IsOneOf s (ss ++ ts) → IsOneOf s ss ⊎ IsOneOf s ts
 one_of-append s [] ts h = inr h

@@ -1,5 +1,5 @@
 -- What is found of a form is what its rule makes of its parts: a type, or the refusal of a part or of the rule.
-use Rattle.std.specs.Prelude.{◌≡◌, ℕ, ◌+◌, ◌*◌, ◌≤◌, List, Option, Some, None, Result, Ok, Err, MatchOption, IfOk}
+use Rattle.std.specs.Prelude.{◌≡◌, ℕ, ◌+◌, ◌*◌, ◌≤◌, List, ◌∷◌, Option, Some, None, Result, Ok, Err, MatchOption, IfOk}
 use Rattle.std.proofs.Common.{arith, refl, sym, subst, ◌∙◌}
 use Rattle.std.proofs.lemmas.Result.{IfOk-weaker}
 use Rattle.gos_lex.specs.declared.token.Span.{Span}
@@ -8,7 +8,8 @@ use Rattle.gos_syntax.specs.declared.terms.Form.{Form}
 use Rattle.gos_syntax.specs.declared.terms.Term.{Term}
 use Rattle.gos_syntax.specs.Trees.{Tree, tree_of}
 use Rattle.gos_syntax.specs.Sizes.{size}
-use Rattle.gos_model.specs.Typing.{Imports}
+use Rattle.gos_model.specs.Terms.{Name}
+use Rattle.gos_model.specs.Typing.{Imports, array_type}
 use Rattle.gos_model.specs.Weight.{count}
 use Rattle.gos_check.specs.declared.fault.CheckFault.{CheckFault}
 use Rattle.gos_check.specs.declared.forms.OnePart.{OnePart}
@@ -16,7 +17,7 @@ use Rattle.gos_check.specs.declared.forms.TwoParts.{TwoParts}
 use Rattle.gos_check.specs.declared.free.Occurrence.{Occurrence}
 use Rattle.gos_check.specs.declared.judged.Judged.{Judged}
 use Rattle.gos_check.specs.Faults.{Fault, Found, after, Refuses, fault_of}
-use Rattle.gos_check.specs.Written.{small}
+use Rattle.gos_check.specs.Written.{small, written_width, written_length}
 use Rattle.gos_check.specs.Scopes.{Binders}
 use Rattle.gos_check.specs.Free.{free}
 use Rattle.gos_check.specs.Demands.{done, choice}
@@ -72,6 +73,16 @@ chosen i g m n p =
 pub choice_at : (i : Imports) (g : Binders) (answer : Result Judged CheckFault) {m n p a b c : Term} → m ≡ a → n ≡ b → p ≡ c
     → Finds (chosen i g m n p) answer → Finds (chosen i g a b c) answer
 choice_at i g answer e f h found = subst (λ (x : Found Type'). Finds x answer) (λ k. chosen i g (e k) (f k) (h k)) found
+
+-- what a block with an array makes of a term of the program
+abbrev arrayed : Imports → Binders → Name → ℕ → Span → ℕ → Span → Term → Found Type'
+arrayed i g x n u w t m =
+    after (written_length u n) (λ _. after (written_width t w) (λ _.
+    after (judged i (record { name = x; ty = array_type n w } ∷ g) (tree m)) (λ b. done (place_of (tree m)) b)))
+
+pub array_at : (i : Imports) (g : Binders) (answer : Result Judged CheckFault) (x : Name) (n : ℕ) (u : Span) (w : ℕ) (t : Span) {m a : Term} → m ≡ a
+    → Finds (arrayed i g x n u w t m) answer → Finds (arrayed i g x n u w t a) answer
+array_at i g answer x n u w t e found = subst (λ (z : Term). Finds (arrayed i g x n u w t z) answer) e found
 
 two_there : (rule : TwoParts) (f g : Form) (s t : Span) (a b : Type') (os ps : List Occurrence) → os ≡ free (tree_of f s) → ps ≡ free (tree_of g t)
     → two_rule rule (place_of (tree_of f s)) a (free (tree_of f s)) (place_of (tree_of g t)) b (free (tree_of g t)) ≡ two_rule rule s a os t b ps

@@ -1,7 +1,7 @@
 -- The numbered term of a typed module, with the imports' places as their numbers, stands for the module's program.
-use Rattle.std.specs.Prelude.{◌≡◌, ◌≢◌, ◌⊎◌, ℕ, suc, ◌+◌, ◌<◌, ◌≤◌, List, [], ◌∷◌, map, length, false, Option, Some, None, true}
+use Rattle.std.specs.Prelude.{◌≡◌, ◌≢◌, ◌⊎◌, ℕ, suc, ◌+◌, ◌<◌, ◌≤◌, List, [], ◌∷◌, map, length, false, Option, Some, None}
 use Rattle.std.specs.Str.{bytes_eq}
-use Rattle.std.proofs.Common.{arith, refl, sym, ap, subst, ◌∙◌, inl, inr, true≢false}
+use Rattle.std.proofs.Common.{arith, refl, sym, ap, subst, ◌∙◌, inl, inr}
 use Rattle.std.proofs.lemmas.List.{length-map}
 use Rattle.std.proofs.lemmas.Bool.{eq-eqb, ne_eqb}
 use Rattle.gos_types.specs.Types.{Type', Com, Exp, Var}
@@ -11,14 +11,12 @@ use Rattle.gos_syntax.specs.Trees.{Tree, tree_of}
 use Rattle.gos_syntax.specs.Modules.{SeenImport, SeenModule}
 use Rattle.gos_model.specs.Terms as terms
 use Rattle.gos_model.specs.Terms.{Name}
-use Rattle.gos_model.specs.Typing.{Imports, import_type, Typed}
+use Rattle.gos_model.specs.Typing.{Imports, import_type, array_type, Typed}
 use Rattle.gos_model.specs.Weight.{or_com, node_type}
 use Rattle.gos_model.specs.Sources.{use_of, binder_of, bound_or_import, one_further, op_of, term_of, import_of, program_of}
 use Rattle.gos_model.proofs.NumberLemmas.{number_cases}
 use Rattle.gos_check.specs.declared.opens.Open.{Open}
 use Rattle.gos_check.specs.Scopes.{Binders, type_at}
-use Rattle.gos_check.specs.declared.written.TheConstants.{ARRAYS}
-use Rattle.gos_check.specs.Accepted.{KeepsLimits}
 use Rattle.gos_check.specs.inner.Walked.{names_of, types_of}
 use Rattle.gos_check.specs.Nodes.{OfFst, OfSnd, OfDeref, OfNot, OfApp, OfBoth, OfSeq, OfPar, OfWhile, OfAssign, OfBin, Numbered, Meaning, meaning, HasTypes}
 use Rattle.gos_check.specs.Linearity.{times, used, all_sides, made, SidesApart, import_at, StandsFor}
@@ -27,7 +25,7 @@ use Rattle.gos_check.specs.Numbering.{Result, numbered, exchanged, raised, impor
 use Rattle.gos_check.proofs.NameLemmas.{name_cases, other_false}
 use Rattle.gos_check.proofs.TimesLemmas.{times_same}
 use Rattle.gos_check.proofs.MergeLemmas.{numbers, Lacks, Differ, Gives, lacks_none, lacks_others, number_others, number_times}
-use Rattle.gos_check.proofs.NumberLemmas.{Good, closed_good, use_good, one_good, two_good, fun_good, new_good, choice_good}
+use Rattle.gos_check.proofs.NumberLemmas.{Good, closed_good, use_good, one_good, two_good, fun_good, new_good, array_good, choice_good}
 use Rattle.gos_check.proofs.RenameLemmas.{exchange_back, meaning_renamed, types_renamed, used_times, all_sides_times, made_times, apart_renamed}
 
 -- the type of a name under binders is that of what it stands for
@@ -41,32 +39,28 @@ use_types i (b ∷ g) x =
     further None = refl
     further (Some n) = refl
 
--- there are no arrays
-no_arrays : ARRAYS ≡ true → ⊥
-no_arrays h = true≢false (sym h)
-
--- each term that is numbered and keeps the limits is
-numbered_good : (i : Imports) (g : Binders) (n : ℕ) (tree : Tree) → KeepsLimits i (types_of g) (term_of (names_of g) tree)
-    → Good i g n (term_of (names_of g) tree) (numbered i g n tree)
-numbered_good i g n (trees.Skip s) k = closed_good i g n Com terms.Skip refl
-numbered_good i g n (trees.Lit s v w) k = closed_good i g n (Exp w) (terms.Lit v w) refl
-numbered_good i g n (trees.Use s x) k = use_good i g n (or_com (type_at i g x)) x (use_types i g x)
-numbered_good i g n (trees.Lam s x a t m) k = fun_good i g n x a _ _ (numbered_good i (record { name = x; ty = a } ∷ g) n m k.2)
-numbered_good i g n (trees.New s x w t m) k = new_good i g n x w _ _ (numbered_good i (record { name = x; ty = Var w } ∷ g) n m k.1)
-numbered_good i g n (trees.Array s x l u w t m) k = absurd (no_arrays k.0)
-numbered_good i g n (trees.App s l r) k = two_good i g n OfApp _ _ _ _ (numbered_good i g n l k.1) (numbered_good i g _ r k.2)
-numbered_good i g n (trees.Both s l r) k = two_good i g n OfBoth _ _ _ _ (numbered_good i g n l k.1) (numbered_good i g _ r k.2)
-numbered_good i g n (trees.Fst s m) k = one_good i g n OfFst _ _ (numbered_good i g n m k.1)
-numbered_good i g n (trees.Snd s m) k = one_good i g n OfSnd _ _ (numbered_good i g n m k.1)
-numbered_good i g n (trees.Seq s l r) k = two_good i g n OfSeq _ _ _ _ (numbered_good i g n l k.1) (numbered_good i g _ r k.2)
-numbered_good i g n (trees.Par s l r) k = two_good i g n OfPar _ _ _ _ (numbered_good i g n l k.1) (numbered_good i g _ r k.2)
-numbered_good i g n (trees.If s l r m) k =
-    choice_good i g n _ _ _ _ _ _ (numbered_good i g n l k.1) (numbered_good i g _ r k.2) (numbered_good i g _ m k.3)
-numbered_good i g n (trees.While s l r) k = two_good i g n OfWhile _ _ _ _ (numbered_good i g n l k.1) (numbered_good i g _ r k.2)
-numbered_good i g n (trees.Assign s l r) k = two_good i g n OfAssign _ _ _ _ (numbered_good i g n l k.1) (numbered_good i g _ r k.2)
-numbered_good i g n (trees.Deref s m) k = one_good i g n OfDeref _ _ (numbered_good i g n m k.1)
-numbered_good i g n (trees.Not s m) k = one_good i g n OfNot _ _ (numbered_good i g n m k.1)
-numbered_good i g n (trees.Bin s op l r) k = two_good i g n (OfBin (op_of op)) _ _ _ _ (numbered_good i g n l k.1) (numbered_good i g _ r k.2)
+-- each term that is numbered is
+numbered_good : (i : Imports) (g : Binders) (n : ℕ) (tree : Tree) → Good i g n (term_of (names_of g) tree) (numbered i g n tree)
+numbered_good i g n (trees.Skip s) = closed_good i g n Com terms.Skip refl
+numbered_good i g n (trees.Lit s v w) = closed_good i g n (Exp w) (terms.Lit v w) refl
+numbered_good i g n (trees.Use s x) = use_good i g n (or_com (type_at i g x)) x (use_types i g x)
+numbered_good i g n (trees.Lam s x a t m) = fun_good i g n x a _ _ (numbered_good i (record { name = x; ty = a } ∷ g) n m)
+numbered_good i g n (trees.New s x w t m) = new_good i g n x w _ _ (numbered_good i (record { name = x; ty = Var w } ∷ g) n m)
+numbered_good i g n (trees.Array s x l u w t m) =
+    array_good i g n x l w _ _ (numbered_good i (record { name = x; ty = array_type l w } ∷ g) n m)
+numbered_good i g n (trees.App s l r) = two_good i g n OfApp _ _ _ _ (numbered_good i g n l) (numbered_good i g _ r)
+numbered_good i g n (trees.Both s l r) = two_good i g n OfBoth _ _ _ _ (numbered_good i g n l) (numbered_good i g _ r)
+numbered_good i g n (trees.Fst s m) = one_good i g n OfFst _ _ (numbered_good i g n m)
+numbered_good i g n (trees.Snd s m) = one_good i g n OfSnd _ _ (numbered_good i g n m)
+numbered_good i g n (trees.Seq s l r) = two_good i g n OfSeq _ _ _ _ (numbered_good i g n l) (numbered_good i g _ r)
+numbered_good i g n (trees.Par s l r) = two_good i g n OfPar _ _ _ _ (numbered_good i g n l) (numbered_good i g _ r)
+numbered_good i g n (trees.If s l r m) =
+    choice_good i g n _ _ _ _ _ _ (numbered_good i g n l) (numbered_good i g _ r) (numbered_good i g _ m)
+numbered_good i g n (trees.While s l r) = two_good i g n OfWhile _ _ _ _ (numbered_good i g n l) (numbered_good i g _ r)
+numbered_good i g n (trees.Assign s l r) = two_good i g n OfAssign _ _ _ _ (numbered_good i g n l) (numbered_good i g _ r)
+numbered_good i g n (trees.Deref s m) = one_good i g n OfDeref _ _ (numbered_good i g n m)
+numbered_good i g n (trees.Not s m) = one_good i g n OfNot _ _ (numbered_good i g n m)
+numbered_good i g n (trees.Bin s op l r) = two_good i g n (OfBin (op_of op)) _ _ _ _ (numbered_good i g n l) (numbered_good i g _ r)
 
 -- a name of names
 abbrev IsOpen : Name → List Open → Type 0
@@ -122,7 +116,9 @@ known i g n (trees.Lam s y a u m) t h x o b =
 known i g n (trees.New s y w u m) t h x o b =
     let p = open_others y x _ o in
     known i (record { name = y; ty = Var w } ∷ g) n m t h.2 x p.1 (rw (other_false y x p.0, b) refl)
-known i g n (trees.Array s y l u w v m) t h x o b = let z : None ≡ Some o.0 = o.1 in absurd (cc)
+known i g n (trees.Array s y l u w v m) t h x o b =
+    let p = open_others y x _ o in
+    known i (record { name = y; ty = array_type l w } ∷ g) n m t h.3 x p.1 (rw (other_false y x p.0, b) refl)
 known i g n (trees.App s l r) t h x o b =
     elim (open_merged x _ _ _ o) [ inl p ↦ known i g n l _ h.1 x p b | inr p ↦ known i g _ r _ h.2 x p b ]
 known i g n (trees.Both s l r) t h x o b =
@@ -329,9 +325,9 @@ pulled_gives is (o ∷ os) d once far all x k h =
     still y w = name_cases o.name y (λ e t. (o.number, rw t refl)) (λ other f. (w.0, rw f w.1))
 
 -- the term that is numbered and placed stands for the program
-pub stands : (m : SeenModule) (t : Type') → Typed (program_of m).imports [] (program_of m).body t → KeepsLimits (program_of m).imports [] (program_of m).body
+pub stands : (m : SeenModule) (t : Type') → Typed (program_of m).imports [] (program_of m).body t
     → StandsFor (program_of m) (typed_term m)
-stands m t typed limits =
+stands m t typed =
     record {
       body = placed_meaning m.imports r.names r.node (import_at i) ∙ good.term (pulled m.imports r.names (import_at i)) gives;
       types = placed_types m.imports r.names r.node i [] (import_at i) (good.types (pulled m.imports r.names (import_at i)) gives);
@@ -350,7 +346,7 @@ stands m t typed limits =
     r = numbered i [] (length m.imports) (tree_of m.body.form m.body.span)
 
     good : Good i [] (length m.imports) (program_of m).body r
-    good = numbered_good i [] (length m.imports) (tree_of m.body.form m.body.span) limits
+    good = numbered_good i [] (length m.imports) (tree_of m.body.form m.body.span)
 
     far : (k : ℕ) → (times k (numbers r.names) ≡ 0) ⊎ (length m.imports ≤ k)
     far k = elim (good.counts k).3 [ inl z ↦ inl (omega (arith, z)) | inr l ↦ inr l.0 ]

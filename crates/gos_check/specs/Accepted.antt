@@ -1,7 +1,7 @@
 -- Which modules are accepted, and what that has to do with their first fault.
 --
 -- Read first: Typing, Weight and Sources of gos_model; Judgements. What is accepted speaks of no order and of no fault.
-use Rattle.std.specs.Prelude.{◌≡◌, ◌≢◌, ◌↔◌, ℕ, ◌≤◌, List, [], ◌∷◌, IsTrue, Ok, MatchOption}
+use Rattle.std.specs.Prelude.{◌≡◌, ◌≢◌, ◌↔◌, ℕ, ◌≤◌, List, [], ◌∷◌, Ok, MatchOption}
 use Rattle.gos_types.specs.Types.{Type', Var, type_of}
 use Rattle.gos_types.specs.Widths.{HasWidths}
 use Rattle.gos_syntax.specs.Modules.{SeenImport, SeenModule}
@@ -10,7 +10,6 @@ use Rattle.gos_model.specs.Typing.{Imports, array_type, Typed}
 use Rattle.gos_model.specs.Weight.{count, node_type, weight}
 use Rattle.gos_model.specs.Sources.{program_of}
 use Rattle.gos_check.specs.declared.fault.CheckFault.{CheckFault}
-use Rattle.gos_check.specs.declared.written.TheConstants.{ARRAYS}
 use Rattle.gos_check.specs.Faults.{fault_of}
 use Rattle.gos_check.specs.Judgements.{module_judged}
 
@@ -38,7 +37,7 @@ AreWritten [] = Unit {0}
 AreWritten (i ∷ is) = IsWritten (type_of i.ty) × AreWritten is
 
 -- The type of each node of a term is small, and each type that is written in it may be. The widths of literals, of
--- variables and of arrays are a matter of typing. A block has an array only where there are arrays.
+-- variables and of arrays, and the lengths of these, are a matter of typing.
 abbrev pub KeepsLimits : Imports → List Type' → Term → Type 0
 KeepsLimits i g Skip = Unit {0}
 KeepsLimits i g (Lit k w) = Unit {0}
@@ -56,7 +55,7 @@ KeepsLimits i g (While m n) = IsSmall (node_type i g (While m n)) × KeepsLimits
 KeepsLimits i g (Assign m n) = IsSmall (node_type i g (Assign m n)) × KeepsLimits i g m × KeepsLimits i g n
 KeepsLimits i g (Deref m) = IsSmall (node_type i g (Deref m)) × KeepsLimits i g m
 KeepsLimits i g (New w m) = IsSmall (node_type i g (New w m)) × KeepsLimits i (Var w ∷ g) m
-KeepsLimits i g (NewArray n w m) = IsTrue ARRAYS × IsSmall (node_type i g (NewArray n w m)) × KeepsLimits i (array_type n w ∷ g) m
+KeepsLimits i g (NewArray n w m) = IsSmall (node_type i g (NewArray n w m)) × KeepsLimits i (array_type n w ∷ g) m
 KeepsLimits i g (Not m) = IsSmall (node_type i g (Not m)) × KeepsLimits i g m
 KeepsLimits i g (Bin op m n) = IsSmall (node_type i g (Bin op m n)) × KeepsLimits i g m × KeepsLimits i g n
 KeepsLimits i g (Loc l) = ⊥

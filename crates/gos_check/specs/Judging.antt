@@ -3,12 +3,12 @@
 -- Read first: Written, Scopes, Free, Demands. The faults of a node come in this order: those of its written type, length, width or
 -- literal, the length before the width; those of its parts from left to right; those of its own demands from left to right; a name that is free in both
 -- parts of an application or of `||`; a type with too many handshakes.
-use Rattle.std.specs.Prelude.{◌≡◌, ℕ, List, ◌∷◌, Ok, Err}
+use Rattle.std.specs.Prelude.{◌∷◌, Ok}
 use Rattle.gos_lex.specs.declared.token.Span.{Span}
 use Rattle.gos_types.specs.Types.{Type', Com, Var, Pair, Fun}
 use Rattle.gos_syntax.specs.Trees.{Tree, Skip, Lit, Use, Lam, New, Array, App, Both, Fst, Snd, Seq, Par, If, While, Assign, Deref, Not, Bin}
 use Rattle.gos_model.specs.Typing.{Imports, array_type}
-use Rattle.gos_check.specs.Faults.{Length, Found, after}
+use Rattle.gos_check.specs.Faults.{Found, after}
 use Rattle.gos_check.specs.Written.{small, written, written_width, written_length, literal}
 use Rattle.gos_check.specs.Scopes.{Binders, type_at, used}
 use Rattle.gos_check.specs.Free.{free, apart}
@@ -75,8 +75,3 @@ judged i g (Assign s m n) = sized s (of_two (judged i g m) (judged i g n) (λ a 
 judged i g (Deref s m) = sized s (after (judged i g m) (λ a. reading (place_of m) a))
 judged i g (Not s m) = sized s (after (judged i g m) (λ a. negation (place_of m) a))
 judged i g (Bin s op m n) = sized s (of_two (judged i g m) (judged i g n) (λ a b. operation op (place_of m) a (place_of n) b))
-
--- as long as there are no arrays, a block with one is refused for its length
-abbrev pub ArraysAreRefused : Type 0
-ArraysAreRefused =
-    (i : Imports) (g : Binders) (s u v : Span) (x : List ℕ) (n w : ℕ) (m : Tree) → judged i g (Array s x n u w v m) ≡ Err (Length u n)

@@ -6,6 +6,7 @@ pub mod Scopes
 pub mod Free
 pub mod Demands
 pub mod Judging
+pub mod Lengths
 pub mod Judgements
 pub mod Accepted
 pub mod Nodes

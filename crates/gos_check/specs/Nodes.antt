@@ -7,7 +7,7 @@ use Rattle.gos_types.specs.declared.types.Ty.{Ty}
 use Rattle.gos_types.specs.Types.{Type', Var, Fun, type_of}
 use Rattle.gos_model.specs.Terms as terms
 use Rattle.gos_model.specs.Terms.{Op, Term}
-use Rattle.gos_model.specs.Typing.{Imports}
+use Rattle.gos_model.specs.Typing.{Imports, array_type}
 use Rattle.gos_model.specs.Weight.{node_type}
 use Rattle.gos_model.specs.Sources.{op_of}
 use Rattle.gos_check.specs.declared.forms.OnePart.{OnePart}
@@ -23,6 +23,7 @@ use Rattle.gos_check.specs.declared.linear.NodeForm.TheVariants as forms
 pub data Binding : Type 0 where
   OfFun : Binding
   OfNew : (w : ℕ) → Binding
+  OfArray : (n w : ℕ) → Binding
 
 -- the forms of one part
 pub data OneForm : Type 0 where
@@ -66,6 +67,7 @@ numbered_of t ss (forms.Lit k w) = Closed (type_of t) ss (terms.Lit k w)
 numbered_of t ss (forms.Use n) = Use (type_of t) ss n
 numbered_of t ss (forms.Fun' n p a qs f) = Under (type_of t) ss OfFun n (numbered_of a qs.items f)
 numbered_of t ss (forms.New' n w p a qs f) = Under (type_of t) ss (OfNew w) n (numbered_of a qs.items f)
+numbered_of t ss (forms.Array' n l w p a qs f) = Under (type_of t) ss (OfArray l w) n (numbered_of a qs.items f)
 numbered_of t ss (forms.App' p a qs f q b rs g) = Two (type_of t) ss OfApp (numbered_of a qs.items f) (numbered_of b rs.items g)
 numbered_of t ss (forms.Pair' p a qs f q b rs g) = Two (type_of t) ss OfBoth (numbered_of a qs.items f) (numbered_of b rs.items g)
 numbered_of t ss (forms.Fst' p a qs f) = One (type_of t) ss OfFst (numbered_of a qs.items f)
@@ -102,11 +104,13 @@ argument_of t = t
 abbrev pub bound_type : Binding → Type' → Type'
 bound_type OfFun t = argument_of t
 bound_type (OfNew w) t = Var w
+bound_type (OfArray n w) t = array_type n w
 
 -- the terms of the forms
 abbrev pub binder_term : Binding → Type' → Term → Term
 binder_term OfFun t m = terms.Lam (argument_of t) m
 binder_term (OfNew w) t m = terms.New w m
+binder_term (OfArray n w) t m = terms.NewArray n w m
 
 abbrev pub one_term : OneForm → Term → Term
 one_term OfFst m = terms.Fst m

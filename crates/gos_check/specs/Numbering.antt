@@ -10,13 +10,13 @@ use Rattle.gos_syntax.specs.Trees.{Tree, tree_of}
 use Rattle.gos_syntax.specs.Modules.{SeenImport, SeenModule}
 use Rattle.gos_model.specs.Terms as terms
 use Rattle.gos_model.specs.Terms.{Name, Term}
-use Rattle.gos_model.specs.Typing.{Imports}
+use Rattle.gos_model.specs.Typing.{Imports, array_type}
 use Rattle.gos_model.specs.Weight.{or_com, after_fun, left_of, right_of, read_of, op_type}
 use Rattle.gos_model.specs.Sources.{op_of, import_of}
 use Rattle.gos_check.specs.declared.linear.Split.{Split}
 use Rattle.gos_check.specs.declared.opens.Open.{Open}
 use Rattle.gos_check.specs.Scopes.{Binders, type_at}
-use Rattle.gos_check.specs.Nodes.{Binding, OfFun, OfNew, OneForm, OfFst, OfSnd, OfDeref, OfNot, TwoForm, OfApp, OfBoth, OfSeq, OfPar, OfWhile, OfAssign, OfBin, Numbered, Closed, Use, Under, One, Two, If, type_of_node}
+use Rattle.gos_check.specs.Nodes.{Binding, OfFun, OfNew, OfArray, OneForm, OfFst, OfSnd, OfDeref, OfNot, TwoForm, OfApp, OfBoth, OfSeq, OfPar, OfWhile, OfAssign, OfBin, Numbered, Closed, Use, Under, One, Two, If, type_of_node}
 use Rattle.gos_check.specs.Opens.{number_in, others, merged_splits, merged_names, merged_next, binder_number, binder_next}
 
 -- the types of the forms, from those of their parts
@@ -39,6 +39,7 @@ two_type (OfBin op) a b = op_type op a
 abbrev pub binder_type : Binding → Type' → Type' → Type'
 binder_type OfFun a b = Fun a b
 binder_type (OfNew w) a b = b
+binder_type (OfArray n w) a b = b
 
 -- a numbered term: its node, its free names with their numbers, and the next number
 pub record Result : Type 0 where
@@ -99,14 +100,15 @@ choice_after splits names m n c =
 abbrev pub choice_result : Result → Result → Result → Result
 choice_result a b c = choice_after (inner_splits a b) (inner_names a b) a.node b.node c
 
--- a tree under imports and binders, from a number on; no block with an array is accepted, so what stands for one is not asked
+-- a tree under imports and binders, from a number on
 abbrev pub numbered : Imports → Binders → ℕ → Tree → Result
 numbered i g n (trees.Skip s) = closed_result Com terms.Skip n
 numbered i g n (trees.Lit s k w) = closed_result (Exp w) (terms.Lit k w) n
 numbered i g n (trees.Use s x) = use_result (or_com (type_at i g x)) x n
 numbered i g n (trees.Lam s x a t m) = binder_result OfFun x a (numbered i (record { name = x; ty = a } ∷ g) n m)
 numbered i g n (trees.New s x w t m) = binder_result (OfNew w) x (Var w) (numbered i (record { name = x; ty = Var w } ∷ g) n m)
-numbered i g n (trees.Array s x k u w t m) = closed_result Com terms.Skip n
+numbered i g n (trees.Array s x l u w t m) =
+    binder_result (OfArray l w) x (array_type l w) (numbered i (record { name = x; ty = array_type l w } ∷ g) n m)
 numbered i g n (trees.App s l r) = two_result OfApp (numbered i g n l) (numbered i g (numbered i g n l).next r)
 numbered i g n (trees.Both s l r) = two_result OfBoth (numbered i g n l) (numbered i g (numbered i g n l).next r)
 numbered i g n (trees.Fst s m) = one_result OfFst (numbered i g n m)

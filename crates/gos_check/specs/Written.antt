@@ -6,7 +6,6 @@ use Rattle.gos_lex.specs.declared.token.Span.{Span}
 use Rattle.gos_types.specs.declared.widths.TheConstants.{GREATEST_WIDTH}
 use Rattle.gos_types.specs.Types.{Type', Com, Exp, Var, Pair, Fun}
 use Rattle.gos_model.specs.Weight.{count}
-use Rattle.gos_check.specs.declared.written.TheConstants.{ARRAYS}
 use Rattle.gos_check.specs.Faults.{Width, TypeTooLarge, Length, Found, after}
 
 -- whether a number is a width
@@ -43,9 +42,9 @@ written span t = after (no_bad span (bad_width t)) (λ _. small span t)
 abbrev pub written_width : Span → ℕ → Found (Unit {0})
 written_width span w = if is_width w then Ok tt else Err (Width span w 0)
 
--- whether an array may have so many numbers; where there are no arrays none may
+-- whether an array may have so many numbers
 abbrev pub is_length : ℕ → Bool
-is_length n = ARRAYS && ((n == 2) || ((n == 4) || ((n == 8) || (n == 16))))
+is_length n = (n == 2) || ((n == 4) || ((n == 8) || (n == 16)))
 
 -- the written length of an array
 abbrev pub written_length : Span → ℕ → Found (Unit {0})

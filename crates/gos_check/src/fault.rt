@@ -78,7 +78,7 @@ pub enum CheckFault {
     TooHeavy {
         weight: u64,
     },
-    /// An array of so many numbers, where arrays have 2, 4, 8 or 16; as long as there are no arrays, of any length.
+    /// An array of so many numbers, where arrays have 2, 4, 8 or 16.
     #[error("length {length} at {span:?}")]
     Length {
         span: Span,

@@ -2,7 +2,8 @@
 
 ghost use Rattle.std.specs.Prelude.{◌≡◌, ◌+◌, ◌^◌, ◌<◌, ◌≤◌, length, IfOk, IfErr};
 ghost use Rattle.gos_types.specs.Types.{type_of, Var};
-ghost use Rattle.gos_check.specs.Nodes.{OfFun, OfNew, If, one_form, two_form, node_seen, type_of_node};
+ghost use Rattle.gos_model.specs.Typing.{array_type};
+ghost use Rattle.gos_check.specs.Nodes.{OfFun, OfNew, OfArray, If, one_form, two_form, node_seen, type_of_node};
 ghost use Rattle.gos_check.specs.Numbering.{binder_result, one_result, two_result, choice_after};
 ghost use Rattle.gos_check.specs.inner.NumberedTerms.{seen, Numbers};
 
@@ -71,6 +72,40 @@ pub(crate) fn below_block(
         form: NodeForm::New {
             number,
             width,
+            body: body.node,
+        },
+    };
+    Ok(NumberedTerm {
+        node: Box::new(alloc, node)?,
+        names,
+        next,
+    })
+}
+
+// A block with an array of so many numbers, whose body is numbered.
+#[tactic(auto, using(crate::proofs::NodeTypeLemmas::type_seen))]
+pub(crate) fn below_array(
+    alloc: Global,
+    name: &Name,
+    many: (u32, u32),
+    body: NumberedTerm,
+) -> Result<NumberedTerm, CheckFault>
+    requires { body.next + 1 < 2 ^ 32 }
+    ensures seen { Numbers (binder_result (OfArray many.0 many.1) name.now (array_type many.0 many.1) (seen body)) result }
+    ensures room { IfOk result (λ r. r.next + length r.names.items ≤ body.next + length body.names.items + 1) }
+{
+    let Closed {
+        number,
+        names,
+        next,
+    } = close(alloc, name, body.names, body.next)?;
+    let node = Node {
+        ty: copy(alloc, &body.node.ty)?,
+        splits: Vec::new(alloc),
+        form: NodeForm::Array {
+            number,
+            length: many.0,
+            width: many.1,
             body: body.node,
         },
     };

@@ -6,7 +6,7 @@ ghost use Rattle.gos_lex.specs.declared.numeral.TheConstants.{GREATEST_NUMERAL};
 ghost use Rattle.gos_lex.specs.Tokens.{Reads};
 ghost use Rattle.gos_syntax.specs.ParsedModules.{IsParsed};
 ghost use Rattle.gos_check.specs.Sizes.{IsCountableModule};
-ghost use Rattle.gos_check.specs.Judging.{ArraysAreRefused};
+ghost use Rattle.gos_check.specs.Lengths.{OtherLengthsAreRefused, FourIsTaken};
 ghost use Rattle.gos_check.specs.Accepted.{FoundExactly};
 ghost use Rattle.gos_check.specs.OneTerm.{TermIsOne};
 ghost use Rattle.gos_check.specs.SmallTerms.{TwiceIsSplit, TurnedIsNotTyped, SameIsNumbered, NextIsNotTyped};
@@ -30,14 +30,16 @@ pub fn parsed_is_countable(text: &[u8], tokens: &[Token], program: &Module)
     ensures { IsCountableModule program.now }
 {}
 
-/// A numeral may write each number of the language: those of the greatest width.
+/// The greatest number that a numeral may write is that of the greatest width.
 pub fn greatest_numeral()
-    ensures { GREATEST_NUMBER ≤ GREATEST_NUMERAL }
+    ensures { GREATEST_NUMBER ≡ GREATEST_NUMERAL }
 {}
 
-/// As long as there are no arrays, each block with one has its length as its first fault, whatever else is wrong with it.
-pub fn no_arrays()
-    ensures { ArraysAreRefused }
+/// A block with an array whose length is not 2, 4, 8 or 16 has its length as its first fault, whatever else is wrong with
+/// it; the length 4 is taken.
+pub fn lengths()
+    ensures others { OtherLengthsAreRefused }
+    ensures four { FourIsTaken }
 {}
 
 /// Modules that are one but for their boxes have one typed term.

@@ -10,10 +10,9 @@ pub use checker::check;
 pub use fault::{CheckFault, Want};
 pub use forms::{OnePart, TwoParts};
 pub use laws::{
-    found_exactly, greatest_numeral, no_arrays, one_term, parsed_is_countable, small_terms,
+    found_exactly, greatest_numeral, lengths, one_term, parsed_is_countable, small_terms,
 };
 pub use linear::{Linear, Node, NodeForm, Split};
-pub use written::ARRAYS;
 
 mod checker;
 mod demands;

@@ -49,6 +49,13 @@ pub enum NodeForm {
         width: u32,
         body: Box<Node>,
     },
+    /// A block, whose array of so many numbers has this number in the body.
+    Array {
+        number: u32,
+        length: u32,
+        width: u32,
+        body: Box<Node>,
+    },
     /// A function, and its argument.
     App(Box<Node>, Box<Node>),
     /// `( first , second )`

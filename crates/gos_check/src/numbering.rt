@@ -7,12 +7,13 @@
 ghost use Rattle.std.specs.Prelude.{◌≡◌, ◌+◌, ◌*◌, ◌^◌, ◌<◌, ◌≤◌, [], ◌∷◌, map, length, IfOk, IfErr};
 ghost use Rattle.gos_types.specs.Types.{type_of, Var};
 ghost use Rattle.gos_model.specs.Sources.{import_of};
+ghost use Rattle.gos_model.specs.Typing.{array_type};
 ghost use Rattle.gos_model.specs.Weight.{or_com};
 ghost use Rattle.gos_syntax.specs.Sizes.{size};
 ghost use Rattle.gos_check.specs.Scopes.{type_at};
 ghost use Rattle.gos_check.specs.inner.Seen.{binders_of};
 ghost use Rattle.gos_check.specs.inner.Walked.{tree, parts_size};
-ghost use Rattle.gos_check.specs.Nodes.{OfFun, OfNew, one_form, two_form, numbered_of, node_seen};
+ghost use Rattle.gos_check.specs.Nodes.{OfFun, OfNew, OfArray, one_form, two_form, numbered_of, node_seen};
 ghost use Rattle.gos_check.specs.Numbering.{
   use_result,
   binder_result,
@@ -28,8 +29,8 @@ ghost use Rattle.gos_check.specs.Numbering.{
 ghost use Rattle.gos_check.specs.inner.NumberedTerms.{Numbers};
 
 use crate::fault::CheckFault;
-use crate::forms::{OnePart, TwoParts};
-use crate::joining::{below_block, below_function, with_one, with_three, with_two};
+use crate::forms::{OnePart, TwoParts, array_type};
+use crate::joining::{below_array, below_block, below_function, with_one, with_three, with_two};
 use crate::linear::{Node, NodeForm};
 use crate::opens::{Open, merge};
 use crate::renaming::exchange;
@@ -120,8 +121,13 @@ fn number(
             body,
             ..
         } => number_block(alloc, imports, scope, next, name, *width, body),
-        // `check` accepts none.
-        Form::Array { .. } => closed(alloc, next, Ty::Com, NodeForm::Skip),
+        Form::Array {
+            name,
+            length,
+            width,
+            body,
+            ..
+        } => number_array(alloc, imports, scope, next, name, (*length, *width), body),
         Form::App(m, n) => number_two(alloc, imports, scope, next, TwoParts::Application, m, n),
         Form::Pair(m, n) => number_two(alloc, imports, scope, next, TwoParts::Product, m, n),
         Form::Fst(m) => number_one(alloc, imports, scope, next, OnePart::First, m),
@@ -234,6 +240,32 @@ fn number_block(
     };
     let body = number(alloc, imports, &inner, next, body)?;
     below_block(alloc, &*name, width, body)
+}
+
+// A block with an array, with its length and its width.
+#[cycle(numbering)]
+fn number_array(
+    alloc: Global,
+    imports: &[Import],
+    scope: &Scope,
+    next: u32,
+    name: &Name,
+    many: (u32, u32),
+    body: &Term,
+) -> Result<NumberedTerm, CheckFault>
+    requires { next + 2 * size (tree body.now) + 2 < 2 ^ 32 }
+    ensures seen { Numbers (binder_result (OfArray many.0 many.1) name.now (array_type many.0 many.1) (numbered (map import_of imports.now)
+        (record { name = name.now; ty = array_type many.0 many.1 } ∷ binders_of scope.now) next (tree body.now))) result }
+    ensures room { IfOk result (λ r. r.next + length r.names.items ≤ next + 2 * size (tree body.now) + 2) }
+{
+    let array = array_type(alloc, many.0, many.1)?;
+    let inner = Scope::Binder {
+        name: &*name,
+        ty: &array,
+        outer: &*scope,
+    };
+    let body = number(alloc, imports, &inner, next, body)?;
+    below_array(alloc, &*name, many, body)
 }
 
 // A form of one part.

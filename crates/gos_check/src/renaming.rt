@@ -24,6 +24,10 @@ pub(crate) fn exchange(a: u32, b: u32, node: &mut Node)
             *number = exchanged(a, b, *number);
             exchange(a, b, body);
         }
+        NodeForm::Array { number, body, .. } => {
+            *number = exchanged(a, b, *number);
+            exchange(a, b, body);
+        }
         NodeForm::App(m, n) => exchange_both(a, b, m, n),
         NodeForm::Pair(m, n) => exchange_both(a, b, m, n),
         NodeForm::Fst(m) => exchange(a, b, m),

@@ -11,9 +11,6 @@ use crate::fault::CheckFault;
 use gos_lex::Span;
 use gos_types::{Ty, count, fits, is_width};
 
-/// Whether there are arrays. There are none before their circuits are: until then each block with an array is refused.
-pub const ARRAYS: bool = false;
-
 // How many handshakes a type may have.
 const MAX_HANDSHAKES: u64 = 64;
 
@@ -99,10 +96,11 @@ pub(crate) fn written_width(span: Span, width: u32) -> Result<(), CheckFault>
 fn is_length(length: u32) -> bool
     ensures { result ≡ is_length length }
 {
-    ARRAYS && (length == 2 || length == 4 || length == 8 || length == 16)
+    length == 2 || length == 4 || length == 8 || length == 16
 }
 
 // Whether the written length of an array is one.
+#[tactic(auto, using(crate::proofs::AcceptLemmas::length_few))]
 pub(crate) fn written_length(span: Span, length: u32) -> Result<(), CheckFault>
     ensures ok { IfOk result (λ _. written_length span length ≡ Ok tt) }
     ensures few { IfOk result (λ _. length ≤ 16) }

@@ -8,11 +8,11 @@ use Rattle.std.proofs.lemmas.List.{length-map}
 use Rattle.gos_types.specs.Types.{Type', Com, Exp, Var, Pair, Fun}
 use Rattle.gos_model.specs.Terms as terms
 use Rattle.gos_model.specs.Terms.{Term}
-use Rattle.gos_model.specs.Typing.{Imports, Typed}
+use Rattle.gos_model.specs.Typing.{Imports, Typed, array_type}
 use Rattle.gos_model.specs.Weight as weights
 use Rattle.gos_model.specs.Weight.{node_type, nodes_weight}
 use Rattle.gos_check.specs.declared.linear.Split.{Split}
-use Rattle.gos_check.specs.Nodes.{Numbered, Closed, Use, Under, One, Two, If, OfFun, OfNew, OfFst, OfSnd, OfDeref, OfNot, OfApp, OfBoth, OfSeq, OfPar, OfWhile, OfAssign, OfBin, Meaning, meaning, below, shifted, inside, inside_one, HasTypes, argument_of}
+use Rattle.gos_check.specs.Nodes.{Numbered, Binding, Closed, Use, Under, One, Two, If, OfFun, OfNew, OfArray, OfFst, OfSnd, OfDeref, OfNot, OfApp, OfBoth, OfSeq, OfPar, OfWhile, OfAssign, OfBin, Meaning, meaning, below, shifted, inside, inside_one, HasTypes, argument_of}
 use Rattle.gos_check.specs.Linearity.{import_at}
 use Rattle.gos_realises.specs.realises.Regular.{count}
 use Rattle.gos_compile.proofs.KnownLemmas.{is_bound, UsesBound, lost, all_lost}
@@ -68,6 +68,8 @@ uses_bound i g env (Under u ss OfFun n m) t names (b, f, h) =
     uses_bound i (argument_of u ∷ g) (below n (inside ss env)) m b (below_names n (inside ss env) (inside_names ss env names)) h
 uses_bound i g env (Under u ss (OfNew w) n m) t names (done, width, h) =
     uses_bound i (Var w ∷ g) (below n (inside ss env)) m t (below_names n (inside ss env) (inside_names ss env names)) h
+uses_bound i g env (Under u ss (OfArray k w) n m) t names (done, length, width, h) =
+    uses_bound i (array_type k w ∷ g) (below n (inside ss env)) m t (below_names n (inside ss env) (inside_names ss env names)) h
 uses_bound i g env (One u ss OfFst m) t names (b, h) = uses_bound i g (inside ss env) m (Pair t b) (inside_names ss env names) h
 uses_bound i g env (One u ss OfSnd m) t names (a, h) = uses_bound i g (inside ss env) m (Pair a t) (inside_names ss env names) h
 uses_bound i g env (One u ss OfDeref m) t names (w, f, h) = uses_bound i g (inside ss env) m (Var w) (inside_names ss env names) h
@@ -162,11 +164,25 @@ all_bound env (If t ss m n p) h =
 pub same_count : (t : Type') → count t ≡ weights.count t
 same_count t = simp length-map refl
 
+-- how many numbers a block's array has, and the arrays of a term together
+abbrev pub binder_length : Binding → ℕ
+binder_length OfFun = 0
+binder_length (OfNew w) = 0
+binder_length (OfArray k w) = k
+
+abbrev pub lengths : Numbered → ℕ
+lengths (Closed t ss c) = 0
+lengths (Use t ss n) = 0
+lengths (Under t ss b n m) = binder_length b + lengths m
+lengths (One t ss f m) = lengths m
+lengths (Two t ss f m n) = lengths m + lengths n
+lengths (If t ss m n p) = lengths m + lengths n + lengths p
+
 -- what the nodes weigh
 abbrev pub burden : Numbered → ℕ
 burden (Closed t ss c) = 4 + count t
 burden (Use t ss n) = 4 + count t
-burden (Under t ss b n m) = 4 + count t + burden m
+burden (Under t ss b n m) = binder_length b + 4 + count t + burden m
 burden (One t ss f m) = 4 + count t + burden m
 burden (Two t ss f m n) = 4 + count t + burden m + burden n
 burden (If t ss m n p) = 4 + count t + burden m + burden n + burden p
@@ -215,6 +231,11 @@ weigh i g env (Under u ss (OfNew w) n m) t (e, has) (done, width, h) =
     let env' : Meaning = below n (inside ss env) in
     let same = seen_count u (node_type i g (terms.New w (meaning env' m))) e in
     let rest = weigh i (Var w ∷ g) env' m t has h in
+    omega (arith, same, rest)
+weigh i g env (Under u ss (OfArray k w) n m) t (e, has) (done, length, width, h) =
+    let env' : Meaning = below n (inside ss env) in
+    let same = seen_count u (node_type i g (terms.NewArray k w (meaning env' m))) e in
+    let rest = weigh i (array_type k w ∷ g) env' m t has h in
     omega (arith, same, rest)
 weigh i g env (One u ss OfFst m) t (e, has) (b, h) =
     let same = seen_count u (node_type i g (terms.Fst (meaning (inside ss env) m))) e in

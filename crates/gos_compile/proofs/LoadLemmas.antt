@@ -20,7 +20,7 @@ use Rattle.gos_check.specs.declared.linear.Split.{Split}
 use Rattle.gos_check.specs.Accepted.{IsNew, NamesDiffer}
 use Rattle.gos_check.specs.Checked.{SeenLinear, IsChecked, program_in}
 use Rattle.gos_check.specs.Linearity.{times, split_in, sides, used, made, all_sides, import_at}
-use Rattle.gos_check.specs.Nodes.{Numbered, Closed, Use, Under, One, Two, If, OfFun, OfNew, OfFst, OfSnd, OfDeref, OfNot, OfApp, OfBoth, OfSeq, OfPar, OfWhile, OfAssign, OfBin, Binding, OneForm, TwoForm, Meaning, node_seen}
+use Rattle.gos_check.specs.Nodes.{Numbered, Closed, Use, Under, One, Two, If, OfFun, OfNew, OfArray, OfFst, OfSnd, OfDeref, OfNot, OfApp, OfBoth, OfSeq, OfPar, OfWhile, OfAssign, OfBin, Binding, OneForm, TwoForm, Meaning, node_seen}
 use Rattle.gos_plan.specs.Kinds as kinds
 use Rattle.gos_plan.specs.Kinds.{Part, part_contacts, contacts_of, other_side}
 use Rattle.gos_realises.specs.realises.Regular.{count}
@@ -29,7 +29,7 @@ use Rattle.gos_realises.proofs.realises.CountLemmas.{shakes-append}
 use Rattle.gos_compile.specs.Wiring.{Types, type_of_node, shares, closed_part, binder_part, one_part, two_part, parts_of, import_types, all_types}
 use Rattle.gos_compile.specs.inner.Loads.{share_load, splits_load, load}
 use Rattle.gos_compile.proofs.KnownLemmas.{is_bound, UsesBound, none_lost, total, total-append, total_fewer}
-use Rattle.gos_compile.proofs.BoundLemmas.{AllBound, all_bound, import_names, uses_bound, burden, weigh}
+use Rattle.gos_compile.proofs.BoundLemmas.{AllBound, all_bound, import_names, uses_bound, burden, weigh, lengths}
 use Rattle.gos_compile.proofs.AgreeLemmas.{types_keep, SplitsAgree, Agree, all_agree, AreTyped, UsesTyped, uses_typed}
 
 -- what is counted of all splits, and of all uses
@@ -183,9 +183,10 @@ closed_size : (c : Term) → size (closed_part c) ≤ 5
 closed_size (terms.Lit k w) = omega arith
 closed_size c = omega arith
 
-binder_size : (b : Binding) (t : Type') → size (binder_part b t) ≤ 5
+binder_size : (b : Binding) (t : Type') → size (binder_part b t) ≤ 6
 binder_size OfFun t = omega arith
 binder_size (OfNew w) t = omega arith
+binder_size (OfArray k w) t = omega arith
 
 one_size : (f : OneForm) (t : Type') → size (one_part f t) ≤ 5
 one_size OfFst t = omega arith
@@ -202,9 +203,9 @@ two_size OfWhile t u = omega arith
 two_size OfAssign t u = omega arith
 two_size (OfBin op) t u = omega arith
 
--- The parts, their handshakes and those of the result are few for what the nodes weigh, as a use has no part.
+-- The parts, their handshakes, those of the result and the numbers of arrays are few for what the nodes weigh, as a use has no part.
 slim_parts : (types : Types) (m : Numbered) → UsesTyped types m
-    → size (parts_of types m) + count (type_of_node m) + of_uses (share_load types) m ≤ of_splits (share_load types) m + 4 * burden m
+    → size (parts_of types m) + 4 * lengths m + count (type_of_node m) + of_uses (share_load types) m ≤ of_splits (share_load types) m + 4 * burden m
 slim_parts types (Closed t ss c) typed =
     let parted = size-append (shares ss types) (closed_part c) in
     let some = shares_size ss types in
@@ -353,11 +354,11 @@ counters l c =
     let limit = c.light in
     omega (arith, all, few, weighs, limit)
 
--- the parts, their handshakes, those of the result and those of the imports
+-- the parts, their handshakes, those of the result and those of the imports, and the numbers of arrays
 pub few_ends : (l : SeenLinear) → IsChecked l
     → length (parts_of (all_types (program_in l).imports (node_seen l.term)) (node_seen l.term))
     + all_shakes (parts_of (all_types (program_in l).imports (node_seen l.term)) (node_seen l.term)) + count (type_of_node (node_seen l.term))
-    + 4 * sum_by (λ (x : Imported). weights.count x.ty) (program_in l).imports
+    + 4 * lengths (node_seen l.term) + 4 * sum_by (λ (x : Imported). weights.count x.ty) (program_in l).imports
     ≤ 4 * l.weight
 few_ends l c =
     let light = is_light l c in

@@ -16,6 +16,7 @@ splits_of_form types t ss (forms.Lit k w) = omega arith
 splits_of_form types t ss (forms.Use n) = omega arith
 splits_of_form types t ss (forms.Fun' n p a qs f) = omega arith
 splits_of_form types t ss (forms.New' n w p a qs f) = omega arith
+splits_of_form types t ss (forms.Array' n l w p a qs f) = omega arith
 splits_of_form types t ss (forms.App' p a qs f q b rs g) = omega arith
 splits_of_form types t ss (forms.Pair' p a qs f q b rs g) = omega arith
 splits_of_form types t ss (forms.Fst' p a qs f) = omega arith

@@ -22,7 +22,7 @@ use Rattle.gos_model.proofs.ArrayLemmas.{length_is_power}
 use Rattle.gos_check.specs.declared.linear.Split.{Split}
 use Rattle.gos_check.specs.Accepted.{KeepsLimits, AreWritten}
 use Rattle.gos_check.specs.Checked.{SeenLinear, IsChecked}
-use Rattle.gos_check.specs.Nodes.{Numbered, Closed, Use, Under, One, Two, If, OfFun, OfNew, OfFst, OfSnd, OfDeref, OfNot, OfApp, OfBoth, OfSeq, OfPar, OfWhile, OfAssign, OfBin, Meaning, meaning, below, inside, HasTypes, argument_of, bound_type, node_seen}
+use Rattle.gos_check.specs.Nodes.{Numbered, Closed, Use, Under, One, Two, If, OfFun, OfNew, OfArray, OfFst, OfSnd, OfDeref, OfNot, OfApp, OfBoth, OfSeq, OfPar, OfWhile, OfAssign, OfBin, Meaning, meaning, below, inside, HasTypes, argument_of, bound_type, node_seen}
 use Rattle.gos_plan.specs.declared.kinds.Kind.{Kind}
 use Rattle.gos_plan.specs.declared.kinds.Kind.TheVariants as declared_kinds
 use Rattle.gos_plan.specs.declared.plan.PlanImport.{PlanImport}
@@ -110,7 +110,7 @@ typed_wide i g (terms.While m n) t is gs k h = subst (λ (u : Type'). HasWidths 
 typed_wide i g (terms.Assign m n) t is gs k h = subst (λ (u : Type'). HasWidths u) (sym h.1) tt
 typed_wide i g (terms.Deref m) t is gs (small, k) (w, e, h) = subst (λ (u : Type'). HasWidths u) (sym e) (typed_wide i g m (Var w) is gs k h)
 typed_wide i g (terms.New w m) t is gs (small, k) (d, width, h) = typed_wide i (Var w ∷ g) m t is (width, gs) k h
-typed_wide i g (terms.NewArray n w m) t is gs (arrays, small, k) (d, length, width, h) =
+typed_wide i g (terms.NewArray n w m) t is gs (small, k) (d, length, width, h) =
     typed_wide i (array_type n w ∷ g) m t is ((index_wide n length, width), gs) k h
 typed_wide i g (terms.Not m) t is gs (small, k) (w, e, h) = subst (λ (u : Type'). HasWidths u) (sym e) (typed_wide i g m (Exp w) is gs k h)
 typed_wide i g (terms.Bin op m n) t is gs (small, k, l) (w, e, h, j) =
@@ -172,6 +172,13 @@ nodes_fit law i g env (Under u ss (OfNew w) n m) t is gs (e, has) (small, k) (do
     let wide : HasWidths t = typed_wide i (Var w ∷ g) body t is (width, gs) k h in
     let few : answer_bits u ≤ GREATEST_WIDTH = subst (λ (v : Type'). answer_bits v ≤ GREATEST_WIDTH) (sym same) (bits_few t wide) in
     ((width, omega arith), ((width, few), tt), nodes_fit law i (Var w ∷ g) (below n (inside ss env)) m t is (width, gs) has k h)
+nodes_fit law i g env (Under u ss (OfArray c w) n m) t is gs (e, has) (small, k) (done, length, width, h) =
+    let body : Term = meaning (below n (inside ss env)) m in
+    let same : u ≡ t = e ∙ law i g (terms.NewArray c w body) t (done, length, width, h) in
+    let bound : HasWidths (array_type c w) = (index_wide c length, width) in
+    let wide : HasWidths t = typed_wide i (array_type c w ∷ g) body t is (bound, gs) k h in
+    let few : answer_bits u ≤ GREATEST_WIDTH = subst (λ (v : Type'). answer_bits v ≤ GREATEST_WIDTH) (sym same) (bits_few t wide) in
+    ((bound, omega arith), ((width, length, few), tt), nodes_fit law i (array_type c w ∷ g) (below n (inside ss env)) m t is (bound, gs) has k h)
 nodes_fit law i g env (One u ss OfFst m) t is gs (e, has) (small, k) (b, h) = (tt, nodes_fit law i g (inside ss env) m (Pair t b) is gs has k h)
 nodes_fit law i g env (One u ss OfSnd m) t is gs (e, has) (small, k) (a, h) = (tt, nodes_fit law i g (inside ss env) m (Pair a t) is gs has k h)
 nodes_fit law i g env (One u ss OfDeref m) t is gs (e, has) (small, k) (w, f, h) =

@@ -17,7 +17,7 @@ use Rattle.gos_check.specs.Accepted.{AreWritten}
 use Rattle.gos_check.specs.Checked.{SeenLinear, IsChecked, program_in}
 use Rattle.gos_check.specs.Linearity.{import_at}
 use Rattle.gos_check.specs.declared.linear.Split.{Split}
-use Rattle.gos_check.specs.Nodes.{Numbered, Closed, Use, Under, One, Two, If, Binding, OfFun, OfNew, OneForm, OfFst, OfSnd, OfDeref, OfNot, TwoForm, OfApp, OfBoth, OfSeq, OfPar, OfWhile, OfAssign, OfBin, node_seen}
+use Rattle.gos_check.specs.Nodes.{Numbered, Closed, Use, Under, One, Two, If, Binding, OfFun, OfNew, OfArray, OneForm, OfFst, OfSnd, OfDeref, OfNot, TwoForm, OfApp, OfBoth, OfSeq, OfPar, OfWhile, OfAssign, OfBin, node_seen}
 use Rattle.gos_plan.specs.Kinds as kinds
 use Rattle.gos_plan.specs.Kinds.{Part, part_contacts, contacts_of, other_side}
 use Rattle.gos_plan.specs.Plans.{Plan}
@@ -25,9 +25,9 @@ use Rattle.gos_plan.specs.Size.{numbers_of}
 use Rattle.gos_realises.specs.realises.Regular.{count}
 use Rattle.gos_realises.specs.realises.Slim.{all_shakes, IsSlim}
 use Rattle.gos_realises.proofs.realises.CountLemmas.{some_shake, numbers-append}
-use Rattle.gos_compile.specs.Wiring.{Types, type_of_node, answer_bits, shares, closed_part, binder_part, one_part, two_part, parts_of, all_types, all_parts, IsPlanOf}
+use Rattle.gos_compile.specs.Wiring.{Types, type_of_node, shares, closed_part, binder_part, one_part, two_part, parts_of, all_types, all_parts, IsPlanOf}
 use Rattle.gos_compile.specs.inner.Loads.{HasFewShakes}
-use Rattle.gos_compile.proofs.BoundLemmas.{same_count}
+use Rattle.gos_compile.proofs.BoundLemmas.{same_count, binder_length, lengths}
 use Rattle.gos_compile.proofs.EndLemmas.{imports_shakes, few_joints}
 use Rattle.gos_compile.proofs.LoadLemmas.{few_ends}
 use Rattle.gos_compile.proofs.RangeLemmas.{node_typed}
@@ -66,10 +66,7 @@ pub parts_shake : (ks : List Part) → length ks ≤ all_shakes ks
 parts_shake [] = omega arith
 parts_shake (k ∷ ks) = let one = part_shake k in let rest = parts_shake ks in omega (arith, one, rest)
 
--- no form that the syntax has is an array
-one_more : (ks ls : List Part) → numbers_of ks ≡ 0 → numbers_of ls ≡ 0 → numbers_of (ks ++ ls) ≡ 0
-one_more ks ls none more = let both = numbers-append ks ls in omega (arith, both, none, more)
-
+-- Only blocks have arrays.
 no_shares : (ss : List Split) (types : Types) → numbers_of (shares ss types) ≡ 0
 no_shares [] types = refl
 no_shares (s ∷ ss) types = let rest = no_shares ss types in omega (arith, rest)
@@ -78,9 +75,10 @@ no_closed : (c : Term) → numbers_of (closed_part c) ≡ 0
 no_closed (terms.Lit k w) = refl
 no_closed c = refl
 
-no_binder : (b : Binding) (t : Type') → numbers_of (binder_part b t) ≡ 0
-no_binder OfFun t = refl
-no_binder (OfNew w) t = refl
+binder_numbers : (b : Binding) (t : Type') → numbers_of (binder_part b t) ≡ binder_length b
+binder_numbers OfFun t = refl
+binder_numbers (OfNew w) t = refl
+binder_numbers (OfArray k w) t = omega arith
 
 no_one : (f : OneForm) (t : Type') → numbers_of (one_part f t) ≡ 0
 no_one OfFst t = refl
@@ -97,24 +95,46 @@ no_two OfWhile t u = refl
 no_two OfAssign t u = refl
 no_two (OfBin op) t u = refl
 
-no_numbers : (types : Types) (m : Numbered) → numbers_of (parts_of types m) ≡ 0
-no_numbers types (Closed t ss c) = one_more (shares ss types) (closed_part c) (no_shares ss types) (no_closed c)
-no_numbers types (Use t ss n) = no_shares ss types
-no_numbers types (Under t ss b n m) =
-    one_more (shares ss types) (binder_part b t ++ parts_of types m) (no_shares ss types)
-    (one_more (binder_part b t) (parts_of types m) (no_binder b t) (no_numbers types m))
-no_numbers types (One t ss f m) =
-    one_more (shares ss types) (one_part f t ++ parts_of types m) (no_shares ss types)
-    (one_more (one_part f t) (parts_of types m) (no_one f t) (no_numbers types m))
-no_numbers types (Two t ss f m n) =
-    one_more (shares ss types) (two_part f t (type_of_node n) ++ (parts_of types m ++ parts_of types n)) (no_shares ss types)
-    (one_more (two_part f t (type_of_node n)) (parts_of types m ++ parts_of types n) (no_two f t (type_of_node n))
-    (one_more (parts_of types m) (parts_of types n) (no_numbers types m) (no_numbers types n)))
-no_numbers types (If t ss m n p) =
-    let rest = one_more (parts_of types m) (parts_of types n ++ parts_of types p) (no_numbers types m)
-    (one_more (parts_of types n) (parts_of types p) (no_numbers types n) (no_numbers types p)) in
-    one_more (shares ss types) (kinds.If (answer_bits t) ∷ (parts_of types m ++ (parts_of types n ++ parts_of types p))) (no_shares ss types)
-    (omega (arith, rest))
+all_numbers : (types : Types) (m : Numbered) → numbers_of (parts_of types m) ≡ lengths m
+all_numbers types (Closed t ss c) =
+    let all = numbers-append (shares ss types) (closed_part c) in
+    let some = no_shares ss types in
+    let own = no_closed c in
+    omega (arith, all, some, own)
+all_numbers types (Use t ss n) = no_shares ss types
+all_numbers types (Under t ss b n m) =
+    let all = numbers-append (shares ss types) (binder_part b t ++ parts_of types m) in
+    let parted = numbers-append (binder_part b t) (parts_of types m) in
+    let some = no_shares ss types in
+    let own = binder_numbers b t in
+    let rest = all_numbers types m in
+    omega (arith, all, parted, some, own, rest)
+all_numbers types (One t ss f m) =
+    let all = numbers-append (shares ss types) (one_part f t ++ parts_of types m) in
+    let parted = numbers-append (one_part f t) (parts_of types m) in
+    let some = no_shares ss types in
+    let own = no_one f t in
+    let rest = all_numbers types m in
+    omega (arith, all, parted, some, own, rest)
+all_numbers types (Two t ss f m n) =
+    let u : Type' = type_of_node n in
+    let all = numbers-append (shares ss types) (two_part f t u ++ (parts_of types m ++ parts_of types n)) in
+    let parted = numbers-append (two_part f t u) (parts_of types m ++ parts_of types n) in
+    let parted_two = numbers-append (parts_of types m) (parts_of types n) in
+    let some = no_shares ss types in
+    let own = no_two f t u in
+    let left = all_numbers types m in
+    let right = all_numbers types n in
+    omega (arith, all, parted, parted_two, some, own, left, right)
+all_numbers types (If t ss m n p) =
+    let all = numbers-append (shares ss types) (parts_of types (If t [] m n p)) in
+    let parted = numbers-append (parts_of types m) (parts_of types n ++ parts_of types p) in
+    let parted_two = numbers-append (parts_of types n) (parts_of types p) in
+    let some = no_shares ss types in
+    let test = all_numbers types m in
+    let left = all_numbers types n in
+    let right = all_numbers types p in
+    omega (arith, all, parted, parted_two, some, test, left, right)
 
 -- the plan of a checked module
 pub is_slim : NodeHasType → (l : SeenLinear) → IsChecked l → (p : Plan)
@@ -130,7 +150,7 @@ is_slim law l c p plan =
     in
     let shakes : all_shakes p.parts ≡ all_shakes (all_parts is m) = ap (λ (ks : List Part). all_shakes ks) plan.parts in
     let parts : length p.parts ≡ length (all_parts is m) = ap (λ (ks : List Part). length ks) plan.parts in
-    let numbers : numbers_of p.parts ≡ 0 = ap (λ (ks : List Part). numbers_of ks) plan.parts ∙ no_numbers (all_types is m) m in
+    let numbers : numbers_of p.parts ≡ lengths m = ap (λ (ks : List Part). numbers_of ks) plan.parts ∙ all_numbers (all_types is m) m in
     let imports : length p.imports ≡ length is = ap (λ (xs : Imports). length xs) plan.imports in
     let of_imports : imports_shakes p.imports ≡ imports_shakes is = ap (λ (xs : Imports). imports_shakes xs) plan.imports in
     let weight : p.weight ≡ l.weight = plan.weight in

@@ -3,7 +3,7 @@ use Rattle.std.specs.Prelude.{◌≡◌, ℕ, zero, suc, ◌+◌, ◌-◌, ◌�
 use Rattle.std.proofs.Common.{refl, ap, ◌∙◌, arith}
 use Rattle.std.proofs.lemmas.Bool.{ne_eqb}
 use Rattle.gos_check.specs.declared.linear.Split.{Split}
-use Rattle.gos_check.specs.Nodes.{Numbered, Closed, Use, Under, One, Two, If, Binding, OfFun, OfNew, OneForm, OfFst, OfSnd, OfDeref, OfNot, TwoForm, OfApp, OfBoth, OfSeq, OfPar, OfWhile, OfAssign, OfBin, argument_of}
+use Rattle.gos_check.specs.Nodes.{Numbered, Closed, Use, Under, One, Two, If, Binding, OfFun, OfNew, OfArray, OneForm, OfFst, OfSnd, OfDeref, OfNot, TwoForm, OfApp, OfBoth, OfSeq, OfPar, OfWhile, OfAssign, OfBin, argument_of}
 use Rattle.gos_types.specs.Types.{Type'}
 use Rattle.gos_model.proofs.NumberLemmas.{number_cases}
 use Rattle.gos_ties.specs.declared.points.Place.{Place}
@@ -96,6 +96,7 @@ shares_tally q i (s ∷ ss) =
 abbrev pub binder_tally : Place → Binding → ℕ → ℕ → ℕ
 binder_tally q OfFun i n = place_once q (places.Number n)
 binder_tally q (OfNew w) i n = place_once q (places.Part i) + place_once q (places.Number n)
+binder_tally q (OfArray k w) i n = place_once q (places.Part i) + place_once q (places.Number n)
 
 abbrev pub one_tally : Place → OneForm → ℕ → ℕ → ℕ
 one_tally q OfFst i j = place_once q (places.Node j)
@@ -176,6 +177,13 @@ binder_tallied q (OfNew w) t i n out =
     let led_number = led_row q (places.Number n) (places.Part i) 2 1 in
     let own = row_once q (places.Part i) 0 (suc (suc (suc (length out)))) in
     let of_number = row_once q (places.Number n) 0 2 in
+    omega (arith, split, led_out, led_number, own, of_number)
+binder_tallied q (OfArray k w) t i n out =
+    let split = meetings-append q (led out (places.Part i) 4) (led (row (places.Number n) 0 3) (places.Part i) 1) in
+    let led_out = meetings_led q out (places.Part i) 4 in
+    let led_number = led_row q (places.Number n) (places.Part i) 3 1 in
+    let own = row_once q (places.Part i) 0 (suc (suc (suc (suc (length out))))) in
+    let of_number = row_once q (places.Number n) 0 3 in
     omega (arith, split, led_out, led_number, own, of_number)
 
 one_tallied : (q : Point) (f : OneForm) (t u : Type') (i j : ℕ) (out : List Point)

@@ -98,14 +98,14 @@ length_few n (inr (inl is)) = omega (arith, is)
 length_few n (inr (inr (inl is))) = omega (arith, is)
 length_few n (inr (inr (inr is))) = omega (arith, is)
 
-operands_length : (k : Part) → IsWritablePart Two k → length (operands_text k) ≤ 14 + 4 * length (part_contacts k)
+operands_length : (k : Part) → IsWritablePart Two k → length (operands_text k) ≤ 24 + 4 * length (part_contacts k)
 operands_length kinds.Skip is = omega arith
 operands_length (kinds.Lit w k) is =
     let all = length-append (number_text 32 w) (number_text 10 k) in
     let one = bits_length 32 w is.0.1 in
-    let small : 2 ^ w ≤ 2 ^ 32 = pow_mono is.0.1 in
+    let small : 2 ^ w ≤ 2 ^ GREATEST_WIDTH = pow_mono is.0.1 in
     let low = is.1 in
-    let other = number_length 10 10 k (omega arith) (omega (arith, low, small)) (omega (arith, low, small)) in
+    let other = number_length 10 20 k (omega arith) (omega (arith, low, small)) (omega (arith, low, small)) in
     omega (arith, all, one, other)
 operands_length (kinds.Seq v) is = let digits = bits_few v is in omega (arith, digits)
 operands_length kinds.Par is = omega arith
@@ -130,14 +130,14 @@ operands_length (kinds.Array w n v) is =
     omega (arith, all, more, one, two, other)
 operands_length (kinds.Share t) is = let text = type_length 10 t is in let shakes = share_shakes t in omega (arith, text, shakes)
 
-part_length : (k : Part) → IsWritablePart Two k → length (part_text k) ≤ 21 + 4 * length (part_contacts k)
+part_length : (k : Part) → IsWritablePart Two k → length (part_text k) ≤ 31 + 4 * length (part_contacts k)
 part_length k is =
     let all = length-append (word_text (word_of k)) (operands_text k) in
     let word = word_length k in
     let operands = operands_length k is in
     omega (arith, all, word, operands)
 
-parts_length : (ks : List Part) → AllByRecursion (IsWritablePart Two) ks → length (flat_map part_text ks) ≤ 21 * length ks + 4 * all_shakes ks
+parts_length : (ks : List Part) → AllByRecursion (IsWritablePart Two) ks → length (flat_map part_text ks) ≤ 31 * length ks + 4 * all_shakes ks
 parts_length [] is = omega arith
 parts_length (k ∷ ks) is =
     let all = length-append (part_text k) (flat_map part_text ks) in
@@ -238,7 +238,7 @@ text_length p slim is small =
     let of_joints = joints_length p.joints is.joints.1 in
     let ends = slim.ends in
     let joined = slim.joints in
-    let of_parts_few : length (parts_text p.parts) ≤ 688145 = omega (arith, heavy, parts, of_parts, ends) in
+    let of_parts_few : length (parts_text p.parts) ≤ 1015825 = omega (arith, heavy, parts, of_parts, ends) in
     let of_joints_few : length (joints_text p.joints) ≤ 753682 = omega (arith, heavy, joints, of_joints, joined) in
     let of_imports_few : length (imports_text p.imports) ≤ 66003 = omega (arith, imports, of_imports, few) in
     let of_result_few : length (type_text 10 p.outcome) ≤ 768 = omega (arith, result, small_result, same) in

@@ -7,7 +7,7 @@ use Rattle.std.proofs.Common.{refl, ap, arith, length-append}
 use Rattle.std.proofs.lemmas.Bool.{ne_eqb}
 use Rattle.gos_check.proofs.TimesLemmas.{times-append}
 use Rattle.gos_check.specs.declared.linear.Split.{Split}
-use Rattle.gos_check.specs.Nodes.{Numbered, Closed, Use, Under, One, Two, If, Binding, OfFun, OfNew, OneForm, OfFst, OfSnd, OfDeref, OfNot, TwoForm, OfApp, OfBoth, OfSeq, OfPar, OfWhile, OfAssign, OfBin}
+use Rattle.gos_check.specs.Nodes.{Numbered, Closed, Use, Under, One, Two, If, Binding, OfFun, OfNew, OfArray, OneForm, OfFst, OfSnd, OfDeref, OfNot, TwoForm, OfApp, OfBoth, OfSeq, OfPar, OfWhile, OfAssign, OfBin}
 use Rattle.gos_check.specs.Linearity.{times, split_in, sides, used, made, StandsFor}
 use Rattle.gos_types.specs.Types.{Type'}
 use Rattle.gos_model.specs.Terms as terms
@@ -82,6 +82,7 @@ shares_part k i (s ∷ ss) = let h = shares_part k (suc i) ss in omega (arith, h
 binder_tells : (k i n : ℕ) (b : Binding) (t : Type') → binder_tally (places.Part k) b i n ≡ span k i (length (binder_part b t))
 binder_tells k i n OfFun t = refl
 binder_tells k i n (OfNew w) t = refl
+binder_tells k i n (OfArray c w) t = refl
 
 one_tells : (k i j : ℕ) (f : OneForm) (t : Type') → one_tally (places.Part k) f i j ≡ span k i (length (one_part f t))
 one_tells k i j OfFst t = refl
@@ -190,6 +191,7 @@ shares_node k i (s ∷ ss) = let h = shares_node k (suc i) ss in omega (arith, h
 binder_node : (k i n : ℕ) (b : Binding) → binder_tally (places.Node k) b i n ≡ 0
 binder_node k i n OfFun = refl
 binder_node k i n (OfNew w) = refl
+binder_node k i n (OfArray c w) = refl
 
 one_node : (k i j : ℕ) (f : OneForm) → one_tally (places.Node k) f i j ≤ (if nat_eq j k then 1 else 0)
 one_node k i j OfFst = omega arith
@@ -247,6 +249,7 @@ shares_number k i (s ∷ ss) = let h = shares_number k (suc i) ss in omega (arit
 binder_number : (k i n : ℕ) (b : Binding) → binder_tally (places.Number k) b i n ≡ (if nat_eq n k then 1 else 0)
 binder_number k i n OfFun = refl
 binder_number k i n (OfNew w) = omega arith
+binder_number k i n (OfArray c w) = omega arith
 
 one_number : (k i j : ℕ) (f : OneForm) → one_tally (places.Number k) f i j ≡ 0
 one_number k i j OfFst = refl
@@ -323,6 +326,7 @@ shares_outside q out i (s ∷ ss) =
 binder_outside : (q : Place) → IsOutside q → (i n : ℕ) (b : Binding) → binder_tally q b i n ≡ 0
 binder_outside q out i n OfFun = let number = out n in omega (arith, number)
 binder_outside q out i n (OfNew w) = let part = out i in let number = out n in omega (arith, part, number)
+binder_outside q out i n (OfArray c w) = let part = out i in let number = out n in omega (arith, part, number)
 
 one_outside : (q : Place) → IsOutside q → (i j : ℕ) (f : OneForm) → one_tally q f i j ≡ 0
 one_outside q out i j OfFst = let node = out j in omega (arith, node)

@@ -7,14 +7,14 @@ use Rattle.gos_types.specs.declared.types.Ty.{Ty}
 use Rattle.gos_types.specs.Types.{Type', Com, Exp, Var, Pair, Fun, IsDone, type_of}
 use Rattle.gos_model.specs.Terms as terms
 use Rattle.gos_model.specs.Terms.{Term}
-use Rattle.gos_model.specs.Typing.{Imports, Typed}
+use Rattle.gos_model.specs.Typing.{Imports, Typed, array_type}
 use Rattle.gos_model.specs.Laws.{NodeHasType}
 use Rattle.gos_check.specs.declared.linear.Split.{Split}
 use Rattle.gos_check.specs.declared.linear.NodeForm.{NodeForm}
 use Rattle.gos_check.specs.declared.linear.NodeForm.TheVariants as forms
 use Rattle.gos_check.specs.Checked.{program_in}
 use Rattle.gos_check.specs.Linearity.{import_at}
-use Rattle.gos_check.specs.Nodes.{Numbered, Closed, Use, Under, One, Two, If, OfFun, OfNew, OfFst, OfSnd, OfDeref, OfNot, OfApp, OfBoth, OfSeq, OfPar, OfWhile, OfAssign, OfBin, Meaning, meaning, below, inside, HasTypes, argument_of, numbered_of, node_seen}
+use Rattle.gos_check.specs.Nodes.{Numbered, Closed, Use, Under, One, Two, If, OfFun, OfNew, OfArray, OfFst, OfSnd, OfDeref, OfNot, OfApp, OfBoth, OfSeq, OfPar, OfWhile, OfAssign, OfBin, Meaning, meaning, below, inside, HasTypes, argument_of, numbered_of, node_seen}
 use Rattle.gos_compile.specs.Wiring.{Types, type_of_node, all_types}
 use Rattle.gos_compile.specs.Typed.{SidesTyped, ClosedTyped, NodesTyped, CheckedIsTyped, SkipIsTyped, SkipIsNoExpression}
 use Rattle.gos_compile.proofs.AgreeLemmas.{SplitsAgree, Agree, UsesTyped}
@@ -45,6 +45,7 @@ plain_form t ss (forms.Lit k w) = tt
 plain_form t ss (forms.Use n) = tt
 plain_form t ss (forms.Fun' n p a qs f) = plain_form a qs.items f
 plain_form t ss (forms.New' n w p a qs f) = plain_form a qs.items f
+plain_form t ss (forms.Array' n l w p a qs f) = plain_form a qs.items f
 plain_form t ss (forms.App' p a qs f q b rs g) = (plain_form a qs.items f, plain_form b rs.items g)
 plain_form t ss (forms.Pair' p a qs f q b rs g) = (plain_form a qs.items f, plain_form b rs.items g)
 plain_form t ss (forms.Fst' p a qs f) = plain_form a qs.items f
@@ -83,6 +84,14 @@ nodes_typed law i g env (Under u ss (OfNew w) n m) t types (e, has) (done, width
       sides_typed types ss agrees,
       (subst (λ (v : Type'). IsDone v) (sym same) done, there, body ∙ sym same),
       nodes_typed law i (Var w ∷ g) env' m t types has h rest uses plain,
+    )
+nodes_typed law i g env (Under u ss (OfArray c w) n m) t types (e, has) (done, length, width, h) (agrees, there, rest) uses plain =
+    let env' : Meaning = below n (inside ss env) in
+    let same : u ≡ t = node_typed law i g env (Under u ss (OfArray c w) n m) t (e, has) (done, length, width, h) in
+    let body : type_of_node m ≡ t = node_typed law i (array_type c w ∷ g) env' m t has h in (
+      sides_typed types ss agrees,
+      (subst (λ (v : Type'). IsDone v) (sym same) done, there, body ∙ sym same),
+      nodes_typed law i (array_type c w ∷ g) env' m t types has h rest uses plain,
     )
 nodes_typed law i g env (One u ss OfFst m) t types (e, has) (b, h) (agrees, rest) uses plain =
     let same : u ≡ t = node_typed law i g env (One u ss OfFst m) t (e, has) (b, h) in (

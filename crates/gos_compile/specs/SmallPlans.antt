@@ -5,8 +5,8 @@ use Rattle.std.specs.Prelude.{List, [], ◌∷◌, codes}
 use Rattle.gos_types.specs.Types.{Com, Fun}
 use Rattle.gos_model.specs.Terms as terms
 use Rattle.gos_model.specs.Typing.{Imported}
-use Rattle.gos_check.specs.Nodes.{Numbered, Closed, Use, Under, Two, OfFun, OfSeq}
-use Rattle.gos_plan.specs.Kinds.{Skip, Seq}
+use Rattle.gos_check.specs.Nodes.{Numbered, Closed, Use, Under, Two, OfFun, OfArray, OfSeq}
+use Rattle.gos_plan.specs.Kinds.{Skip, Seq, Array}
 use Rattle.gos_plan.specs.Plans.{PartEnd, ImportEnd, ResultEnd, Plan}
 use Rattle.gos_ties.specs.Ties.{joint}
 use Rattle.gos_compile.specs.Wiring.{IsPlanOf}
@@ -30,6 +30,28 @@ same_plan =
 
 abbrev pub SameIsPlanned : Type 0
 SameIsPlanned = IsPlanOf [] (Fun Com Com) 11 same_term same_plan
+
+-- `new a[2] : 8 in skip`, and its plan: the block is asked at the array's last handshake, and the array asks the body at
+-- its first. It asks for no index, and serves no access.
+abbrev pub array_term : Numbered
+array_term = Under Com [] (OfArray 2 8) 0 (Closed Com [] terms.Skip)
+
+abbrev pub array_plan : Plan
+array_plan =
+    record {
+      weight = 12;
+      imports = [];
+      outcome = Com;
+      parts = Array 8 2 0 ∷ Skip ∷ [];
+      joints = joint (ResultEnd 0) (PartEnd 0 4) ∷ joint (PartEnd 0 0) (PartEnd 1 0) ∷ [];
+    }
+
+abbrev pub ArrayIsPlanned : Type 0
+ArrayIsPlanned = IsPlanOf [] Com 12 array_term array_plan
+
+-- an array of another length is not its part
+abbrev pub OtherLengthIsNotPlanned : Type 0
+OtherLengthIsNotPlanned = IsPlanOf [] Com 12 array_term (record array_plan { parts = Array 8 4 0 ∷ Skip ∷ [] }) → ⊥
 
 -- `import c : com; import d : com; c ; d`, and its plan
 abbrev pub two_imports : List Imported

@@ -5,9 +5,10 @@ use Rattle.std.specs.Prelude.{◌≡◌, ℕ, List, [], ◌∷◌}
 use Rattle.gos_types.specs.Types.{Type', Com, Exp, Var, Pair, Fun, IsDone, type_of}
 use Rattle.gos_model.specs.Terms as terms
 use Rattle.gos_model.specs.Terms.{Term, result_width}
+use Rattle.gos_model.specs.Typing.{array_type}
 use Rattle.gos_check.specs.declared.linear.Split.{Split}
 use Rattle.gos_check.specs.Checked.{SeenLinear, IsChecked, program_in}
-use Rattle.gos_check.specs.Nodes.{Numbered, Closed, Use, Under, One, Two, If, Binding, OfFun, OfNew, OneForm, OfFst, OfSnd, OfDeref, OfNot, TwoForm, OfApp, OfBoth, OfSeq, OfPar, OfWhile, OfAssign, OfBin, node_seen}
+use Rattle.gos_check.specs.Nodes.{Numbered, Closed, Use, Under, One, Two, If, Binding, OfFun, OfNew, OfArray, OneForm, OfFst, OfSnd, OfDeref, OfNot, TwoForm, OfApp, OfBoth, OfSeq, OfPar, OfWhile, OfAssign, OfBin, node_seen}
 use Rattle.gos_compile.specs.Wiring.{Types, type_of_node, all_types}
 
 -- both sides of splits have the type of what is split
@@ -25,6 +26,7 @@ ClosedTyped c t = ⊥
 abbrev pub BinderTyped : Types → Binding → Type' → ℕ → Type' → Type 0
 BinderTyped types OfFun t n u = t ≡ Fun (types n) u
 BinderTyped types (OfNew w) t n u = IsDone t × (types n ≡ Var w) × (u ≡ t)
+BinderTyped types (OfArray k w) t n u = IsDone t × (types n ≡ array_type k w) × (u ≡ t)
 
 -- a form whose part has type u
 abbrev pub OneTyped : OneForm → Type' → Type' → Type 0

@@ -9,7 +9,7 @@ use Rattle.gos_model.specs.Terms as terms
 use Rattle.gos_model.specs.Terms.{Term}
 use Rattle.gos_model.specs.Typing.{Imports}
 use Rattle.gos_check.specs.declared.linear.Split.{Split}
-use Rattle.gos_check.specs.Nodes.{Numbered, Closed, Use, Under, One, Two, If, Binding, OfFun, OfNew, OneForm, OfFst, OfSnd, OfDeref, OfNot, TwoForm, OfApp, OfBoth, OfSeq, OfPar, OfWhile, OfAssign, OfBin, argument_of, bound_type}
+use Rattle.gos_check.specs.Nodes.{Numbered, Closed, Use, Under, One, Two, If, Binding, OfFun, OfNew, OfArray, OneForm, OfFst, OfSnd, OfDeref, OfNot, TwoForm, OfApp, OfBoth, OfSeq, OfPar, OfWhile, OfAssign, OfBin, argument_of, bound_type}
 pub use Rattle.gos_check.specs.Nodes.{type_of_node}
 use Rattle.gos_plan.specs.Kinds as kinds
 use Rattle.gos_plan.specs.Kinds.{Part}
@@ -71,6 +71,7 @@ closed_part c = kinds.Skip ∷ []
 abbrev pub binder_part : Binding → Type' → List Part
 binder_part OfFun t = []
 binder_part (OfNew w) t = kinds.Local w (answer_bits t) ∷ []
+binder_part (OfArray k w) t = kinds.Array w k (answer_bits t) ∷ []
 
 abbrev pub one_part : OneForm → Type' → List Part
 one_part OfFst t = []
@@ -156,10 +157,12 @@ two_ties f i out = led out (places.Part i) 2
 abbrev pub binder_ties : Binding → Type' → ℕ → ℕ → List Point → List Tie
 binder_ties OfFun t i n out = led (take (count (argument_of t)) out) (places.Number n) 0
 binder_ties (OfNew w) t i n out = led out (places.Part i) 3 ++ led (row (places.Number n) 0 2) (places.Part i) 1
+binder_ties (OfArray k w) t i n out = led out (places.Part i) 4 ++ led (row (places.Number n) 0 3) (places.Part i) 1
 
 abbrev pub binder_out : Binding → Type' → ℕ → List Point → List Point
 binder_out OfFun t i out = drop (count (argument_of t)) out
 binder_out (OfNew w) t i out = point (places.Part i) 0 ∷ []
+binder_out (OfArray k w) t i out = point (places.Part i) 0 ∷ []
 
 -- The ties of a term whose parts have numbers from i on, and its nodes from j on; its handshakes lead to `out`.
 abbrev pub ties_of : Types → ℕ → ℕ → Numbered → List Point → List Tie

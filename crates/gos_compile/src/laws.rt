@@ -1,16 +1,18 @@
 // What the definitions give. Each theorem is the contract of a function that does nothing.
 ghost use Rattle.gos_compile.specs.Shells.{ShellIsOfPlan};
-ghost use Rattle.gos_compile.specs.SmallPlans.{SkipIsPlanned, SameIsPlanned, BothIsPlanned, TurnedIsNotPlanned, ShellIsNotPlanned};
+ghost use Rattle.gos_compile.specs.SmallPlans.{SkipIsPlanned, SameIsPlanned, ArrayIsPlanned, OtherLengthIsNotPlanned, BothIsPlanned, TurnedIsNotPlanned, ShellIsNotPlanned};
 ghost use Rattle.gos_compile.specs.Typed.{CheckedIsTyped, SkipIsNoExpression, SkipIsTyped};
 ghost use Rattle.gos_compile.specs.Wiring.{PlanIsOne};
 
 use gos_model::types_of_terms;
 
-/// The plans of `skip`, of `fun a : com . a`, and of `c ; d` with two imports, whose joints stand in no other order, and
-/// whose shell is not its plan.
+/// The plans of `skip`, of `fun a : com . a`, of `new a[2] : 8 in skip`, whose array has no other length, and of `c ; d`
+/// with two imports, whose joints stand in no other order, and whose shell is not its plan.
 pub fn small_plans()
     ensures skip { SkipIsPlanned }
     ensures same { SameIsPlanned }
+    ensures array { ArrayIsPlanned }
+    ensures other_length { OtherLengthIsNotPlanned }
     ensures both { BothIsPlanned }
     ensures turned { TurnedIsNotPlanned }
     ensures shell { ShellIsNotPlanned }

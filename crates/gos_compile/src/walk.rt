@@ -7,7 +7,7 @@
 ghost use Rattle.std.specs.Prelude.{◌≡◌, ◌≤◌, ◌+◌, length, OnOk};
 ghost use Rattle.gos_types.specs.Types.{type_of};
 ghost use Rattle.gos_plan.specs.Kinds as kinds;
-ghost use Rattle.gos_check.specs.Nodes.{node_seen, OfFun, OfNew};
+ghost use Rattle.gos_check.specs.Nodes.{node_seen, OfFun, OfNew, OfArray};
 ghost use Rattle.gos_realises.specs.realises.Regular.{count};
 ghost use Rattle.gos_compile.specs.inner.Tables.{types_at};
 ghost use Rattle.gos_compile.specs.inner.Walked.{seen, wired, with_binder, with_one, with_two, with_choice};
@@ -58,6 +58,21 @@ pub(crate) fn wire(
             width,
             body,
         } => wire_block(alloc, types, ty, *number, *width, body, out, wires),
+        NodeForm::Array {
+            number,
+            length,
+            width,
+            body,
+        } => wire_array(
+            alloc,
+            types,
+            ty,
+            *number,
+            (*length, *width),
+            body,
+            out,
+            wires,
+        ),
         NodeForm::App(m, n) => wire_two(alloc, types, TwoParts::Application, ty, m, n, out, wires),
         NodeForm::Pair(m, n) => wire_two(alloc, types, TwoParts::Product, ty, m, n, out, wires),
         NodeForm::Fst(m) => wire_one(alloc, types, OnePart::First, ty, m, out, wires),
@@ -117,6 +132,28 @@ fn wire_block(
 {
     let i = wires.next();
     wires.local(alloc, number, width, answer_bits(ty), out)?;
+    let inner = one_point(alloc, Place::Part(i), 0)?;
+    wire(alloc, types, body, &inner, wires)
+}
+
+// A block, whose array has this number, and this length and width.
+#[cycle(walk)]
+fn wire_array(
+    alloc: Global,
+    types: &[Ty],
+    ty: &Ty,
+    number: u32,
+    many: (u32, u32),
+    body: &Node,
+    out: &[Point],
+    wires: &mut Wires,
+) -> Result<(), NoMemory>
+    requires { spent wires.old + length out.now + (5 + loaded types.now body.now) ≤ most }
+    ensures wired { OnOk result (seen wires.new ≡ with_binder types.now (OfArray many.0 many.1) ty.now number body.now out.now (seen wires.old)) }
+    ensures spent { OnOk result (spent wires.new ≤ spent wires.old + (5 + loaded types.now body.now)) }
+{
+    let i = wires.next();
+    wires.array(alloc, number, many, answer_bits(ty), out)?;
     let inner = one_point(alloc, Place::Part(i), 0)?;
     wire(alloc, types, body, &inner, wires)
 }

@@ -92,6 +92,35 @@ impl Wires {
         Ok(())
     }
 
+    // Adds the part of a block, whose array of so many numbers of so many bits has this number, and whose body answers
+    // with so many bits.
+    #[tactic(auto, using(crate::proofs::WalkLemmas::plain_more))]
+    pub fn array(
+        &mut self,
+        alloc: Global,
+        number: u32,
+        many: (u32, u32),
+        v: u32,
+        out: &[Point],
+    ) -> Result<(), NoMemory>
+        requires { spent self.old + length out.now + 4 ≤ most }
+        ensures own { OnOk result (seen self.new ≡ with_own (kinds.Array many.1 many.0 v ∷ [])
+            (led out.now (Place.Part (next_part (seen self.old))) 4
+            ++ led (row (Place.Number number) 0 3) (Place.Part (next_part (seen self.old))) 1) (seen self.old)) }
+        ensures spent { OnOk result (spent self.new ≡ spent self.old + 2) }
+    {
+        let part = Place::Part(self.next());
+        lead(&mut self.ties, out, part, 4)?;
+        lead_row(alloc, &mut self.ties, Place::Number(number), 3, part, 1)?;
+        self.parts.push(Kind::Array {
+            w: many.1,
+            n: many.0,
+            v,
+        })?;
+        self.nodes += 1;
+        Ok(())
+    }
+
     // Adds the Share of a split.
     #[tactic(auto, using(crate::proofs::WalkLemmas::plain_more))]
     fn share(&mut self, alloc: Global, types: &[Ty], split: Split) -> Result<(), NoMemory>

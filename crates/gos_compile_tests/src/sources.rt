@@ -21,7 +21,7 @@ fn object_of(alloc: Global, text: &[u8]) -> Result<Vec<u8>, Fail> {
 #[test]
 fn small_sources_have_these_plans(rt: HostRuntime) -> Result<(), Fail> {
     small_plans();
-    let rows: [(&[u8], &[u8]); 6] = [
+    let rows: [(&[u8], &[u8]); 7] = [
         (
             b"export skip : com",
             b"gosobj 2\nweight 5\nimports 0\nresult com\nparts 1\nskip\njoints 1\nr.0 p0.0\nend\n",
@@ -48,6 +48,11 @@ fn small_sources_have_these_plans(rt: HostRuntime) -> Result<(), Fail> {
             b"export (fun x : com . x) skip : com",
             b"gosobj 2\nweight 21\nimports 0\nresult com\nparts 1\nskip\njoints 1\nr.0 p0.0\nend\n",
         ),
+        // The array asks for the index, and its write is joined to nothing.
+        (
+            b"export new a[2] : 8 in !(a 0:1) : exp 8",
+            b"gosobj 2\nweight 30\nimports 0\nresult exp 8\nparts 3\narray 8 2 exp 8\nderef 8\nlit 1 0\njoints 4\nr.0 p0.4\np0.1 p2.0\np0.0 p1.1\np1.0 p0.2\nend\n",
+        ),
     ];
     for (text, object) in rows.iter() {
         assert!(rt; object_of(rt.alloc(), text)?.as_slice() == *object);
@@ -58,7 +63,7 @@ fn small_sources_have_these_plans(rt: HostRuntime) -> Result<(), Fail> {
 // Each of them has a plan.
 #[test]
 fn worked_sources_have_plans(rt: HostRuntime) -> Result<(), Fail> {
-    let rows: [&[u8]; 9] = [
+    let rows: [&[u8]; 10] = [
         b"import c : com import d : com export c ; d ; c : com",
         b"import f : com -> com import v : var 8 export f (v := 1:8) ; f (v := 2:8) : com",
         b"export fun a : com . a ; a : com -> com",
@@ -67,6 +72,7 @@ fn worked_sources_have_plans(rt: HostRuntime) -> Result<(), Fail> {
         b"import rep : exp 8 -> com -> com import tick : com import phase_a : com import phase_b : com import size : exp 8 export rep size (phase_a ; phase_b ; tick) : com",
         b"export fun n : exp 8 . fun b : com . new i : 8 in (i := n ; while not (!i = 0:8) do (b ; i := !i - 1:8)) : exp 8 -> com -> com",
         b"import v : var 8 export v := !v + 1:8 : com",
+        b"export new a[4] : 8 in (fun b : exp 2 -> var 8 . b 1:2 := 7:8 ; b 0:2 := !(b 1:2)) a : com",
         b"import p : com*var 8 export fst p ; if !snd p < 3:8 then fst p else snd p := 0:8 : com",
     ];
     for text in rows.iter() {

@@ -79,19 +79,19 @@ fn is_printed_as(alloc: Global, ty: Result<Ty, NoMemory>, wanted: &str) -> bool 
 }
 
 fn product_on_the_left(alloc: Global) -> Result<Ty, NoMemory> {
-    product(alloc, product(alloc, Ty::Com, Ty::Exp(4))?, Ty::Var(32))
+    product(alloc, product(alloc, Ty::Com, Ty::Exp(4))?, Ty::Var(64))
 }
 
 fn product_on_the_right(alloc: Global) -> Result<Ty, NoMemory> {
-    product(alloc, Ty::Com, product(alloc, Ty::Exp(4), Ty::Var(32))?)
+    product(alloc, Ty::Com, product(alloc, Ty::Exp(4), Ty::Var(64))?)
 }
 
 #[test]
 fn prints_products(rt: HostRuntime) {
     let alloc = rt.alloc();
     assert!(rt; is_printed_as(alloc, Ok(Ty::Exp(4)), "exp 4"));
-    assert!(rt; is_printed_as(alloc, product_on_the_left(alloc), "(com * exp 4) * var 32"));
-    assert!(rt; is_printed_as(alloc, product_on_the_right(alloc), "com * exp 4 * var 32"));
+    assert!(rt; is_printed_as(alloc, product_on_the_left(alloc), "(com * exp 4) * var 64"));
+    assert!(rt; is_printed_as(alloc, product_on_the_right(alloc), "com * exp 4 * var 64"));
 }
 
 fn function_of_a_function(alloc: Global) -> Result<Ty, NoMemory> {
@@ -133,7 +133,7 @@ fn prints_functions(rt: HostRuntime) {
 // Widths at both ends of their range, and numbers at both ends of those of 1, 32, 63 and 64 bits.
 #[test]
 fn numbers_of_widths(rt: HostRuntime) {
-    assert!(rt; is_width(1) && is_width(32) && !is_width(0) && !is_width(33));
+    assert!(rt; is_width(1) && is_width(64) && !is_width(0) && !is_width(65));
     assert!(rt; fits(1, 1) && !fits(2, 1) && fits(0, 0) && !fits(1, 0));
     assert!(rt; fits(4_294_967_295, 32) && !fits(4_294_967_296, 32));
     assert!(rt; fits(9_223_372_036_854_775_807, 63) && !fits(9_223_372_036_854_775_808, 63));

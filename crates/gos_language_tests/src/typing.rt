@@ -57,8 +57,12 @@ fn checked(alloc: Global, text: &[u8]) -> Result<Result<Linear, CheckFault>, Fai
 }
 
 // Sources, and the weight that each has.
-const WEIGHTS: [(&[u8], u64); 9] = [
+const WEIGHTS: [(&[u8], u64); 10] = [
     (b"export skip : com", 5),
+    (
+        b"export new a[4] : 8 in (a 1:2 := 7:8 ; !(a 1:2) + !(a 0:2)) : exp 8",
+        93,
+    ),
     (b"import c : com import d : com export c ; d ; c : com", 27),
     (
         b"import f : com -> com import v : var 8 export f (v := 1:8) ; f (v := 2:8) : com",
@@ -125,8 +129,8 @@ const FAULTS: [(&[u8], Told<'static>); 17] = [
         Told::Width(Span { from: 7, to: 11 }, 5, 32),
     ),
     (
-        b"import e : exp 33 export e : exp 33",
-        Told::Width(Span { from: 11, to: 17 }, 33, 0),
+        b"import e : exp 65 export e : exp 65",
+        Told::Width(Span { from: 11, to: 17 }, 65, 0),
     ),
     (
         b"export new x : 0 in skip : com",
@@ -144,10 +148,10 @@ const FAULTS: [(&[u8], Told<'static>); 17] = [
         b"export new a[3] : 65 in skip : com",
         Told::Length(Span { from: 13, to: 14 }, 3),
     ),
-    // There are no arrays yet.
+    // The array's type is exp 2 -> var 8.
     (
-        b"export new a[4] : 8 in skip : com",
-        Told::Length(Span { from: 13, to: 14 }, 4),
+        b"export new a[4] : 8 in a 0:1 := 7:8 : com",
+        Told::Differs(Span { from: 25, to: 28 }),
     ),
     // Of two faults the first is told: the repeated name, the written width, the left part.
     (

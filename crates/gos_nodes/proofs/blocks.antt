@@ -23,3 +23,4 @@ pub mod MatchLemmas
 pub mod RealisesLemmas
 pub mod SmallBlockLemmas
 pub mod SmallArrayLemmas
+pub mod SmallReadingLemmas

@@ -9,6 +9,7 @@ pub mod CutLemmas
 pub mod SideLemmas
 pub mod RegionLemmas
 pub mod ParallelLemmas
+pub mod HolderLemmas
 pub mod BodyLemmas
 pub mod BlockLemmas
 pub mod HeardLemmas

@@ -22,7 +22,7 @@ abbrev pub splits_load : List Split → Types → ℕ
 splits_load [] types = 0
 splits_load (s ∷ ss) types = share_load types s.of + splits_load ss types
 
--- A node with its own part, which has at most four handshakes, and those of its type; and for each of its parts the
+-- A node with its own part, which has at most five handshakes, and those of its type; and for each of its parts the
 -- handshakes that may lead to the node.
 abbrev pub load : Types → Numbered → ℕ
 load types (Closed t ss c) = splits_load ss types + (5 + count t)

@@ -128,6 +128,7 @@ module _ (w k v : ℕ) (q : State) (slot : Slot) (x : Row) where
         back_there = refl;
         puts_at = refl;
         puts = refl;
+        fits = λ n asks. omega arith;
         running = ap array_runs phase;
         stays = λ n. refl;
         turn = ap (λ (p : Phase). array_opened p 0) phase;
@@ -151,6 +152,7 @@ module _ (w k v : ℕ) (q : State) (slot : Slot) (x : Row) where
         back_there = refl;
         puts_at = refl;
         puts = refl;
+        fits = λ n asks. omega arith;
         running = ap array_runs phase;
         stays = λ n. refl;
         turn = ap (λ (p : Phase). array_opened p 0) phase;
@@ -175,6 +177,7 @@ module _ (w k v : ℕ) (q : State) (slot : Slot) (x : Row) where
         back_there = refl;
         puts_at = refl;
         puts = refl;
+        fits = λ n asks. absurd (cc asks);
         running = ap array_runs phase;
         stays = λ n. refl;
         turn = ap (λ (p : Phase). array_opened p 1) phase;
@@ -198,6 +201,7 @@ module _ (w k v : ℕ) (q : State) (slot : Slot) (x : Row) where
         back_there = refl;
         puts_at = refl;
         puts = refl;
+        fits = λ n asks. absurd (cc asks);
         running = ap array_runs phase;
         stays = λ n. refl;
         turn = ap (λ (p : Phase). array_opened p 2) phase;

@@ -26,16 +26,17 @@ use Rattle.gos_realises.proofs.realises.PassLemmas.{open_itself}
 use Rattle.gos_nodes.specs.parallel.Parallel.{IsPartOf}
 use Rattle.gos_nodes.proofs.blocks.EndLemmas.{Lies, in_part, at_import, at_driver, lies}
 use Rattle.gos_nodes.proofs.parallel.GateLemmas.{gate, Same, result_gate, part_gate}
-use Rattle.gos_nodes.proofs.parallel.HungLemmas.{IsHung, Local, Sees, Unseen, held_token, held_put, result_put, is_answered}
+use Rattle.gos_nodes.proofs.parallel.HungLemmas.{HeldBy, IsHung, Local, Sees, Unseen, held_token, held_put, result_put, is_answered}
 use Rattle.gos_nodes.proofs.windows.TurnLemmas.{Turned, import_kept, import_shut, import_result}
 use Rattle.gos_nodes.proofs.parallel.LinkedLemmas.{Comes}
-use Rattle.gos_nodes.proofs.parallel.OpenLemmas.{comes_by, OpenAgree, IsApart, put_agrees, taken_agrees, put_apart, taken_apart, put_well, side_step}
+use Rattle.gos_nodes.proofs.parallel.OpenLemmas.{comes_by, AgreeBy, ApartBy, put_agrees, taken_agrees, put_apart, taken_apart, put_well, side_step}
 use Rattle.gos_nodes.proofs.parallel.AskedLemmas.{with_itself, with_other, peel, local_past, contact_part, asked_next, told_next, asked_agrees, told_agrees, welcome_inside, last_well}
 use Rattle.gos_nodes.proofs.parallel.OrderLemmas.{lies_open}
 use Rattle.gos_nodes.proofs.windows.AskedLemmas.{done_contact}
 use Rattle.gos_nodes.specs.blocks.Servers.{run_of, after_pass, FindsTurn, begin_row, serve_row, end_row}
 use Rattle.gos_nodes.specs.blocks.Block.{Block, IsBlock}
 use Rattle.gos_nodes.proofs.blocks.RegionLemmas as region
+use Rattle.gos_nodes.proofs.blocks.RegionLemmas.{IsPort}
 use Rattle.gos_nodes.proofs.blocks.ServerLemmas.{request_slot, answer_slot, WhichContact, at_body, at_supply, at_run, body_contact, supply_contact, which_contact, not_run, import_pass, same_after, comes_finds}
 use Rattle.gos_nodes.proofs.blocks.StepLemmas.{Starts, Supplies, Ends, Step, of_body, asked, told, starts, supplies, ended, lost, Served, IsSeen, stands_at, own_state, own_firing, is_run}
 use Rattle.gos_nodes.proofs.blocks.LinkedLemmas.{Driven, when_starting, when_working, seen, way_asked, way_told, body_told, way_supplied, asked_turn}
@@ -45,7 +46,7 @@ abbrev pub Ready : Plan → List Pass → Tokens → Type 0
 Ready p own a = (e : End) (v : ℕ) (u : Tokens) → Does p (Out e v) a u → OutputsKeepTurns p own (Out e v ∷ [])
 
 module _ (r : Plan) (b : Block) (is : IsBlock r b) (literals : All LiteralFits r.parts) where
-  hung : IsHung b.own 0 (sessions.bits r.outcome) b.cut r b.body
+  hung : IsHung (IsPort b) b.own 0 (sessions.bits r.outcome) b.cut r b.body
   hung = region.hung_body r b is
 
   not_result : (e : End) → Lies b e → e ≡ ResultEnd 0 → ⊥
@@ -53,12 +54,12 @@ module _ (r : Plan) (b : Block) (is : IsBlock r b) (literals : All LiteralFits r
   not_result e (at_import i j k at inner) same = let bad : ImportEnd j k ≡ ResultEnd 0 = sym at ∙ same in cc bad
   not_result e (at_driver h at) same = let bad : PartEnd b.own h ≡ ResultEnd 0 = sym at ∙ same in cc bad
 
-  result_apart : IsApart b.cut b.body (ResultEnd 0)
+  result_apart : ApartBy (IsPort b) b.cut b.body (ResultEnd 0)
   result_apart n held = apart_is_not_same (ResultEnd 0) (lies_at b.cut n) (λ e. not_result (lies_at b.cut n) (lies r b is n held) (sym e))
 
   -- what is open in the whole and in its body
   pub record Opened (past : List Pass) (o own : Open) (s : Tokens) : Type 0 where
-    pub agree : OpenAgree b.cut b.body o own
+    pub agree : AgreeBy (IsPort b) b.cut b.body o own
     pub result : o (ResultEnd 0) ≡ is_open past (ResultEnd 0)
     pub waits : o (PartEnd b.own 0) ≡ b.server.runs (s.state b.own).phase
     pub fit : held.AllFit o s
@@ -343,20 +344,24 @@ module _ (r : Plan) (b : Block) (is : IsBlock r b) (literals : All LiteralFits r
       other_contact : contact_at b.body other_end ≡ Some z.serves.given
       other_contact = region.variable_contact r b is z.serves.back ∙ z.serves.back_there
 
-      taken_agree : OpenAgree b.cut b.body o lo → OpenAgree b.cut b.body taken_now body_taken
+      -- the end at which it replies is counted
+      back_held : HeldBy (IsPort b) b.body other_end
+      back_held = inr (suc z.serves.back, not_run b.server bits is.server (suc z.serves.back) z.serves.back z.serves.given z.serves.back_there refl, refl)
+
+      taken_agree : AgreeBy (IsPort b) b.cut b.body o lo → AgreeBy (IsPort b) b.cut b.body taken_now body_taken
       taken_agree agree =
-          subst (λ (e : End). OpenAgree b.cut b.body (after_taken r e taken o) body_taken) (is.served z.serves.at)
+          subst (λ (e : End). AgreeBy (IsPort b) b.cut b.body (after_taken r e taken o) body_taken) (is.served z.serves.at)
           (taken_agrees hung one_end taken o lo (inl z.stands) agree)
 
-      now_agree : OpenAgree b.cut b.body o lo → OpenAgree b.cut b.body now (after_put b.body other_end given body_taken)
+      now_agree : AgreeBy (IsPort b) b.cut b.body o lo → AgreeBy (IsPort b) b.cut b.body now (after_put b.body other_end given body_taken)
       now_agree agree =
-          subst (λ (e : End). OpenAgree b.cut b.body (after_put r e given taken_now) (after_put b.body other_end given body_taken)) (is.served z.serves.back)
-          (put_agrees hung other_end given taken_now body_taken (inl z.stands_back) (taken_agree agree))
+          subst (λ (e : End). AgreeBy (IsPort b) b.cut b.body (after_put r e given taken_now) (after_put b.body other_end given body_taken)) (is.served z.serves.back)
+          (put_agrees hung other_end given taken_now body_taken back_held (taken_agree agree))
 
       now_result : now (ResultEnd 0) ≡ o (ResultEnd 0)
       now_result =
           subst (λ (e : End). after_put r e given taken_now (ResultEnd 0) ≡ taken_now (ResultEnd 0)) (is.served z.serves.back)
-          (put_apart hung other_end (ResultEnd 0) given taken_now (inl z.stands_back) result_apart)
+          (put_apart hung other_end (ResultEnd 0) given taken_now back_held result_apart)
           ∙ subst (λ (e : End). after_taken r e taken o (ResultEnd 0) ≡ o (ResultEnd 0)) (is.served z.serves.at)
           (taken_apart hung one_end (ResultEnd 0) taken o (inl z.stands) result_apart)
 
@@ -366,7 +371,7 @@ module _ (r : Plan) (b : Block) (is : IsBlock r b) (literals : All LiteralFits r
           ∙ taken_waits z.serves.at z.serves.taken z.serves.taken.role o z.serves.at_there refl
 
       -- the reply is put where it comes well
-      module _ (a : Tokens) (out : Does b.body (Out one_end z.value) (cut_tokens b.cut b.body s) a) (agree : OpenAgree b.cut b.body o lo)
+      module _ (a : Tokens) (out : Does b.body (Out one_end z.value) (cut_tokens b.cut b.body s) a) (agree : AgreeBy (IsPort b) b.cut b.body o lo)
           (well : ComesWell b.body other_end given body_taken a) where
         abbrev without : Tokens
         without = with_token r (PartEnd b.own (suc z.serves.at)) taken None s
@@ -380,7 +385,7 @@ module _ (r : Plan) (b : Block) (is : IsBlock r b) (literals : All LiteralFits r
         reply_well : (q : State) → ComesWell r (PartEnd b.own (suc z.serves.back)) given taken_now (with_state b.own q without)
         reply_well q =
             subst (λ (x : End). ComesWell r x given taken_now (with_state b.own q without)) (is.served z.serves.back)
-            (put_well hung other_end given taken_now body_taken (with_state b.own q without) (inl z.stands_back) (taken_agree agree)
+            (put_well hung other_end given taken_now body_taken (with_state b.own q without) back_held (taken_agree agree)
             (subst (λ (x : Tokens). ComesWell b.body other_end given body_taken x) (taken_leads ∙ sym (own_state r b is q without)) well))
 
         abbrev Facts : ℕ → ℕ → Direction → ℕ → Direction → Type 0

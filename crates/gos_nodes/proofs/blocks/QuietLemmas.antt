@@ -18,10 +18,10 @@ use Rattle.gos_nodes.specs.blocks.Servers.{run_of}
 use Rattle.gos_nodes.specs.blocks.Block.{Block, IsBlock}
 use Rattle.gos_nodes.proofs.blocks.ServerLemmas.{body_contact, supply_contact}
 use Rattle.gos_nodes.proofs.blocks.RegionLemmas as region
-use Rattle.gos_nodes.proofs.blocks.RegionLemmas.{Which, variable, other, which}
+use Rattle.gos_nodes.proofs.blocks.RegionLemmas.{IsPort, Which, variable, other, which}
 
 module _ (r : Plan) (b : Block) (is : IsBlock r b) (literals : All LiteralFits r.parts) where
-  hung : IsHung b.own 0 (bits r.outcome) b.cut r b.body
+  hung : IsHung (IsPort b) b.own 0 (bits r.outcome) b.cut r b.body
   hung = region.hung_body r b is
 
   -- a token that lies where the server takes it would be taken

@@ -20,12 +20,15 @@ use Rattle.gos_nodes.specs.parallel.Parallel.{IsJointOf}
 use Rattle.gos_nodes.proofs.windows.AskedLemmas.{done_contact}
 use Rattle.gos_nodes.specs.blocks.Servers.{run_of}
 use Rattle.gos_nodes.specs.blocks.Block.{Block, IsBlock}
-use Rattle.gos_nodes.proofs.parallel.HungLemmas.{IsHung, result_shake}
+use Rattle.gos_nodes.proofs.parallel.HungLemmas.{HeldBy, IsHung, result_shake}
 
 -- the end of the body at which the part asks, and those at which it serves
 abbrev pub port : Block → ℕ → End
 port b zero = ResultEnd 0
 port b (suc h) = ImportEnd b.place h
+
+abbrev pub IsPort : Block → End → Type 0
+IsPort b e = (h : ℕ) × (h ≡ run_of b.server → ⊥) × (e ≡ port b h)
 
 -- what lies behind an end of the whole: an end that the part has, or an import of both
 pub data Inner (r : Plan) (b : Block) (x e : End) : Type 0 where
@@ -113,6 +116,10 @@ module _ (r : Plan) (b : Block) (is : IsBlock r b) where
       by_inner None at = refl
       by_inner (Some e) at = absurd (never e (inner_is (PartEnd i n) e at))
 
+  -- one that has no place stands in no joint
+  port_unjoined : (h : ℕ) → places_of b.body (port b h) ≡ None → StandsIn b.body (port b h) → ⊥
+  port_unjoined h none (j, listing, stands) = has_place b.body.joints j (port b h) (contained b.body.joints j listing) stands none
+
   -- the end of the body that stands at an end of the part
   pub port_alone : (e : End) → Owns b.body e → (h : ℕ) → lies_at b.cut e ≡ PartEnd b.own h → e ≡ port b h
   port_alone (PartEnd i n) (part, there) h at =
@@ -164,6 +171,20 @@ module _ (r : Plan) (b : Block) (is : IsBlock r b) where
       by_inner None at = refl
       by_inner (Some e) at = absurd (never e at)
 
+  -- and none where the body has no joint at its end
+  pub no_inner_port : (h : ℕ) → places_of b.body (port b h) ≡ None → b.cut.inner (PartEnd b.own h) ≡ None
+  no_inner_port h none = by_inner (b.cut.inner (PartEnd b.own h)) refl
+    where
+      never : (e : End) → b.cut.inner (PartEnd b.own h) ≡ Some e → ⊥
+      never e at =
+          let (port', stands, leads) = is.cut.inners (PartEnd b.own h) e at in
+          let last = port_alone e (port_own b.body e port' stands) h (port_lies b.cut e port' ∙ leads) in
+          port_unjoined h none (subst (λ (x : End). StandsIn b.body x) last stands)
+
+      by_inner : (o : Option End) → b.cut.inner (PartEnd b.own h) ≡ o → o ≡ None
+      by_inner None at = refl
+      by_inner (Some e) at = absurd (never e at)
+
   -- what no end of the region sees
   pub part_unseen : (i n : ℕ) → b.cut.number i ≡ None → b.cut.inner (PartEnd i n) ≡ None → (way : Direction) (held : Option ℕ) (s : Tokens)
       → cut_tokens b.cut b.body (with_token r (PartEnd i n) way held s) ≡ cut_tokens b.cut b.body s
@@ -205,24 +226,43 @@ module _ (r : Plan) (b : Block) (is : IsBlock r b) where
           let own = stands_own b.body (joint x y) y is.cut.right (contained b.body.joints (joint x y) has) (serving_stands (joint x y)) in
           subst (Owns b.body) (port_alone y own h (beyond ∙ sym one)) own
 
-  free : places_of b.body (ResultEnd 0) ≡ None → places_of r (PartEnd b.own 0) ≡ None
-  free none = by_place (places_of r (PartEnd b.own 0)) refl
-    where
-      standing : StandsIn b.body (ResultEnd 0) → ⊥
-      standing (j, listing, stands) = has_place b.body.joints j (ResultEnd 0) (contained b.body.joints j listing) stands none
+  -- the ends of the body at the server's are counted
+  pub port_lies_at : (h : ℕ) → lies_at b.cut (port b h) ≡ PartEnd b.own h
+  port_lies_at zero = is.result
+  port_lies_at (suc h) = is.served h
 
-      by_place : (o : Option End) → places_of r (PartEnd b.own 0) ≡ o → o ≡ None
+  port_stands : (h : ℕ) → Owns b.body (port b h) → StandsIn b.body (port b h)
+  port_stands zero stands = stands
+  port_stands (suc h) stands = stands
+
+  port_free : (h : ℕ) → (h ≡ run_of b.server → ⊥) → places_of b.body (port b h) ≡ None → places_of r (PartEnd b.own h) ≡ None
+  port_free h apart none = by_place (places_of r (PartEnd b.own h)) refl
+    where
+      by_place : (o : Option End) → places_of r (PartEnd b.own h) ≡ o → o ≡ None
       by_place None at = refl
-      by_place (Some a) at = absurd (standing (joined_port 0 (λ e. omega (arith, e)) a at))
+      by_place (Some a) at = absurd (port_unjoined h none (port_stands h (joined_port h apart a at)))
+
+  free : (x : End) → IsPort b x → places_of b.body x ≡ None → places_of r (lies_at b.cut x) ≡ None
+  free x (h, apart, same) none =
+      ap (places_of r) (ap (lies_at b.cut) same ∙ port_lies_at h) ∙ port_free h apart (ap (places_of b.body) (sym same) ∙ none)
+
+  alone : (e x : End) → HeldBy (IsPort b) b.body e → IsPort b x → lies_at b.cut e ≡ lies_at b.cut x → e ≡ x
+  alone e x (inl own) (h, apart, same) at = port_alone e own h (at ∙ (ap (lies_at b.cut) same ∙ port_lies_at h)) ∙ sym same
+  alone e x (inr (k, beside, also)) (h, apart, same) at =
+      let ends : PartEnd b.own k ≡ PartEnd b.own h =
+      sym (port_lies_at k) ∙ (ap (lies_at b.cut) (sym also) ∙ (at ∙ (ap (lies_at b.cut) same ∙ port_lies_at h))) in
+      let shake : k ≡ h = cc ends in
+      also ∙ (ap (port b) shake ∙ sym same)
 
   -- the body hangs on the server's first end
-  pub hung_body : IsHung b.own 0 (bits r.outcome) b.cut r b.body
+  pub hung_body : IsHung (IsPort b) b.own 0 (bits r.outcome) b.cut r b.body
   hung_body =
       record {
         cut = is.cut;
         outside = is.outside;
         result = is.result;
-        alone = λ e own at. port_alone e own 0 at;
+        counted = (0, (λ e. omega (arith, e)), refl);
+        alone = alone;
         free = free;
         there = result_there;
       }

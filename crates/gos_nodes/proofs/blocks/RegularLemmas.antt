@@ -189,7 +189,7 @@ module _
     input_inside : (i : ℕ) → (none : IsUnjoined r b.cut b.body i n) → none.import ≡ k → After (In (ImportEnd k n) v) s w past hs o
     input_inside i none import =
         finish (In (ImportEnd k n) v) s w past hs o lo holds does (lost_inside k n v i none import refl own_does same) next driven shared opened_now (with_open (ImportEnd i n) true lo) comes
-        (opened_loose r b is k n not_inside literals v s w past o lo holds.opened same does comes i none.own_none) own_is one.2 (λ turned. tt)
+        (opened_loose r b is k n not_inside literals v s w past o lo holds.opened same does comes i leads) own_is one.2 (λ turned. tt)
       where
         ys : List Element
         ys = In (ImportEnd i n) v ∷ []

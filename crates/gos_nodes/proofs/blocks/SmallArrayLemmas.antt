@@ -89,7 +89,6 @@ new_array_is_block =
       there = refl;
       type = refl;
       served = λ h. refl;
-      heard = λ h n c stands at asks. absurd (not_there 0 h stands);
       imports = λ i h apart stands. absurd (not_there i h stands);
       others = one_import;
       fresh = λ i has. absurd (none_in_empty i has);

@@ -1,14 +1,12 @@
 -- The plan of `new x : 1 in skip`.
 use Rattle.std.specs.Prelude.{◌≡◌, ◌⊎◌, ℕ, zero, suc, [], ◌∷◌, Some, All, Contains, slice_get}
-use Rattle.std.proofs.Common.{arith, refl, sym, ap, subst, inl, inr, ◌∙◌}
-use Rattle.gos_types.specs.declared.shakes.Role.TheVariants.{Serve, Ask}
-use Rattle.gos_types.specs.Types.{Var}
+use Rattle.std.proofs.Common.{arith, refl, sym, ap, subst, inl, inr}
 use Rattle.std.proofs.lemmas.List.Elements.{All-nil, All-cons}
 use Rattle.std.proofs.lemmas.Option.{none-some, same_Some}
 use Rattle.gos_types.proofs.ListLemmas.{none_in_empty}
 use Rattle.gos_model.specs.Terms as terms
 use Rattle.gos_model.specs.Typing.{Imported}
-use Rattle.gos_plan.specs.Kinds.{Part, Contact, Skip, Local, serves, contacts_of}
+use Rattle.gos_plan.specs.Kinds.{Part, Skip, Local}
 use Rattle.gos_plan.specs.Plans.{End, PartEnd, ImportEnd, ResultEnd, Joint, contact_at, IsRight}
 use Rattle.gos_plan.specs.Tokens.{IsPortEnd}
 use Rattle.gos_plan.specs.TokenBits.{LiteralFits}
@@ -92,15 +90,6 @@ whole_parts zero k is = inr refl
 whole_parts (suc zero) k is = inl (0, refl)
 whole_parts (suc (suc i)) k is = absurd (none-some k is)
 
-serves_not_asks : Serve ≡ Ask → ⊥
-serves_not_asks e = cc e
-
--- a variable asks nothing
-none_asks : (n : ℕ) (c : Contact) → slice_get (contacts_of (Var 1)) n ≡ Some c → c.role ≡ Ask → ⊥
-none_asks zero c at asks = serves_not_asks (ap (λ (x : Contact). x.role) (same_Some (serves 0 1) c at) ∙ asks)
-none_asks (suc zero) c at asks = serves_not_asks (ap (λ (x : Contact). x.role) (same_Some (serves 1 0) c at) ∙ asks)
-none_asks (suc (suc n)) c at asks = none-some c at
-
 pub new_skip_is_block : NewSkipIsBlock
 new_skip_is_block =
     record {
@@ -114,7 +103,6 @@ new_skip_is_block =
       there = refl;
       type = refl;
       served = λ h. refl;
-      heard = λ h n c stands at asks. absurd (none_asks n c at asks);
       imports = λ i h apart stands. absurd (result_is_no_import i h (one_port (ImportEnd i h) tt stands));
       others = one_import;
       fresh = λ i has. absurd (none_in_empty i has);

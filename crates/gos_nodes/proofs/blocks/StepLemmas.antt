@@ -1,17 +1,19 @@
 -- What an element of a block is: one of the body, or one of the server.
 --
 -- The last result is `step`: each element that is possible is of one of seven sorts (`Step`), and of each it is said what the body
--- and the server make of it. What of the variable is open stands in a joint (`Kept`), so what the server puts reaches the body.
-use Rattle.std.specs.Prelude.{◌≡◌, ◌⊎◌, ◌<◌, ℕ, suc, Bool, true, false, [], ◌∷◌, ◌++◌, Option, Some, None, All, nat_eq, not, slice_get, if◌then◌else◌}
+-- and the server make of it. What of the variable waits for an answer stands in a joint (`Kept`), so the server's answers reach the body;
+-- where it asks at an end in no joint the request is lost in both.
+use Rattle.std.specs.Prelude.{◌≡◌, ◌⊎◌, ◌<◌, ◌^◌, ℕ, suc, Bool, true, false, [], ◌∷◌, ◌++◌, Option, Some, None, All, nat_eq, not, slice_get, if◌then◌else◌}
 use Rattle.std.proofs.Common.{arith, refl, sym, ap, subst, inl, inr, ◌∙◌}
+use Rattle.std.proofs.lemmas.Option.{same_Some}
 use Rattle.std.proofs.lemmas.Bool.{eqb-true}
 use Rattle.gos_types.specs.declared.shakes.Role.{Role}
 use Rattle.gos_types.specs.declared.shakes.Role.TheVariants.{Serve, Ask}
 use Rattle.gos_types.specs.Events.{Direction, Request, Answer}
-use Rattle.gos_plan.specs.Kinds.{Part, Contact, asks}
+use Rattle.gos_plan.specs.Kinds.{Part, Contact, asks, contacts_of}
 use Rattle.gos_plan.specs.Firing.{Rest, State, Slot, Req, Ans, Row, firing}
 use Rattle.gos_plan.specs.Plans.{End, PartEnd, ImportEnd, ResultEnd, Plan, contact_at}
-use Rattle.gos_plan.specs.Tokens.{Tokens, Element, Fire, Out, In, places_of, held_at, with_held, token_at, with_token, with_state, end_of, shake_of, way_of, firing_of, fired, way_taken, way_put, Passes, Does, Runs, IsIdle}
+use Rattle.gos_plan.specs.Tokens.{Tokens, Element, Fire, Out, In, places_of, held_at, with_held, token_at, with_token, with_state, end_of, shake_of, way_of, bits_of, firing_of, fired, way_taken, way_put, Passes, Does, Runs, IsIdle}
 use Rattle.gos_plan.specs.TokenBits.{LiteralFits, AllFit}
 use Rattle.gos_plan.proofs.JointLemmas.{found, which_end}
 use Rattle.gos_plan.proofs.HeldLemmas.{nothing_there}
@@ -31,7 +33,7 @@ use Rattle.gos_nodes.specs.blocks.Servers.{run_of, after_pass, begin_row, serve_
 use Rattle.gos_nodes.specs.blocks.Block.{Block, IsBlock}
 use Rattle.gos_nodes.proofs.blocks.ServerLemmas.{not_run}
 use Rattle.gos_nodes.proofs.blocks.RegionLemmas as region
-use Rattle.gos_nodes.proofs.blocks.RegionLemmas.{port}
+use Rattle.gos_nodes.proofs.blocks.RegionLemmas.{port, IsPort}
 
 -- the body puts a token at a handshake of its variable, and at once one comes in, there or at another
 abbrev pub Served : Plan → Block → ℕ → ℕ → ℕ → ℕ → Tokens → Tokens → Type 0
@@ -63,7 +65,7 @@ pub record Supplies (r : Plan) (b : Block) (slot : Slot) (s t : Tokens) : Type 0
   pub serves : Serves b.server (s.state b.own) slot row
   pub took : Took r b slot row s
   pub stands : StandsIn b.body (ImportEnd b.place serves.at)
-  pub stands_back : StandsIn b.body (ImportEnd b.place serves.back)
+  pub answered : serves.given.role ≡ Serve → StandsIn b.body (ImportEnd b.place serves.back)
   pub served : Served r b serves.at value serves.back (serves.number value) s t
   pub state : t.state b.own ≡ serves.next value
   pub gates : (way : Direction) → gate t way ≡ gate s way
@@ -101,9 +103,11 @@ abbrev pub IsSeen : (r : Plan) (b : Block) (x : Element) (s t : Tokens) → Step
 IsSeen r b x s t (lost j k v s' t' c there none unseen same) = ⊥
 IsSeen r b x s t z = Unit {0}
 
--- the handshakes of the variable that are open to the body stand in joints of it
+-- the handshakes of the variable at which the body waits for an answer stand in joints of it
 abbrev pub Kept : Block → Tokens → Type 0
-Kept b s = (h : ℕ) → b.server.opened (s.state b.own) h ≡ true → StandsIn b.body (ImportEnd b.place h)
+Kept b s =
+    (h : ℕ) (c : Contact)
+    → slice_get (contacts_of b.server.supply) h ≡ Some c → c.role ≡ Serve → b.server.opened (s.state b.own) h ≡ true → StandsIn b.body (ImportEnd b.place h)
 
 -- what holds all along a list
 pub record Sound (r : Plan) (b : Block) (s : Tokens) : Type 0 where
@@ -116,7 +120,7 @@ module _ (r : Plan) (b : Block) (is : IsBlock r b) where
   is_run = record { right = is.cut.whole_right; there = is.run }
 
   -- the body hangs on it
-  hung : IsHung b.own 0 (bits r.outcome) b.cut r b.body
+  hung : IsHung (IsPort b) b.own 0 (bits r.outcome) b.cut r b.body
   hung = region.hung_body r b is
 
   pub own_state : (c : State) (s : Tokens) → cut_tokens b.cut b.body (with_state b.own c s) ≡ cut_tokens b.cut b.body s
@@ -288,7 +292,7 @@ module _ (r : Plan) (b : Block) (is : IsBlock r b) where
           serves = e;
           took = took;
           stands = stands;
-          stands_back = stands_back;
+          answered = answered;
           served = subst (λ (x : Row). Served r b e.at v e.back (e.number v) s (fired r b.own x v s)) (sym e.is_row) served;
           state = subst (λ (x : Row). (fired r b.own x v s).state b.own ≡ e.next v) (sym e.is_row) state;
           gates = λ way. subst (λ (x : Row). gate (fired r b.own x v s) way ≡ gate s way) (sym e.is_row) (gates way);
@@ -313,33 +317,67 @@ module _ (r : Plan) (b : Block) (is : IsBlock r b) where
         stands =
             subst (λ (h : ℕ). Owns b.body (port b h)) e.takes_at (stands_at (shake_of slot) v (way_of slot) s slot_apart lies)
 
-        stands_back : StandsIn b.body (ImportEnd b.place e.back)
-        stands_back = by_role e.given.role refl
+        answered : e.given.role ≡ Serve → StandsIn b.body (ImportEnd b.place e.back)
+        answered serves = by_test (nat_eq e.at e.back) refl (e.turn ∙ ap (λ (x : Role). not (is_request (way_put x))) serves)
           where
             by_test : (t : Bool) → nat_eq e.at e.back ≡ t
                 → (if t then is_request (way_taken e.taken.role) else b.server.opened (s.state b.own) e.back) ≡ true → StandsIn b.body (ImportEnd b.place e.back)
             by_test true same up =
                 let one : e.at ≡ e.back = eqb-true e.at e.back same in subst (λ (h : ℕ). StandsIn b.body (ImportEnd b.place h)) one stands
-            by_test false apart up = sound.kept e.back up
-
-            by_role : (role : Role) → e.given.role ≡ role → StandsIn b.body (ImportEnd b.place e.back)
-            by_role Ask asks = is.heard e.at e.back e.given stands e.back_there asks
-            by_role Serve serves = by_test (nat_eq e.at e.back) refl (e.turn ∙ ap (λ (x : Role). not (is_request (way_put x))) serves)
+            by_test false apart up = sound.kept e.back e.given e.back_there serves up
 
         inner_slot : b.cut.inner (end_of b.own slot) ≡ Some (ImportEnd b.place e.at)
         inner_slot = ap (λ (h : ℕ). b.cut.inner (PartEnd b.own h)) e.takes_at ∙ inner_port e.at stands
 
-        inner_reply : b.cut.inner (end_of b.own e.reply) ≡ Some (ImportEnd b.place e.back)
-        inner_reply = ap (λ (h : ℕ). b.cut.inner (PartEnd b.own h)) e.puts_at ∙ inner_port e.back stands_back
+        inner_reply : b.cut.inner (end_of b.own e.reply) ≡ b.cut.inner (PartEnd b.own (suc e.back))
+        inner_reply = ap (λ (h : ℕ). b.cut.inner (PartEnd b.own h)) e.puts_at
 
-        served : Served r b e.at v e.back (e.number v) s (fired r b.own row_is v s)
-        served =
+        -- what the body sees of it, where the reply lies behind this end
+        body_runs : (o : Option End) → b.cut.inner (PartEnd b.own (suc e.back)) ≡ o
+            → Runs b.body (Out (ImportEnd b.place e.at) v ∷ (in_if o (e.number v) ++ [])) (cut_tokens b.cut b.body s) (cut_tokens b.cut b.body (fired r b.own row_is v s))
+        body_runs o inner =
             subst (λ (o : Option End).
-            Runs b.body (Out (ImportEnd b.place e.at) v ∷ (in_if o (e.number v) ++ [])) (cut_tokens b.cut b.body s) (cut_tokens b.cut b.body (fired r b.own row_is v s))) inner_reply
+            Runs b.body (Out (ImportEnd b.place e.at) v ∷ (in_if o (e.number v) ++ [])) (cut_tokens b.cut b.body s) (cut_tokens b.cut b.body (fired r b.own row_is v s))) (inner_reply ∙ inner)
             (subst (λ (o : Option End).
             Runs b.body (out_if o v ++ (in_if (b.cut.inner (end_of b.own e.reply)) (e.number v) ++ [])) (cut_tokens b.cut b.body s)
             (cut_tokens b.cut b.body (fired r b.own row_is v s))) inner_slot
             (body_sees slot row_is v s sound.fit lies (took ∙ ap Some e.is_row)))
+
+        -- a request at an end in no joint is lost
+        lost_runs : places_of b.body (ImportEnd b.place e.back) ≡ None → e.given.role ≡ Ask
+            → Runs b.body (Out (ImportEnd b.place e.at) v ∷ []) (cut_tokens b.cut b.body s) (cut_tokens b.cut b.body (fired r b.own row_is v s))
+            → Served r b e.at v e.back (e.number v) s (fired r b.own row_is v s)
+        lost_runs none asks (a, out, same) = (a, out, (cut_tokens b.cut b.body (fired r b.own row_is v s), does, refl))
+          where
+            here : (e.number v < 2 ^ bits_of e.given (way_put e.given.role))
+                × (cut_tokens b.cut b.body (fired r b.own row_is v s) ≡ with_token b.body (ImportEnd b.place e.back) (way_put e.given.role) (Some (e.number v)) a)
+            here = (
+              subst (λ (x : Role). e.number v < 2 ^ bits_of e.given (way_put x)) (sym asks) (e.fits v asks),
+              same ∙ sym (ap (λ (o : Option End). with_held (way_put e.given.role) o (Some (e.number v)) a) none),
+            )
+
+            does : Does b.body (In (ImportEnd b.place e.back) (e.number v)) a (cut_tokens b.cut b.body (fired r b.own row_is v s))
+            does = (
+              tt,
+              subst (λ (o : Option Contact). Passes b.body (In (ImportEnd b.place e.back) (e.number v)) o a (cut_tokens b.cut b.body (fired r b.own row_is v s)))
+                  (sym (region.variable_contact r b is e.back ∙ e.back_there)) here,
+            )
+
+        served : Served r b e.at v e.back (e.number v) s (fired r b.own row_is v s)
+        served = by_role e.given.role refl
+          where
+            joined : StandsIn b.body (ImportEnd b.place e.back) → Served r b e.at v e.back (e.number v) s (fired r b.own row_is v s)
+            joined standing = body_runs (Some (ImportEnd b.place e.back)) (inner_port e.back standing)
+
+            by_place : (o : Option End) → places_of b.body (ImportEnd b.place e.back) ≡ o → e.given.role ≡ Ask
+                → Served r b e.at v e.back (e.number v) s (fired r b.own row_is v s)
+            by_place None none asks = lost_runs none asks (body_runs None (region.no_inner_port r b is (suc e.back) none))
+            by_place (Some a) named asks =
+                let at = found b.body.joints (ImportEnd b.place e.back) a named in joined (at.joint, listed b.body.joints at.joint at.is_in, at.stands)
+
+            by_role : (role : Role) → e.given.role ≡ role → Served r b e.at v e.back (e.number v) s (fired r b.own row_is v s)
+            by_role Serve serves = joined (answered serves)
+            by_role Ask asks = by_place (places_of b.body (ImportEnd b.place e.back)) refl asks
 
         state : (fired r b.own row_is v s).state b.own ≡ e.next v
         state = kept_state is_run (shake_of e.reply) (way_of e.reply) (Some (e.number v)) u1 ∙ new_state is_run (e.next v) u0
@@ -444,33 +482,37 @@ module _ (r : Plan) (b : Block) (is : IsBlock r b) where
 
     -- it holds on
     kept_so : (s t : Tokens) → t.state b.own ≡ s.state b.own → Kept b s → Kept b t
-    kept_so s t state kept h up = kept h (sym (ap (λ (c : State). b.server.opened c h) state) ∙ up)
+    kept_so s t state kept h c there serves up = kept h c there serves (sym (ap (λ (c : State). b.server.opened c h) state) ∙ up)
 
     kept_on : (x : Element) (s t : Tokens) → Step r b x s t → Kept b s → Kept b t
     kept_on x s t (of_body x' y s' t' local sees same) kept = kept_so s' t' same.state kept
     kept_on x s t (asked v s' t' small unseen state ask ans) kept = kept_so s' t' state kept
     kept_on x s t (told v s' t' unseen state ans none ask) kept = kept_so s' t' state kept
-    kept_on x s t (starts s' t' z) kept = λ h up. let clash : true ≡ false = sym up ∙ z.closed h in absurd (cc clash)
-    kept_on x s t (supplies slot s' t' z) kept = λ h up. by_back h (nat_eq z.serves.back h) refl (sym (opened h) ∙ up)
+    kept_on x s t (starts s' t' z) kept = λ h c there serves up. let clash : true ≡ false = sym up ∙ z.closed h in absurd (cc clash)
+    kept_on x s t (supplies slot s' t' z) kept = λ h c there serves up. by_back h c there serves (nat_eq z.serves.back h) refl (sym (opened h) ∙ up)
       where
         opened : (h : ℕ)
             → b.server.opened (t'.state b.own) h
             ≡ after_pass z.serves.back (way_put z.serves.given.role) (after_pass z.serves.at (way_taken z.serves.taken.role) (b.server.opened (s'.state b.own))) h
         opened h = ap (λ (c : State). b.server.opened c h) z.state ∙ z.serves.opened z.value h
 
-        by_at : (h : ℕ) (t : Bool) → nat_eq z.serves.at h ≡ t → (if t then is_request (way_taken z.serves.taken.role) else b.server.opened (s'.state b.own) h) ≡ true
+        by_at : (h : ℕ) (c : Contact) → slice_get (contacts_of b.server.supply) h ≡ Some c → c.role ≡ Serve → (t : Bool) → nat_eq z.serves.at h ≡ t
+            → (if t then is_request (way_taken z.serves.taken.role) else b.server.opened (s'.state b.own) h) ≡ true
             → StandsIn b.body (ImportEnd b.place h)
-        by_at h true e up = let same : z.serves.at ≡ h = eqb-true z.serves.at h e in subst (λ (n : ℕ). StandsIn b.body (ImportEnd b.place n)) same z.stands
-        by_at h false e up = kept h up
+        by_at h c there serves true e up = let same : z.serves.at ≡ h = eqb-true z.serves.at h e in subst (λ (n : ℕ). StandsIn b.body (ImportEnd b.place n)) same z.stands
+        by_at h c there serves false e up = kept h c there serves up
 
-        by_back : (h : ℕ) (t : Bool) → nat_eq z.serves.back h ≡ t
+        by_back : (h : ℕ) (c : Contact) → slice_get (contacts_of b.server.supply) h ≡ Some c → c.role ≡ Serve → (t : Bool) → nat_eq z.serves.back h ≡ t
             → (if t then is_request (way_put z.serves.given.role)
             else after_pass z.serves.at (way_taken z.serves.taken.role) (b.server.opened (s'.state b.own)) h) ≡ true
             → StandsIn b.body (ImportEnd b.place h)
-        by_back h true e up = let same : z.serves.back ≡ h = eqb-true z.serves.back h e in subst (λ (n : ℕ). StandsIn b.body (ImportEnd b.place n)) same z.stands_back
-        by_back h false e up = by_at h (nat_eq z.serves.at h) refl up
+        by_back h c there serves true e up =
+            let same : z.serves.back ≡ h = eqb-true z.serves.back h e in
+            let one : z.serves.given ≡ c = same_Some z.serves.given c (sym z.serves.back_there ∙ (ap (slice_get (contacts_of b.server.supply)) same ∙ there)) in
+            subst (λ (n : ℕ). StandsIn b.body (ImportEnd b.place n)) same (z.answered (ap (λ (x : Contact). x.role) one ∙ serves))
+        by_back h c there serves false e up = by_at h c there serves (nat_eq z.serves.at h) refl up
     kept_on x s t (ended s' t' z) kept =
-        λ h up.
+        λ h c there serves up.
         let shut = is.server.closed (t'.state b.own) h (ap b.server.runs z.rest ∙ is.server.rests) in
         let clash : true ≡ false = sym up ∙ shut in absurd (cc clash)
     kept_on x s t (lost j k v s' t' c there none unseen same) kept = kept_so s' t' same.state kept
@@ -486,7 +528,7 @@ module _ (r : Plan) (b : Block) (is : IsBlock r b) where
   sound_first s idle =
       record {
         fit = idle_fits r s idle;
-        kept = λ h up.
+        kept = λ h c there serves up.
             let shut = is.server.closed (s.state b.own) h (ap b.server.runs (idle.1 b.own) ∙ is.server.rests) in
             let clash : true ≡ false = sym up ∙ shut in absurd (cc clash);
       }

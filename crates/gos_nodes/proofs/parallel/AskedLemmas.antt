@@ -17,7 +17,7 @@ use Rattle.gos_realises.proofs.realises.RingLemmas.{after}
 use Rattle.gos_nodes.specs.parallel.Parallel.{IsPartOf}
 use Rattle.gos_nodes.proofs.parallel.HungLemmas.{IsHung, Local, fires, puts_out, takes_in, result_held, held_token}
 use Rattle.gos_nodes.proofs.parallel.GateLemmas.{gate, IsRun, part_gate, gate_apart}
-use Rattle.gos_nodes.proofs.parallel.OpenLemmas.{OpenAgree, opened_so, put_agrees, taken_agrees, firing_same}
+use Rattle.gos_nodes.proofs.parallel.OpenLemmas.{AgreeBy, opened_so, put_agrees, taken_agrees, firing_same}
 
 -- what is open at an end after it was opened or closed, and at another end
 pub with_itself : (e : End) (b : Bool) (o : Open) → with_open e b o e ≡ b
@@ -43,7 +43,7 @@ pub contact_part : (o : Option Part) (h : ℕ) (c : Contact) → slice_get (cont
 contact_part None h c e = absurd (none-some c e)
 contact_part (Some k) h c e = (k, refl)
 
-module _ {d h w : ℕ} {f : Cut} {r p : Plan} (hung : IsHung d h w f r p) where
+module _ {Counted : End → Type 0} {d h w : ℕ} {f : Cut} {r p : Plan} (hung : IsHung Counted d h w f r p) where
   -- the result, as the region has it
   pub asked_next : (s : Tokens) (own next : Open) → ComesInOrder p (In (ResultEnd 0) 0) s own next → next ≡ after_put p (ResultEnd 0) Request own
   asked_next s own next comes = (comes (asks 0 w) hung.there).1
@@ -52,19 +52,19 @@ module _ {d h w : ℕ} {f : Cut} {r p : Plan} (hung : IsHung d h w f r p) where
   told_next v s own next comes = comes (asks 0 w) hung.there
 
   -- and as the whole has it
-  pub asked_agrees : handshake_at r (PartEnd d h) ≡ PartEnd d h → (o own : Open) → OpenAgree f p o own
-      → OpenAgree f p (with_open (PartEnd d h) true o) (after_put p (ResultEnd 0) Request own)
+  pub asked_agrees : handshake_at r (PartEnd d h) ≡ PartEnd d h → (o own : Open) → AgreeBy Counted f p o own
+      → AgreeBy Counted f p (with_open (PartEnd d h) true o) (after_put p (ResultEnd 0) Request own)
   asked_agrees name o own agree =
-      subst (λ (x : Open). OpenAgree f p x (after_put p (ResultEnd 0) Request own))
+      subst (λ (x : Open). AgreeBy Counted f p x (after_put p (ResultEnd 0) Request own))
       (ap (λ (e : End). after_put r e Request o) hung.result ∙ ap (λ (n : End). with_open n true o) name)
-      (put_agrees hung (ResultEnd 0) Request o own (result_held p) agree)
+      (put_agrees hung (ResultEnd 0) Request o own (result_held hung) agree)
 
-  pub told_agrees : handshake_at r (PartEnd d h) ≡ PartEnd d h → (o own : Open) → OpenAgree f p o own
-      → OpenAgree f p (with_open (PartEnd d h) false o) (after_taken p (ResultEnd 0) Answer own)
+  pub told_agrees : handshake_at r (PartEnd d h) ≡ PartEnd d h → (o own : Open) → AgreeBy Counted f p o own
+      → AgreeBy Counted f p (with_open (PartEnd d h) false o) (after_taken p (ResultEnd 0) Answer own)
   told_agrees name o own agree =
-      subst (λ (x : Open). OpenAgree f p x (after_taken p (ResultEnd 0) Answer own))
+      subst (λ (x : Open). AgreeBy Counted f p x (after_taken p (ResultEnd 0) Answer own))
       (ap (λ (e : End). after_taken r e Answer o) hung.result ∙ ap (λ (n : End). with_open n false o) name)
-      (taken_agrees hung (ResultEnd 0) Answer o own (result_held p) agree)
+      (taken_agrees hung (ResultEnd 0) Answer o own (result_held hung) agree)
 
   -- a part of the region finds a row in the whole where it does in the region
   pub welcome_inside : (s : Tokens) → AllWelcome p (cut_tokens f p s) → (i : ℕ) → IsPartOf f i → (t : Slot) (x : Contact) (v : ℕ)

@@ -1,7 +1,7 @@
 -- A region whose result hangs on an end of a part that asks it: where its ends stand in the whole, what lies there, and what it sees.
 --
--- The region's result is counted among its ends also where it stands in no joint: then the part asks in vain, and the region sees
--- a request that is lost. A side of `||` is such a region, and so is the body of a block.
+-- Some ends are counted among the region's also where they stand in no joint: its result, which the part then asks in vain, and of the
+-- body of a block the ends at which it is served. The region then sees a token that is lost.
 use Rattle.std.specs.Prelude.{◌≡◌, ◌⊎◌, ◌<◌, ℕ, true, [], ◌∷◌, Option, Some, None, slice_get}
 use Rattle.std.proofs.Common.{arith, refl, sym, ap, subst, inl, inr, ◌∙◌}
 use Rattle.std.proofs.lemmas.Option.{slice_get_within}
@@ -18,21 +18,33 @@ use Rattle.gos_plan.specs.Orderly.{named_by, handshake_at}
 use Rattle.gos_plan.proofs.JointLemmas.{contained, found, joined, same_is, same_itself, stands_there, asking_stands, serving_stands}
 use Rattle.gos_joining.specs.webs.Webs.{joint}
 use Rattle.gos_joining.specs.webs.Cutting.{Cut, lies_at, StandsIn, IsCut, cut_tokens}
-use Rattle.gos_joining.proofs.webs.MovedLemmas.{listed}
 use Rattle.gos_joining.proofs.webs.CutLemmas.{Owns, one_end, asker_asks, asker_own, place_there, no_place, token_cut, token_put, state_lost, stands_own}
 use Rattle.gos_realises.specs.realises.Regular.{count}
 use Rattle.gos_realises.proofs.realises.ToldLemmas.{there_is}
 use Rattle.gos_realises.proofs.realises.InputLemmas.{result_asks}
 use Rattle.gos_nodes.specs.parallel.Parallel.{IsJointOf, IsPartOf}
 
--- Region f of the whole r has the plan p. Its result stands at handshake h of part d, which is none of the region's, and no other end
--- of the region does. That end stands in a joint only where the result does. The answer has w bits.
-pub record IsHung (d h w : ℕ) (f : Cut) (r p : Plan) : Type 0 where
+-- an end of a part that there is, a joined port, or an end that is counted
+abbrev pub HeldBy : (End → Type 0) → Plan → End → Type 0
+HeldBy Counted p e = Owns p e ⊎ Counted e
+
+-- where the result alone is counted
+abbrev pub IsResult : End → Type 0
+IsResult e = e ≡ ResultEnd 0
+
+abbrev pub Held : Plan → End → Type 0
+Held = HeldBy IsResult
+
+-- Region f of the whole r has the plan p. Its result stands at handshake h of part d, which is none of the region's, and it is counted.
+-- No two ends that are held stand at one end, and where one that is counted stands in no joint, neither does the end where it stands. The
+-- answer has w bits.
+pub record IsHung (Counted : End → Type 0) (d h w : ℕ) (f : Cut) (r p : Plan) : Type 0 where
   pub cut : IsCut f r p
   pub outside : f.number d ≡ None
   pub result : f.outer (ResultEnd 0) ≡ PartEnd d h
-  pub alone : (e : End) → Owns p e → lies_at f e ≡ PartEnd d h → e ≡ ResultEnd 0
-  pub free : places_of p (ResultEnd 0) ≡ None → places_of r (PartEnd d h) ≡ None
+  pub counted : Counted (ResultEnd 0)
+  pub alone : (e x : End) → HeldBy Counted p e → Counted x → lies_at f e ≡ lies_at f x → e ≡ x
+  pub free : (x : End) → Counted x → places_of p x ≡ None → places_of r (lies_at f x) ≡ None
   pub there : contact_at p (ResultEnd 0) ≡ Some (asks 0 w)
 
 -- an element of the whole, and the region's element that it is
@@ -72,35 +84,31 @@ result_shake o right done k (j, listing, stands) =
     let place = stands_there o j (ResultEnd k) right (contained o.joints j listing) stands in
     let one = joined o (ResultEnd k) j.asking right place in (result_asks o.outcome done k one.here one.is_here).0
 
--- an end of a part that there is, a joined port, or the result
-abbrev pub Held : Plan → End → Type 0
-Held p e = Owns p e ⊎ (e ≡ ResultEnd 0)
+module _ {Counted : End → Type 0} {d h w : ℕ} {f : Cut} {r p : Plan} (hung : IsHung Counted d h w f r p) where
+  pub result_held : HeldBy Counted p (ResultEnd 0)
+  result_held = inr hung.counted
 
-pub result_held : (p : Plan) → Held p (ResultEnd 0)
-result_held p = inr refl
-
-module _ {d h w : ℕ} {f : Cut} {r p : Plan} (hung : IsHung d h w f r p) where
-  -- an end has places in the region and in the whole, or it is the result and has none
+  -- an end has places in the region and in the whole, or it has none
   data Placed (e : End) : Type 0 where
     owned : Owns p e → Placed e
-    lost : e ≡ ResultEnd 0 → places_of p e ≡ None → places_of r (lies_at f e) ≡ None → Placed e
+    lost : places_of p e ≡ None → places_of r (lies_at f e) ≡ None → Placed e
 
-  placed : (e : End) → Held p e → Placed e
+  placed : (e : End) → HeldBy Counted p e → Placed e
   placed e (inl own) = owned own
-  placed e (inr is) = subst Placed (sym is) (by_place (places_of p (ResultEnd 0)) refl)
+  placed e (inr counted) = by_place (places_of p e) refl
     where
-      by_place : (o : Option End) → places_of p (ResultEnd 0) ≡ o → Placed (ResultEnd 0)
-      by_place None none = lost refl none (ap (places_of r) hung.result ∙ hung.free none)
+      by_place : (o : Option End) → places_of p e ≡ o → Placed e
+      by_place None none = lost none (hung.free e counted none)
       by_place (Some a) named =
-          let at = found p.joints (ResultEnd 0) a named in owned (at.joint, listed p.joints at.joint at.is_in, at.stands)
+          let at = found p.joints e a named in owned (stands_own p at.joint e hung.cut.right at.is_in at.stands)
 
-  pub one_held : (a b : End) → Held p a → Held p b → lies_at f a ≡ lies_at f b → a ≡ b
+  pub one_held : (a b : End) → HeldBy Counted p a → HeldBy Counted p b → lies_at f a ≡ lies_at f b → a ≡ b
   one_held a b (inl own) (inl also) same = one_end f r p hung.cut a b own also same
-  one_held a b (inl own) (inr is) same = hung.alone a own (same ∙ (ap (lies_at f) is ∙ hung.result)) ∙ sym is
-  one_held a b (inr is) (inl own) same = is ∙ sym (hung.alone b own (sym same ∙ (ap (lies_at f) is ∙ hung.result)))
-  one_held a b (inr is) (inr also) same = is ∙ sym also
+  one_held a b (inl own) (inr counted) same = hung.alone a b (inl own) counted same
+  one_held a b (inr counted) (inl also) same = sym (hung.alone b a (inl also) counted (sym same))
+  one_held a b (inr counted) (inr also) same = hung.alone a b (inr counted) also same
 
-  pub same_held : (a b : End) → Held p a → Held p b → same_end (lies_at f a) (lies_at f b) ≡ same_end a b
+  pub same_held : (a b : End) → HeldBy Counted p a → HeldBy Counted p b → same_end (lies_at f a) (lies_at f b) ≡ same_end a b
   same_held a b held also = same_tests (same_end (lies_at f a) (lies_at f b)) (same_end a b) to from
     where
       to : same_end (lies_at f a) (lies_at f b) ≡ true → same_end a b ≡ true
@@ -110,7 +118,7 @@ module _ {d h w : ℕ} {f : Cut} {r p : Plan} (hung : IsHung d h w f r p) where
       from t = subst (λ (x : End). same_end (lies_at f a) (lies_at f x) ≡ true) (same_is a b t) (same_itself (lies_at f a))
 
   -- the name of a handshake
-  pub name_lies : (e : End) → Held p e → handshake_at r (lies_at f e) ≡ lies_at f (handshake_at p e)
+  pub name_lies : (e : End) → HeldBy Counted p e → handshake_at r (lies_at f e) ≡ lies_at f (handshake_at p e)
   name_lies e held = by_placed (placed e held)
     where
       by_name : (o : Option End) → places_of p e ≡ o → Owns p e → handshake_at r (lies_at f e) ≡ lies_at f (handshake_at p e)
@@ -121,36 +129,36 @@ module _ {d h w : ℕ} {f : Cut} {r p : Plan} (hung : IsHung d h w f r p) where
 
       by_placed : Placed e → handshake_at r (lies_at f e) ≡ lies_at f (handshake_at p e)
       by_placed (owned own) = by_name (places_of p e) refl own
-      by_placed (lost is none nowhere) = ap (λ o. named_by o (lies_at f e)) nowhere ∙ sym (ap (λ o. lies_at f (named_by o e)) none)
+      by_placed (lost none nowhere) = ap (λ o. named_by o (lies_at f e)) nowhere ∙ sym (ap (λ o. lies_at f (named_by o e)) none)
 
-  pub name_held : (e : End) → Held p e → Held p (handshake_at p e)
+  pub name_held : (e : End) → HeldBy Counted p e → HeldBy Counted p (handshake_at p e)
   name_held e held = by_place (places_of p e) refl
     where
-      by_place : (o : Option End) → places_of p e ≡ o → Held p (handshake_at p e)
-      by_place None none = subst (λ o. Held p (named_by o e)) (sym none) held
-      by_place (Some a) named = subst (λ o. Held p (named_by o e)) (sym named) (inl (asker_own p hung.cut.right a (asker_asks p e a named)))
+      by_place : (o : Option End) → places_of p e ≡ o → HeldBy Counted p (handshake_at p e)
+      by_place None none = subst (λ o. HeldBy Counted p (named_by o e)) (sym none) held
+      by_place (Some a) named = subst (λ o. HeldBy Counted p (named_by o e)) (sym named) (inl (asker_own p hung.cut.right a (asker_asks p e a named)))
 
   -- what lies at an end, and what is put or taken there
-  pub held_token : (e : End) → Held p e → (s : Tokens) (way : Direction) → token_at p (cut_tokens f p s) e way ≡ token_at r s (lies_at f e) way
+  pub held_token : (e : End) → HeldBy Counted p e → (s : Tokens) (way : Direction) → token_at p (cut_tokens f p s) e way ≡ token_at r s (lies_at f e) way
   held_token e held s way = by_placed (placed e held)
     where
       by_placed : Placed e → token_at p (cut_tokens f p s) e way ≡ token_at r s (lies_at f e) way
       by_placed (owned own) = token_cut f r p hung.cut e own s way
-      by_placed (lost is none nowhere) = ap (held_at (cut_tokens f p s) way) none ∙ sym (ap (held_at s way) nowhere)
+      by_placed (lost none nowhere) = ap (held_at (cut_tokens f p s) way) none ∙ sym (ap (held_at s way) nowhere)
 
-  pub held_put : (e : End) → Held p e → (way : Direction) (held : Option ℕ) (s : Tokens)
+  pub held_put : (e : End) → HeldBy Counted p e → (way : Direction) (held : Option ℕ) (s : Tokens)
       → with_token p e way held (cut_tokens f p s) ≡ cut_tokens f p (with_token r (lies_at f e) way held s)
   held_put e is way held s = by_placed (placed e is)
     where
       by_placed : Placed e → with_token p e way held (cut_tokens f p s) ≡ cut_tokens f p (with_token r (lies_at f e) way held s)
       by_placed (owned own) = token_put f r p hung.cut e own way held s
-      by_placed (lost same none nowhere) =
+      by_placed (lost none nowhere) =
           ap (λ o. with_held way o held (cut_tokens f p s)) none ∙ sym (ap (λ o. cut_tokens f p (with_held way o held s)) nowhere)
 
   pub result_put : (way : Direction) (held : Option ℕ) (s : Tokens)
       → cut_tokens f p (with_token r (PartEnd d h) way held s) ≡ with_token p (ResultEnd 0) way held (cut_tokens f p s)
   result_put way held s =
-      ap (λ (e : End). cut_tokens f p (with_token r e way held s)) (sym hung.result) ∙ sym (held_put (ResultEnd 0) (result_held p) way held s)
+      ap (λ (e : End). cut_tokens f p (with_token r e way held s)) (sym hung.result) ∙ sym (held_put (ResultEnd 0) result_held way held s)
 
   -- the result is asked, and answers
   pub is_asked : (s t : Tokens) → cut_tokens f p t ≡ with_token p (ResultEnd 0) Request (Some 0) (cut_tokens f p s)
@@ -163,7 +171,7 @@ module _ {d h w : ℕ} {f : Cut} {r p : Plan} (hung : IsHung d h w f r p) where
       → Does p (Out (ResultEnd 0) v) (cut_tokens f p s) (cut_tokens f p t)
   is_answered v s t lies is =
       let here : token_at p (cut_tokens f p s) (ResultEnd 0) Answer ≡ Some v =
-      held_token (ResultEnd 0) (result_held p) s Answer ∙ (ap (λ (e : End). token_at r s e Answer) hung.result ∙ lies) in
+      held_token (ResultEnd 0) result_held s Answer ∙ (ap (λ (e : End). token_at r s e Answer) hung.result ∙ lies) in
       (tt, subst (λ (o : Option Contact). Passes p (Out (ResultEnd 0) v) o (cut_tokens f p s) (cut_tokens f p t)) (sym hung.there) (here, is))
 
   -- what changes of a part that is none of its own it doesn't see

@@ -7,7 +7,7 @@ use Rattle.gos_model.specs.Typing.{Imported}
 use Rattle.gos_model.specs.Labels.{Given, Taken}
 use Rattle.gos_model.specs.Moves.{Act}
 use Rattle.gos_plan.specs.Firing.{Slot, Req, Ans, Row}
-use Rattle.gos_plan.specs.Plans.{PartEnd, Plan}
+use Rattle.gos_plan.specs.Plans.{End, PartEnd, Plan}
 use Rattle.gos_plan.specs.Tokens.{Tokens, Element, Fire, token_at, firing_of}
 use Rattle.gos_joining.specs.webs.Cutting.{Cut, cut_tokens}
 use Rattle.gos_realises.specs.realises.Matched.{port_if, event_number, shows, asks_on, GoesOn}
@@ -25,7 +25,7 @@ local_shows f r p x y (takes_in i j k v stands leads slices) =
 pub not_given : (o : Option Imported) (x : Imported) → o ≡ Some x → port_if o ≡ Given → ⊥
 not_given o x at same = let bad : Taken x.name ≡ Given = sym (ap port_if at) ∙ same in cc bad
 
-module _ {d h w : ℕ} {f : Cut} {r p : Plan} (hung : IsHung d h w f r p) where
+module _ {Counted : End → Type 0} {d h w : ℕ} {f : Cut} {r p : Plan} (hung : IsHung Counted d h w f r p) where
   pub local_goes : (x y : Element) (s : Tokens) (acts : List Act) → Local f r p x y → GoesOn p (cut_tokens f p s) y acts → GoesOn r s x acts
   local_goes x y s acts (fires i j (Req k) number) goes = tt
   local_goes x y s acts (fires i j (Ans k) number) goes = λ v row lies by asks.

@@ -20,16 +20,22 @@ use Rattle.gos_joining.specs.webs.Cutting.{Cut, lies_at, cut_tokens}
 use Rattle.gos_joining.proofs.webs.CutLemmas.{state_put}
 use Rattle.gos_nodes.proofs.windows.ClosingLemmas.{asks_itself}
 use Rattle.gos_nodes.proofs.parallel.HungLemmas as region
-use Rattle.gos_nodes.proofs.parallel.HungLemmas.{IsHung, Held, Local, fires, puts_out, takes_in}
+use Rattle.gos_nodes.proofs.parallel.HungLemmas.{HeldBy, IsResult, IsHung, Local, fires, puts_out, takes_in}
 use Rattle.gos_nodes.proofs.parallel.GateLemmas.{there_contact}
 
 -- a region's handshakes are open in the whole where they are in the region
+abbrev pub AgreeBy : (End → Type 0) → Cut → Plan → Open → Open → Type 0
+AgreeBy Counted f p o own = (n : End) → HeldBy Counted p n → o (lies_at f n) ≡ own n
+
 abbrev pub OpenAgree : Cut → Plan → Open → Open → Type 0
-OpenAgree f p o own = (n : End) → Held p n → o (lies_at f n) ≡ own n
+OpenAgree = AgreeBy IsResult
 
 -- an end that is none of the region's
+abbrev pub ApartBy : (End → Type 0) → Cut → Plan → End → Type 0
+ApartBy Counted f p b = (n : End) → HeldBy Counted p n → same_end b (lies_at f n) ≡ false
+
 abbrev pub IsApart : Cut → Plan → End → Type 0
-IsApart f p b = (n : End) → Held p n → same_end b (lies_at f n) ≡ false
+IsApart = ApartBy IsResult
 
 pub opened_so : (b t : Bool) (old : Bool) → b ≡ false → (if b then t else old) ≡ old
 opened_so true t old e = absurd (cc e)
@@ -62,45 +68,45 @@ comes_by r i slot s w o m row does known facts v other lying firing =
     (with_state i (y.next v) (with_token r (end_of i y.takes) (way_of y.takes) None s))
     × (m ≡ after_puts r i (y.puts v) (after_taken r (end_of i slot) (way_of slot) o))) same (facts v)
 
-module _ {d h w : ℕ} {f : Cut} {r p : Plan} (hung : IsHung d h w f r p) where
-  with_agrees : (n : End) (b : Bool) (o own : Open) → Held p n → OpenAgree f p o own → OpenAgree f p (with_open (lies_at f n) b o) (with_open n b own)
+module _ {Counted : End → Type 0} {d h w : ℕ} {f : Cut} {r p : Plan} (hung : IsHung Counted d h w f r p) where
+  with_agrees : (n : End) (b : Bool) (o own : Open) → HeldBy Counted p n → AgreeBy Counted f p o own → AgreeBy Counted f p (with_open (lies_at f n) b o) (with_open n b own)
   with_agrees n b o own held agree m also =
       λ i. if region.same_held hung m n also held i then b else agree m also i
 
-  named_agrees : (e : End) (b : Bool) (o own : Open) → Held p e → OpenAgree f p o own
-      → OpenAgree f p (with_open (handshake_at r (lies_at f e)) b o) (with_open (handshake_at p e) b own)
+  named_agrees : (e : End) (b : Bool) (o own : Open) → HeldBy Counted p e → AgreeBy Counted f p o own
+      → AgreeBy Counted f p (with_open (handshake_at r (lies_at f e)) b o) (with_open (handshake_at p e) b own)
   named_agrees e b o own held agree =
-      subst (λ (x : End). OpenAgree f p (with_open x b o) (with_open (handshake_at p e) b own)) (sym (region.name_lies hung e held))
+      subst (λ (x : End). AgreeBy Counted f p (with_open x b o) (with_open (handshake_at p e) b own)) (sym (region.name_lies hung e held))
       (with_agrees (handshake_at p e) b o own (region.name_held hung e held) agree)
 
-  pub put_agrees : (e : End) (way : Direction) (o own : Open) → Held p e → OpenAgree f p o own
-      → OpenAgree f p (after_put r (lies_at f e) way o) (after_put p e way own)
+  pub put_agrees : (e : End) (way : Direction) (o own : Open) → HeldBy Counted p e → AgreeBy Counted f p o own
+      → AgreeBy Counted f p (after_put r (lies_at f e) way o) (after_put p e way own)
   put_agrees e Request o own held agree = named_agrees e true o own held agree
   put_agrees e Answer o own held agree = agree
 
-  pub taken_agrees : (e : End) (way : Direction) (o own : Open) → Held p e → OpenAgree f p o own
-      → OpenAgree f p (after_taken r (lies_at f e) way o) (after_taken p e way own)
+  pub taken_agrees : (e : End) (way : Direction) (o own : Open) → HeldBy Counted p e → AgreeBy Counted f p o own
+      → AgreeBy Counted f p (after_taken r (lies_at f e) way o) (after_taken p e way own)
   taken_agrees e Request o own held agree = agree
   taken_agrees e Answer o own held agree = named_agrees e false o own held agree
 
-  named_apart : (e b : End) (t : Bool) (o : Open) → Held p e → IsApart f p b → with_open (handshake_at r (lies_at f e)) t o b ≡ o b
+  named_apart : (e b : End) (t : Bool) (o : Open) → HeldBy Counted p e → ApartBy Counted f p b → with_open (handshake_at r (lies_at f e)) t o b ≡ o b
   named_apart e b t o held apart =
       opened_so (same_end b (handshake_at r (lies_at f e))) t (o b)
       (ap (same_end b) (region.name_lies hung e held) ∙ apart (handshake_at p e) (region.name_held hung e held))
 
-  pub put_apart : (e b : End) (way : Direction) (o : Open) → Held p e → IsApart f p b → after_put r (lies_at f e) way o b ≡ o b
+  pub put_apart : (e b : End) (way : Direction) (o : Open) → HeldBy Counted p e → ApartBy Counted f p b → after_put r (lies_at f e) way o b ≡ o b
   put_apart e b Request o held apart = named_apart e b true o held apart
   put_apart e b Answer o held apart = refl
 
-  pub taken_apart : (e b : End) (way : Direction) (o : Open) → Held p e → IsApart f p b → after_taken r (lies_at f e) way o b ≡ o b
+  pub taken_apart : (e b : End) (way : Direction) (o : Open) → HeldBy Counted p e → ApartBy Counted f p b → after_taken r (lies_at f e) way o b ≡ o b
   taken_apart e b Request o held apart = refl
   taken_apart e b Answer o held apart = named_apart e b false o held apart
 
-  open_there : (e : End) (o own : Open) → Held p e → OpenAgree f p o own → o (handshake_at r (lies_at f e)) ≡ own (handshake_at p e)
+  open_there : (e : End) (o own : Open) → HeldBy Counted p e → AgreeBy Counted f p o own → o (handshake_at r (lies_at f e)) ≡ own (handshake_at p e)
   open_there e o own held agree =
       ap o (region.name_lies hung e held) ∙ agree (handshake_at p e) (region.name_held hung e held)
 
-  pub put_well : (e : End) (way : Direction) (o own : Open) (s : Tokens) → Held p e → OpenAgree f p o own → ComesWell p e way own (cut_tokens f p s)
+  pub put_well : (e : End) (way : Direction) (o own : Open) (s : Tokens) → HeldBy Counted p e → AgreeBy Counted f p o own → ComesWell p e way own (cut_tokens f p s)
       → ComesWell r (lies_at f e) way o s
   put_well e Request o own s held agree shut = open_there e o own held agree ∙ shut
   put_well e Answer o own s held agree (up, empty) = (
@@ -109,21 +115,21 @@ module _ {d h w : ℕ} {f : Cut} {r p : Plan} (hung : IsHung d h w f r p) where
   )
 
   -- the tokens that a part puts
-  pub puts_agree : (j : ℕ) (k : Part) → slice_get p.parts j ≡ Some k → (ts : List Token) (o own : Open) → OpenAgree f p o own
-      → OpenAgree f p (after_puts r (f.part j) ts o) (after_puts p j ts own)
+  pub puts_agree : (j : ℕ) (k : Part) → slice_get p.parts j ≡ Some k → (ts : List Token) (o own : Open) → AgreeBy Counted f p o own
+      → AgreeBy Counted f p (after_puts r (f.part j) ts o) (after_puts p j ts own)
   puts_agree j k there [] o own agree = agree
   puts_agree j k there (t ∷ ts) o own agree =
       puts_agree j k there ts (after_put r (end_of (f.part j) t.slot) (way_of t.slot) o) (after_put p (end_of j t.slot) (way_of t.slot) own)
       (put_agrees (end_of j t.slot) (way_of t.slot) o own (inl (k, there)) agree)
 
-  pub puts_apart : (j : ℕ) (k : Part) → slice_get p.parts j ≡ Some k → (ts : List Token) (o : Open) (b : End) → IsApart f p b
+  pub puts_apart : (j : ℕ) (k : Part) → slice_get p.parts j ≡ Some k → (ts : List Token) (o : Open) (b : End) → ApartBy Counted f p b
       → after_puts r (f.part j) ts o b ≡ o b
   puts_apart j k there [] o b apart = refl
   puts_apart j k there (t ∷ ts) o b apart =
       puts_apart j k there ts (after_put r (end_of (f.part j) t.slot) (way_of t.slot) o) b apart
       ∙ put_apart (end_of j t.slot) b (way_of t.slot) o (inl (k, there)) apart
 
-  pub puts_well : (j : ℕ) (k : Part) → slice_get p.parts j ≡ Some k → (ts : List Token) (o own : Open) (s : Tokens) → OpenAgree f p o own
+  pub puts_well : (j : ℕ) (k : Part) → slice_get p.parts j ≡ Some k → (ts : List Token) (o own : Open) (s : Tokens) → AgreeBy Counted f p o own
       → AllComeWell p j ts own (cut_tokens f p s) → AllComeWell r (f.part j) ts o s
   puts_well j k there [] o own s agree well = tt
   puts_well j k there (t ∷ ts) o own s agree (first, later) = (
@@ -156,19 +162,19 @@ module _ {d h w : ℕ} {f : Cut} {r p : Plan} (hung : IsHung d h w f r p) where
   abbrev pub after_row : Plan → ℕ → Slot → Row → ℕ → Open → Open
   after_row a i slot row v o = after_puts a i (row.puts v) (after_taken a (end_of i slot) (way_of slot) o)
 
-  pub row_agrees : (j : ℕ) (k : Part) → slice_get p.parts j ≡ Some k → (slot : Slot) (row : Row) (v : ℕ) (o own : Open) → OpenAgree f p o own
-      → OpenAgree f p (after_row r (f.part j) slot row v o) (after_row p j slot row v own)
+  pub row_agrees : (j : ℕ) (k : Part) → slice_get p.parts j ≡ Some k → (slot : Slot) (row : Row) (v : ℕ) (o own : Open) → AgreeBy Counted f p o own
+      → AgreeBy Counted f p (after_row r (f.part j) slot row v o) (after_row p j slot row v own)
   row_agrees j k there slot row v o own agree =
       puts_agree j k there (row.puts v) (after_taken r (end_of (f.part j) slot) (way_of slot) o) (after_taken p (end_of j slot) (way_of slot) own)
       (taken_agrees (end_of j slot) (way_of slot) o own (inl (k, there)) agree)
 
-  pub row_apart : (j : ℕ) (k : Part) → slice_get p.parts j ≡ Some k → (slot : Slot) (row : Row) (v : ℕ) (o : Open) (b : End) → IsApart f p b
+  pub row_apart : (j : ℕ) (k : Part) → slice_get p.parts j ≡ Some k → (slot : Slot) (row : Row) (v : ℕ) (o : Open) (b : End) → ApartBy Counted f p b
       → after_row r (f.part j) slot row v o b ≡ o b
   row_apart j k there slot row v o b apart =
       puts_apart j k there (row.puts v) (after_taken r (end_of (f.part j) slot) (way_of slot) o) b apart
       ∙ taken_apart (end_of j slot) b (way_of slot) o (inl (k, there)) apart
 
-  pub fire_well : (j : ℕ) (k : Part) → slice_get p.parts j ≡ Some k → (slot : Slot) (row : Row) (v : ℕ) (o own m : Open) (s : Tokens) → OpenAgree f p o own
+  pub fire_well : (j : ℕ) (k : Part) → slice_get p.parts j ≡ Some k → (slot : Slot) (row : Row) (v : ℕ) (o own m : Open) (s : Tokens) → AgreeBy Counted f p o own
       → token_at r s (end_of (f.part j) slot) (way_of slot) ≡ Some v → firing_of (slice_get r.parts (f.part j)) (s.state (f.part j)) slot ≡ Some row
       → ComesInOrder p (Fire j slot) (cut_tokens f p s) own m
       → AllComeWell r (f.part j) (row.puts v) (after_taken r (end_of (f.part j) slot) (way_of slot) o)
@@ -188,8 +194,8 @@ module _ {d h w : ℕ} {f : Cut} {r p : Plan} (hung : IsHung d h w f r p) where
   pub record SideStep (x : Element) (s : Tokens) (o next : Open) : Type 0 where
     pub now : Open
     pub comes : ComesInOrder r x s o now
-    pub agree : OpenAgree f p now next
-    pub kept : (b : End) → IsApart f p b → now b ≡ o b
+    pub agree : AgreeBy Counted f p now next
+    pub kept : (b : End) → ApartBy Counted f p b → now b ≡ o b
     pub driver : (n : ℕ) → now (PartEnd d n) ≡ o (PartEnd d n)
 
   -- what passes an import changes nothing of the part's handshakes
@@ -205,14 +211,14 @@ module _ {d h w : ℕ} {f : Cut} {r p : Plan} (hung : IsHung d h w f r p) where
   port_put j k t there o Ask asks n =
       ap (λ (e : End). with_open e true o (PartEnd d n)) (asks_itself r hung.cut.whole_right (ImportEnd j k) t there asks)
 
-  side_fire : (j : ℕ) (k : Part) → slice_get p.parts j ≡ Some k → (slot : Slot) (s w : Tokens) (o own next : Open) → OpenAgree f p o own
+  side_fire : (j : ℕ) (k : Part) → slice_get p.parts j ≡ Some k → (slot : Slot) (s w : Tokens) (o own next : Open) → AgreeBy Counted f p o own
       → Does r (Fire (f.part j) slot) s w → ComesInOrder p (Fire j slot) (cut_tokens f p s) own next → SideStep (Fire (f.part j) slot) s o next
   side_fire j k there slot s w o own next agree does comes =
       record {
         now = after_puts r (f.part j) (does.1.puts does.0) (after_taken r (end_of (f.part j) slot) (way_of slot) o);
         comes = comes_of r (f.part j) slot s w o _ does facts.0 refl;
         agree =
-            subst (λ (x : Open). OpenAgree f p (after_puts r (f.part j) (does.1.puts does.0) (after_taken r (end_of (f.part j) slot) (way_of slot) o)) x) (sym facts.1)
+            subst (λ (x : Open). AgreeBy Counted f p (after_puts r (f.part j) (does.1.puts does.0) (after_taken r (end_of (f.part j) slot) (way_of slot) o)) x) (sym facts.1)
             (row_agrees j k there slot does.1 does.0 o own agree);
         kept = λ b apart. row_apart j k there slot does.1 does.0 o b apart;
         driver = λ n.
@@ -242,7 +248,7 @@ module _ {d h w : ℕ} {f : Cut} {r p : Plan} (hung : IsHung d h w f r p) where
               absurd (region.not_driver hung (f.part j) (j, (hung.cut.parts j k there).1) (sym same))
           by_test false e = refl
 
-  pub side_step : (x y : Element) (s w : Tokens) (o own next : Open) → Local f r p x y → OpenAgree f p o own → Does r x s w
+  pub side_step : (x y : Element) (s w : Tokens) (o own next : Open) → Local f r p x y → AgreeBy Counted f p o own → Does r x s w
       → ComesInOrder p y (cut_tokens f p s) own next → SideStep x s o next
   side_step x y s w o own next (fires i j slot number) agree does comes =
       let (at_part, (k, there)) = hung.cut.numbers i j number in
@@ -256,8 +262,8 @@ module _ {d h w : ℕ} {f : Cut} {r p : Plan} (hung : IsHung d h w f r p) where
         now = after_taken r (ImportEnd j k) way o;
         comes = λ z at_z. ap (λ (y : Contact). after_taken r (ImportEnd j k) (way_taken y.role) o) (same_Some t z (sym there ∙ at_z));
         agree =
-            subst (λ (z : Open). OpenAgree f p (after_taken r (ImportEnd j k) way o) z) (sym (comes t here))
-            (subst (λ (e : End). OpenAgree f p (after_taken r e way o) (after_taken p (ImportEnd i k) way own)) leads
+            subst (λ (z : Open). AgreeBy Counted f p (after_taken r (ImportEnd j k) way o) z) (sym (comes t here))
+            (subst (λ (e : End). AgreeBy Counted f p (after_taken r e way o) (after_taken p (ImportEnd i k) way own)) leads
             (taken_agrees (ImportEnd i k) way o own (inl stands) agree));
         kept = λ e apart. subst (λ (c : End). after_taken r c way o e ≡ o e) leads (taken_apart (ImportEnd i k) e way o (inl stands) apart);
         driver = λ n. port_taken j k t there o t.role refl n;
@@ -274,8 +280,8 @@ module _ {d h w : ℕ} {f : Cut} {r p : Plan} (hung : IsHung d h w f r p) where
             subst (λ (y : Contact). ComesWell r (ImportEnd j k) (way_put y.role) o s
             × (after_put r (ImportEnd j k) way o ≡ after_put r (ImportEnd j k) (way_put y.role) o)) (same_Some t z (sym there ∙ at_z)) (well, refl);
         agree =
-            subst (λ (z : Open). OpenAgree f p (after_put r (ImportEnd j k) way o) z) (sym (comes t here).1)
-            (subst (λ (e : End). OpenAgree f p (after_put r e way o) (after_put p (ImportEnd i k) way own)) leads
+            subst (λ (z : Open). AgreeBy Counted f p (after_put r (ImportEnd j k) way o) z) (sym (comes t here).1)
+            (subst (λ (e : End). AgreeBy Counted f p (after_put r e way o) (after_put p (ImportEnd i k) way own)) leads
             (put_agrees (ImportEnd i k) way o own (inl stands) agree));
         kept = λ e apart. subst (λ (c : End). after_put r c way o e ≡ o e) leads (put_apart (ImportEnd i k) e way o (inl stands) apart);
         driver = λ n. port_put j k t there o t.role refl n;

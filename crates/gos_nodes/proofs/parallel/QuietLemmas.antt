@@ -18,7 +18,7 @@ use Rattle.gos_joining.proofs.webs.MovedLemmas.{listed}
 use Rattle.gos_joining.proofs.webs.CutLemmas.{asker_asks, asks_one, asks_there}
 use Rattle.gos_nodes.specs.parallel.Parallel.{IsSide, IsJointOf, IsPartOf, IsParallel}
 use Rattle.gos_nodes.proofs.parallel.GateLemmas.{gate, passes_out, passes_in, there_contact, first_shake}
-use Rattle.gos_nodes.proofs.parallel.HungLemmas.{IsHung, result_held, held_token, import_contact}
+use Rattle.gos_nodes.proofs.parallel.HungLemmas.{IsResult, IsHung, result_held, held_token, import_contact}
 use Rattle.gos_nodes.proofs.parallel.StepLemmas.{hung_left, hung_right}
 use Rattle.gos_nodes.proofs.parallel.OpenLemmas.{firing_same}
 
@@ -114,7 +114,7 @@ idle_by_parts r s neat empty at_rest = (places, λ i. by_slice i (slice_get r.pa
     by_slice i None e = neat.states i e
     by_slice i (Some k) e = at_rest i k e
 
-module _ {d h w : ℕ} {f : Cut} {r p : Plan} (hung : IsHung d h w f r p) where
+module _ {Counted : End → Type 0} {d h w : ℕ} {f : Cut} {r p : Plan} (hung : IsHung Counted d h w f r p) where
   -- a region that is idle leaves its places empty and its parts at rest
   pub joint_empty : (s : Tokens) → IsIdle p (cut_tokens f p s) → (x y : End) → IsJointOf f p x y → (way : Direction) → s.in_place way x ≡ None
   joint_empty s rests x y (e, u, has, at, beyond) way =
@@ -169,7 +169,7 @@ module _ {d h w : ℕ} {f : Cut} {r p : Plan} (hung : IsHung d h w f r p) where
       at_result v u passes =
           let here = subst (λ (o : Option Contact). Passes p (Out (ResultEnd 0) v) o (cut_tokens f p s) u) hung.there passes in
           let lies : token_at r s (PartEnd d h) Answer ≡ Some v =
-          ap (λ (e : End). token_at r s e Answer) (sym hung.result) ∙ (sym (held_token hung (ResultEnd 0) (result_held p) s Answer) ∙ here.0) in
+          ap (λ (e : End). token_at r s e Answer) (sym hung.result) ∙ (sym (held_token hung (ResultEnd 0) (result_held hung) s Answer) ∙ here.0) in
           let (next, does) = answered v lies in quiet.0 d (Ans h) next does
 
       no_out : (e : End) (v : ℕ) (u : Tokens) → Does p (Out e v) (cut_tokens f p s) u → ⊥
@@ -179,7 +179,7 @@ module _ {d h w : ℕ} {f : Cut} {r p : Plan} (hung : IsHung d h w f r p) where
           let none = first_shake p done k (Out (ResultEnd k) v) (cut_tokens f p s) u passes in
           at_result v u (subst (λ n. Passes p (Out (ResultEnd n) v) (contact_at p (ResultEnd n)) (cut_tokens f p s) u) none passes)
 
-pub side_quiet : (d h : ℕ) (f : Cut) (r p : Plan) → IsSide d h f r p → IsHung d h 0 f r p → (s : Tokens) → IsQuiet r s
+pub side_quiet : (d h : ℕ) (f : Cut) (r p : Plan) → IsSide d h f r p → IsHung IsResult d h 0 f r p → (s : Tokens) → IsQuiet r s
     → ((v : ℕ) → token_at r s (PartEnd d h) Answer ≡ Some v → (u : Tokens) × Does r (Fire d (Ans h)) s u) → IsQuiet p (cut_tokens f p s)
 side_quiet d h f r p side hung s quiet answered =
     region_quiet hung (subst IsDone (sym side.outcome) tt) s quiet answered

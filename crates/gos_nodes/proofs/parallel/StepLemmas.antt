@@ -24,7 +24,7 @@ use Rattle.gos_realises.proofs.realises.ToldLemmas.{contains_at}
 use Rattle.gos_sharing.proofs.cores.VariableLemmas.{apart_shakes}
 use Rattle.gos_nodes.specs.parallel.Parallel.{IsSide, IsJointOf, IsPartOf, IsParallel}
 use Rattle.gos_nodes.proofs.parallel.DriverLemmas.{begin_row, end_row, ParRow, begins, left_first, right_first, left_last, right_last, par_row}
-use Rattle.gos_nodes.proofs.parallel.HungLemmas.{IsHung, Local, fires, puts_out, takes_in, Unseen, Sees, one_sees, import_real, result_put, is_asked, is_answered, state_unseen, not_driver, not_its_import}
+use Rattle.gos_nodes.proofs.parallel.HungLemmas.{Held, IsResult, IsHung, Local, fires, puts_out, takes_in, Unseen, Sees, one_sees, import_real, result_put, is_asked, is_answered, state_unseen, not_driver, not_its_import}
 use Rattle.gos_nodes.proofs.parallel.GateLemmas.{gate, Same, IsRun, passes_out, passes_in, there_contact, first_shake, result_gate, part_gate, gate_apart, gate_taken, gate_left, gate_filled, gate_beside, new_state, kept_state, fired_same, port_same}
 use Rattle.gos_nodes.proofs.parallel.RegionLemmas as region
 
@@ -131,16 +131,21 @@ two_not_one : Differ 2 1
 two_not_one e = omega (arith, e)
 
 -- so it hangs on the end at which the part asks it
-hung_side : (d h : ℕ) (f : Cut) (r p : Plan) → IsSide d h f r p → (places_of p (ResultEnd 0) ≡ None → places_of r (PartEnd d h) ≡ None) → IsHung d h 0 f r p
+hung_side : (d h : ℕ) (f : Cut) (r p : Plan) → IsSide d h f r p → (places_of p (ResultEnd 0) ≡ None → places_of r (PartEnd d h) ≡ None) → IsHung IsResult d h 0 f r p
 hung_side d h f r p side free =
     record {
       cut = side.cut;
       outside = side.outside;
       result = side.result;
-      alone = region.result_alone d h f r p side;
-      free = free;
+      counted = refl;
+      alone = alone;
+      free = λ x counted none. ap (places_of r) (ap (lies_at f) counted ∙ side.result) ∙ free (ap (places_of p) (sym counted) ∙ none);
       there = region.result_there d h f r p side;
     }
+  where
+    alone : (e x : End) → Held p e → IsResult x → lies_at f e ≡ lies_at f x → e ≡ x
+    alone e x (inl own) counted same = region.result_alone d h f r p side e own (same ∙ (ap (lies_at f) counted ∙ side.result)) ∙ sym counted
+    alone e x (inr is) counted same = is ∙ sym counted
 
 module _ (d : ℕ) (f g : Cut) (r p q : Plan) (is : IsParallel d f g r p q) where
   left_joints : (a b : End) → Contains r.joints (joint a b) → IsJointOf f p a b ⊎ ((PartEnd d 0 ≡ a → ⊥) × (PartEnd d 0 ≡ b → ⊥))
@@ -164,10 +169,10 @@ module _ (d : ℕ) (f g : Cut) (r p q : Plan) (is : IsParallel d f g r p q) wher
   free_right = free_side d 1 g r q is.right right_joints
 
   -- the regions hang on the part, and the result runs it
-  pub hung_left : IsHung d 0 0 f r p
+  pub hung_left : IsHung IsResult d 0 0 f r p
   hung_left = hung_side d 0 f r p is.left free_left
 
-  pub hung_right : IsHung d 1 0 g r q
+  pub hung_right : IsHung IsResult d 1 0 g r q
   hung_right = hung_side d 1 g r q is.right free_right
 
   pub is_run : IsRun r d 2

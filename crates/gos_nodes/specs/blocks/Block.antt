@@ -4,12 +4,11 @@
 -- bound variable; its plan is closed but for imports, and all others of these are imports of the whole. In `new x : w in M` the server
 -- is a Local.
 use Rattle.std.specs.Prelude.{◌≡◌, ◌≢◌, ◌⊎◌, ℕ, suc, [], All, Contains, Some, None, slice_get}
-use Rattle.gos_types.specs.declared.shakes.Role.TheVariants.{Ask}
 use Rattle.gos_types.specs.Types.{IsDone}
 use Rattle.gos_model.specs.Terms.{Term, Import, New, NewArray}
 use Rattle.gos_model.specs.Substitution.{instantiate}
 use Rattle.gos_model.specs.Typing.{Imported, Typed}
-use Rattle.gos_plan.specs.Kinds.{Part, Contact, contacts_of}
+use Rattle.gos_plan.specs.Kinds.{Part}
 use Rattle.gos_plan.specs.Plans.{End, PartEnd, ImportEnd, ResultEnd, Plan}
 use Rattle.gos_plan.specs.TokenBits.{LiteralFits}
 use Rattle.gos_nodes.specs.sessions.Sessions.{bits}
@@ -33,8 +32,7 @@ pub record Block : Type 0 where
   pub variable : Imported
 
 -- The whole r is this block. Where the body's result or a handshake of its variable stands in no joint, its end is
--- joined to nothing. Another import that stands in a joint leads to the import of r with its name and its type. Where the server asks,
--- for an index say, the body is there if it is at all.
+-- joined to nothing. Another import that stands in a joint leads to the import of r with its name and its type.
 pub record IsBlock (r : Plan) (b : Block) : Type 0 where
   pub cut : IsCut b.cut r b.body
   pub done : IsDone r.outcome
@@ -46,10 +44,6 @@ pub record IsBlock (r : Plan) (b : Block) : Type 0 where
   pub there : slice_get b.body.imports b.place ≡ Some b.variable
   pub type : b.variable.ty ≡ b.server.supply
   pub served : (h : ℕ) → b.cut.outer (ImportEnd b.place h) ≡ PartEnd b.own (suc h)
-  pub heard :
-      (h n : ℕ) (c : Contact)
-      → StandsIn b.body (ImportEnd b.place h) → slice_get (contacts_of b.server.supply) n ≡ Some c → c.role ≡ Ask
-      → StandsIn b.body (ImportEnd b.place n)
   pub imports :
       (i h : ℕ) → i ≢ b.place → StandsIn b.body (ImportEnd i h)
       → (j : ℕ) × (b.cut.outer (ImportEnd i h) ≡ ImportEnd j h) × (slice_get b.body.imports i ≡ slice_get r.imports j)

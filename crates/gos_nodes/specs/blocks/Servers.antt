@@ -2,7 +2,8 @@
 --
 -- Read first: Firing of gos_plan; Regular of gos_realises. A server asks its body at handshake 0, and is run at its last one; at those
 -- between it serves the supply, as an import of this type is served. A local variable is a server of a variable, and an array of an array.
-use Rattle.std.specs.Prelude.{◌≡◌, ℕ, zero, suc, Bool, true, false, not, [], ◌∷◌, ◌++◌, Some, nat_eq, slice_get, if◌then◌else◌}
+use Rattle.std.specs.Prelude.{◌≡◌, ◌^◌, ◌<◌, ℕ, zero, suc, Bool, true, false, not, [], ◌∷◌, ◌++◌, Some, nat_eq, slice_get, if◌then◌else◌}
+use Rattle.gos_types.specs.declared.shakes.Role.TheVariants.{Ask}
 use Rattle.gos_types.specs.Types.{Type', Var}
 use Rattle.gos_types.specs.Events.{Direction}
 use Rattle.gos_model.specs.Typing.{array_type}
@@ -41,7 +42,7 @@ abbrev pub end_row : Server → (ℕ → State) → Row
 end_row a next = record { takes = Ans 0; next = next; puts = λ v. put (Ans (run_of a)) v ∷ [] }
 
 -- A row by which a server serves: what the body puts at one handshake of the supply is taken, and a token is put back at once, at this
--- handshake or at another one. What is put back comes in turn.
+-- handshake or at another one. What is put back comes in turn, and a request has at most the bits of its handshake.
 pub record Serves (a : Server) (q : State) (slot : Slot) (w : Row) : Type 0 where
   pub at : ℕ
   pub back : ℕ
@@ -57,6 +58,7 @@ pub record Serves (a : Server) (q : State) (slot : Slot) (w : Row) : Type 0 wher
   pub back_there : slice_get (contacts_of a.supply) back ≡ Some given
   pub puts_at : shake_of reply ≡ suc back
   pub puts : way_of reply ≡ way_put given.role
+  pub fits : (v : ℕ) → given.role ≡ Ask → number v < 2 ^ given.ask_bits
   pub running : a.runs q.phase ≡ true
   pub stays : (v : ℕ) → a.runs (next v).phase ≡ true
   pub turn : FindsTurn back (way_put given.role) (after_pass at (way_taken taken.role) (a.opened q))

@@ -1,18 +1,18 @@
 -- The plans of `new x : 1 in skip` and of `new a[2] : 1 in skip`: each is a block, whose body is the plan of `skip` with an import that is
--- not used.
+-- not used. And a block whose body reads an array, and leaves the index unjoined.
 --
 -- Read first: Block; SmallPlans of gos_plan, SmallParallel of parallel.
 use Rattle.std.specs.Prelude.{zero, suc, [], ◌∷◌, Option, Some, None}
-use Rattle.gos_types.specs.Types.{Com, Var}
+use Rattle.gos_types.specs.Types.{Com, Exp, Var}
 use Rattle.gos_model.specs.Terms as terms
 use Rattle.gos_model.specs.Terms.{New, NewArray}
 use Rattle.gos_model.specs.SmallPrograms.{c}
 use Rattle.gos_model.specs.Typing.{Imported, array_type}
-use Rattle.gos_plan.specs.Kinds.{Skip, Local, Array}
+use Rattle.gos_plan.specs.Kinds.{Skip, Deref, Local, Array}
 use Rattle.gos_plan.specs.Plans.{End, PartEnd, ImportEnd, ResultEnd, Plan}
 use Rattle.gos_plan.specs.SmallPlans.{skip_plan}
 use Rattle.gos_joining.specs.webs.Webs.{joint}
-use Rattle.gos_joining.specs.webs.Cutting.{Cut}
+use Rattle.gos_joining.specs.webs.Cutting.{Cut, StandsIn}
 use Rattle.gos_realises.specs.realises.Realises.{Realises}
 use Rattle.gos_nodes.specs.parallel.SmallParallel.{skip_number}
 use Rattle.gos_nodes.specs.blocks.Servers.{local_server, array_server}
@@ -101,3 +101,42 @@ abbrev pub LengthIsNeeded : Type 0
 LengthIsNeeded =
     (IsBlock new_array (record array_block { server = array_server 1 4 0 }) → ⊥)
     × (IsBlock new_array (record array_block { server = local_server 1 0 }) → ⊥)
+
+-- An array that is read at an index that stands in no joint. The request for it is lost, in the body and in the whole.
+abbrev pub reading : Plan
+reading =
+    record {
+      weight = 10;
+      imports = two_bits ∷ [];
+      outcome = Exp 1;
+      parts = Deref 1 ∷ [];
+      joints = joint (ResultEnd 0) (PartEnd 0 1) ∷ joint (PartEnd 0 0) (ImportEnd 0 1) ∷ [];
+    }
+
+abbrev pub new_reading : Plan
+new_reading =
+    record {
+      weight = 20;
+      imports = [];
+      outcome = Exp 1;
+      parts = Array 1 2 1 ∷ Deref 1 ∷ [];
+      joints = joint (ResultEnd 0) (PartEnd 0 4) ∷ joint (PartEnd 0 0) (PartEnd 1 1) ∷ joint (PartEnd 1 0) (PartEnd 0 2) ∷ [];
+    }
+
+abbrev pub reading_inner : End → Option End
+reading_inner (PartEnd zero zero) = Some (ResultEnd 0)
+reading_inner (PartEnd zero (suc zero)) = None
+reading_inner (PartEnd zero (suc (suc zero))) = Some (ImportEnd 0 1)
+reading_inner (PartEnd zero (suc (suc (suc h)))) = None
+reading_inner (PartEnd (suc i) h) = None
+reading_inner (ImportEnd i h) = None
+reading_inner (ResultEnd h) = None
+
+abbrev pub reading_out : Cut
+reading_out = record body_out { inner = reading_inner }
+
+abbrev pub reading_block : Block
+reading_block = record { own = 0; server = array_server 1 2 1; body = reading; cut = reading_out; place = 0; variable = two_bits }
+
+abbrev pub ReadingIsBlock : Type 0
+ReadingIsBlock = IsBlock new_reading reading_block × (StandsIn reading (ImportEnd 0 0) → ⊥)

@@ -21,6 +21,7 @@ ghost use Rattle.gos_nodes.specs.blocks.SmallBlocks.{
   NewSkipIsBlock,
   NewSkipIsRealised,
   OtherPartIsNot,
+  ReadingIsBlock,
   VariableIsNeeded,
   WidthIsNeeded,
 };
@@ -49,7 +50,7 @@ pub fn small_servers()
 
 /// The plan of `new x : 1 in skip` is a block. Without an import for the variable, with a variable of another width, or with
 /// another part in the place of the server it isn't. That of `new a[2] : 1 in skip` is one with an array of two numbers, and with no
-/// other array.
+/// other array. A block may leave the index unjoined at which it reads its array.
 pub fn small_blocks()
     ensures block { NewSkipIsBlock }
     ensures realised { NewSkipIsRealised }
@@ -59,4 +60,5 @@ pub fn small_blocks()
     ensures array { NewArrayIsBlock }
     ensures array_realised { NewArrayIsRealised }
     ensures length { LengthIsNeeded }
+    ensures unjoined { ReadingIsBlock }
 {}

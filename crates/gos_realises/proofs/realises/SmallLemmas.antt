@@ -28,7 +28,7 @@ function_import_does_not_suit t m suits = elim suits.all_ports.0 [
 ]
 
 pub wide_function_is_none : WideFunctionIsNone
-wide_function_is_none m realises = let low : 33 ≤ 32 = realises.result_widths.0.1 in omega (arith, low)
+wide_function_is_none m realises = let low : 65 ≤ 64 = realises.result_widths.0.1 in omega (arith, low)
 
 pub wide_import_is_none : WideImportIsNone
-wide_import_is_none m realises = let low : 33 ≤ 32 = realises.import_widths.0.1 in omega (arith, low)
+wide_import_is_none m realises = let low : 65 ≤ 64 = realises.import_widths.0.1 in omega (arith, low)

@@ -64,7 +64,7 @@ HaveWidths [] = Unit {0}
 HaveWidths (i ∷ is) = HasWidths i.ty × HaveWidths is
 
 -- The plan realises the program of a module. The outcome is the type of the term, since a term has one type. Its numbers have
--- widths, and so have those of the imports, and of arguments, whose types are within these: a variable of 33 bits nothing realises,
+-- widths, and so have those of the imports, and of arguments, whose types are within these: a variable of 65 bits nothing realises,
 -- so that a plan of a function of one would realise every such function.
 pub record RealisesModule (p : Plan) (m : Term) : Type 0 where
   pub right : IsRight p

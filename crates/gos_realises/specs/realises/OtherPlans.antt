@@ -95,17 +95,17 @@ empty_function = record { weight = 11; imports = []; outcome = Fun Com Com; part
 abbrev pub EmptyIsNoFunction : Type 0
 EmptyIsNoFunction = Realises (Fun Com Com) empty_function (terms.Lam Com (terms.Bound 0)) → ⊥
 
--- The plan without parts of a function of a variable of 33 bits. Nothing realises such a variable (Joined of joined), so there is no
--- argument. Still it realises no module, and `fun x : var 33 . skip` neither.
+-- The plan without parts of a function of a variable of 65 bits. Nothing realises such a variable (Joined of joined), so there is no
+-- argument. Still it realises no module, and `fun x : var 65 . skip` neither.
 abbrev pub wide_function : Plan
-wide_function = record { weight = 12; imports = []; outcome = Fun (Var 33) Com; parts = []; joints = [] }
+wide_function = record { weight = 12; imports = []; outcome = Fun (Var 65) Com; parts = []; joints = [] }
 
 abbrev pub WideFunctionIsNone : Type 0
 WideFunctionIsNone = (m : Term) → RealisesModule wide_function m → ⊥
 
 -- nor does the plan of `skip` that imports one
 abbrev pub wide_import : Plan
-wide_import = record skip_plan { imports = record { name = codes "x"; ty = Var 33 } ∷ [] }
+wide_import = record skip_plan { imports = record { name = codes "x"; ty = Var 65 } ∷ [] }
 
 abbrev pub WideImportIsNone : Type 0
 WideImportIsNone = (m : Term) → RealisesModule wide_import m → ⊥

@@ -45,7 +45,7 @@ pub fn lists_are_traces()
 
 /// Plans that do too little or something else realise nothing; nor do those of another type, with ends that are
 /// not there, with a number that is larger than its width, or with an import that is no port. No module is realised
-/// by a plan of a function of a variable of 33 bits, or with such an import.
+/// by a plan of a function of a variable of 65 bits, or with such an import.
 pub fn others_are_refused()
     ensures empty { EmptyIsNotSkip }
     ensures function { EmptyIsNoFunction }

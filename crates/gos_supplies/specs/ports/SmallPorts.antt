@@ -23,7 +23,7 @@ CallIsModule = RealisesModule call_plan (Import c)
 abbrev pub UnjoinedIsNotOpen : Type 0
 UnjoinedIsNotOpen = (x : Name) → RealisesOpen (record (name_plan x Com) { joints = [] }) (Import x) → ⊥
 
--- The plan of `import c : var w; c` realises the module exactly where w is a width: with 32 bits, and neither with 33 nor with none.
+-- The plan of `import c : var w; c` realises the module exactly where w is a width: with 64 bits, and neither with 65 nor with none.
 abbrev pub variable_plan : ℕ → Plan
 variable_plan w = record (name_plan c (Var w)) { weight = 8 }
 

@@ -3,7 +3,7 @@ use Rattle.std.specs.Prelude.{◌≡◌, ℕ, zero, suc, ◌+◌, ◌-◌, List,
 use Rattle.std.proofs.Common.{refl, ◌∙◌, ap}
 use Rattle.gos_types.specs.Types.{Type'}
 use Rattle.gos_check.specs.declared.linear.Split.{Split}
-use Rattle.gos_check.specs.Nodes.{Numbered, Closed, Use, Under, One, Two, If, Binding, OfFun, OfNew, OneForm, OfFst, OfSnd, OfDeref, OfNot, TwoForm, OfApp, OfBoth, OfSeq, OfPar, OfWhile, OfAssign, OfBin, argument_of, type_of_node}
+use Rattle.gos_check.specs.Nodes.{Numbered, Closed, Use, Under, One, Two, If, Binding, OfFun, OfNew, OfArray, OneForm, OfFst, OfSnd, OfDeref, OfNot, TwoForm, OfApp, OfBoth, OfSeq, OfPar, OfWhile, OfAssign, OfBin, argument_of, type_of_node}
 use Rattle.gos_ties.specs.declared.points.Place.{Place}
 use Rattle.gos_ties.specs.declared.points.Place.TheVariants as places
 use Rattle.gos_ties.specs.declared.points.Point.{Point}
@@ -103,10 +103,15 @@ module _
       let own : List Tie = led (row (places.Number n) 0 2) (places.Part i) 1 in
       both (led out (places.Part i) 3) own (led (map (renamed to) out) (places.Part i) 3) own
       (led_renamed (places.Part i) (part_kept i) out 3) (led_kept (places.Number n) (places.Part i) (number_kept n) (part_kept i) 0 2 1)
+  binder_kept (OfArray k w) t i n out =
+      let own : List Tie = led (row (places.Number n) 0 3) (places.Part i) 1 in
+      both (led out (places.Part i) 4) own (led (map (renamed to) out) (places.Part i) 4) own
+      (led_renamed (places.Part i) (part_kept i) out 4) (led_kept (places.Number n) (places.Part i) (number_kept n) (part_kept i) 0 3 1)
 
   binder_out_kept : (b : Binding) (t : Type') (i : ℕ) (out : List Point) → map (renamed to) (binder_out b t i out) ≡ binder_out b t i (map (renamed to) out)
   binder_out_kept OfFun t i out = map_drop (renamed to) (count (argument_of t)) out
   binder_out_kept (OfNew w) t i out = refl
+  binder_out_kept (OfArray k w) t i out = refl
 
   one_kept : (f : OneForm) (i : ℕ) (out : List Point) → map (renamed_tie to) (one_ties f i out) ≡ one_ties f i (map (renamed to) out)
   one_kept OfFst i out = refl

@@ -12,7 +12,7 @@ use Rattle.gos_model.specs.Terms.{Term, Name}
 use Rattle.gos_model.specs.Typing.{Imports, import_type, Named, things, array_type, Typed}
 use Rattle.gos_model.specs.Weight.{node_type, or_com, after_fun, left_of, right_of, read_of, op_type}
 use Rattle.gos_check.specs.declared.linear.Split.{Split}
-use Rattle.gos_check.specs.Nodes.{Numbered, Closed, Use, Under, One, Two, If, OfFun, OfNew, OneForm, OfFst, OfSnd, OfDeref, OfNot, TwoForm, OfApp, OfBoth, OfSeq, OfPar, OfWhile, OfAssign, OfBin, Meaning, argument_of, shifted, below, inside_one, inside, meaning, one_term, two_term, type_of_node}
+use Rattle.gos_check.specs.Nodes.{Numbered, Closed, Use, Under, One, Two, If, OfFun, OfNew, OfArray, OneForm, OfFst, OfSnd, OfDeref, OfNot, TwoForm, OfApp, OfBoth, OfSeq, OfPar, OfWhile, OfAssign, OfBin, Meaning, argument_of, shifted, below, inside_one, inside, meaning, one_term, two_term, type_of_node}
 use Rattle.gos_plan.specs.Plans.{Plan}
 use Rattle.gos_realises.specs.realises.Realises.{NamesDiffer}
 use Rattle.gos_realises.proofs.realises.PlaceLemmas.{contains_at, place_of}
@@ -146,6 +146,10 @@ module _ (i : Imports) where
     type_is (Under t ss (OfNew w) n m) g ns e (agree, (done, wide, same), typed) (split, scope) have =
         type_is m (Var w ∷ g) (numbers_inside ss ns ++ n ∷ []) (below n (inside ss e)) typed scope
         (below_types (Var w) g n (numbers_inside ss ns) (inside ss e) (sym wide) (inside_types g ss ns e agree split have))
+        ∙ same
+    type_is (Under t ss (OfArray c w) n m) g ns e (agree, (done, wide, same), typed) (split, scope) have =
+        type_is m (array_type c w ∷ g) (numbers_inside ss ns ++ n ∷ []) (below n (inside ss e)) typed scope
+        (below_types (array_type c w) g n (numbers_inside ss ns) (inside ss e) (sym wide) (inside_types g ss ns e agree split have))
         ∙ same
     type_is (One t ss f m) g ns e (agree, row, typed) (split, scope) have =
         one_type g f t (type_of_node m) (meaning (inside ss e) m) row

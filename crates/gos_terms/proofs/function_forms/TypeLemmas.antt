@@ -5,10 +5,10 @@ use Rattle.gos_types.specs.Types.{Type', Exp, Var, Pair, Fun}
 use Rattle.gos_types.proofs.TypeLemmas.{same_expression_width}
 use Rattle.gos_model.specs.Terms as terms
 use Rattle.gos_model.specs.Terms.{Name, Term}
-use Rattle.gos_model.specs.Typing.{Imports, import_type, Typed}
+use Rattle.gos_model.specs.Typing.{Imports, import_type, Typed, array_type}
 use Rattle.gos_model.specs.Laws.{OneType}
 use Rattle.gos_check.specs.declared.linear.Split.{Split}
-use Rattle.gos_check.specs.Nodes.{Numbered, Closed, Use, Under, One, Two, If, OfFun, OfNew, OfFst, OfSnd, OfDeref, OfNot, OfApp, OfBoth, OfSeq, OfPar, OfWhile, OfAssign, OfBin, Meaning, meaning, below, shifted, inside_one, inside, argument_of, type_of_node}
+use Rattle.gos_check.specs.Nodes.{Numbered, Closed, Use, Under, One, Two, If, OfFun, OfNew, OfArray, OfFst, OfSnd, OfDeref, OfNot, OfApp, OfBoth, OfSeq, OfPar, OfWhile, OfAssign, OfBin, Meaning, meaning, below, shifted, inside_one, inside, argument_of, type_of_node}
 use Rattle.gos_plan.specs.Plans.{Plan}
 use Rattle.gos_realises.specs.realises.Realises.{NamesDiffer}
 use Rattle.gos_realises.proofs.realises.PlaceLemmas.{contains_at, place_of}
@@ -126,6 +126,10 @@ node_has law i types (Under t ss OfFun n m) ns g e u nodes scope all (b, is, typ
 node_has law i types (Under t ss (OfNew w) n m) ns g e u nodes scope all (done, wide, typed) =
     node_has law i types m (numbers_inside ss ns ++ n ∷ []) (Var w ∷ g) (below n (inside ss e)) u nodes.2 scope.1
     (below_stands i types (numbers_inside ss ns) g (inside ss e) n (Var w) (sym nodes.1.1) (inside_stands i types ss ns g e nodes.0 scope.0 all)) typed
+    ∙ nodes.1.2
+node_has law i types (Under t ss (OfArray c w) n m) ns g e u nodes scope all (done, length, wide, typed) =
+    node_has law i types m (numbers_inside ss ns ++ n ∷ []) (array_type c w ∷ g) (below n (inside ss e)) u nodes.2 scope.1
+    (below_stands i types (numbers_inside ss ns) g (inside ss e) n (array_type c w) (sym nodes.1.1) (inside_stands i types ss ns g e nodes.0 scope.0 all)) typed
     ∙ nodes.1.2
 node_has law i types (One t ss OfFst m) ns g e u nodes scope all (b, typed) =
     let inner = node_has law i types m (numbers_inside ss ns) g (inside ss e) (Pair u b) nodes.2 scope.1 (inside_stands i types ss ns g e nodes.0 scope.0 all) typed in

@@ -1,4 +1,4 @@
--- A block: its body realises its term where a name that no import has stands for the variable.
+-- A block: its body realises its term where a name that no import has stands for what is bound.
 use Rattle.std.specs.Prelude.{◌≡◌, ◌≢◌, ℕ, suc, ◌+◌, Bool, true, false, List, [], ◌∷◌, ◌++◌, Some, All, Contains, slice_get, nat_eq}
 use Rattle.std.specs.Str.{bytes_eq}
 use Rattle.std.proofs.Common.{refl, sym, ◌∙◌, ap, subst, arith}
@@ -6,12 +6,11 @@ use Rattle.std.proofs.lemmas.Slice.Eq.{bytes_eq-Decides}
 use Rattle.std.proofs.lemmas.List.Elements.{Contains-append_left, Contains-append_right}
 use Rattle.std.proofs.lemmas.Bool.{eqb-true, eq-eqb}
 use Rattle.gos_types.specs.Types.{Type', Var}
-use Rattle.gos_types.specs.Widths.{IsWidth}
 use Rattle.gos_types.proofs.BytesLemmas.{bytes_eq_same}
-use Rattle.gos_model.specs.Terms.{Term, Name, Import, New}
-use Rattle.gos_model.specs.Typing.{Imported, import_type, Named, things, Typed}
+use Rattle.gos_model.specs.Terms.{Term, Name, Import, New, NewArray}
+use Rattle.gos_model.specs.Typing.{Imported, import_type, Named, things, index_width, Typed}
 use Rattle.gos_model.specs.Substitution.{instantiate}
-use Rattle.gos_check.specs.Nodes.{Numbered, Under, OfNew, below, meaning, type_of_node}
+use Rattle.gos_check.specs.Nodes.{Numbered, Under, OfNew, OfArray, below, meaning, type_of_node}
 use Rattle.gos_check.proofs.TimesLemmas.{times-append, times_same, some_times}
 use Rattle.gos_plan.specs.Plans.{Plan}
 use Rattle.gos_plan.specs.TokenBits.{LiteralFits}
@@ -21,18 +20,21 @@ use Rattle.gos_realises.proofs.realises.PlaceLemmas.{contains_at, place_of}
 use Rattle.gos_joining.proofs.renumbered.ImportLemmas.{type_has}
 use Rattle.gos_supplies.proofs.typing.WhenceLemmas.{named}
 use Rattle.gos_supplies.proofs.typing.NameLemmas.{typed_under_fewer}
-use Rattle.gos_supplies.specs.names.Names.{name_plan, imported, NameIsRealised}
+use Rattle.gos_supplies.specs.names.Names.{imported, NameIsRealised}
+use Rattle.gos_supplies.specs.arrays.ArrayNames.{ArrayNameIsRealised}
 use Rattle.gos_nodes.specs.windows.OpenNodes.{IsHeard}
-use Rattle.gos_nodes.specs.blocks.Block.{BlockRealises}
+use Rattle.gos_nodes.specs.sessions.Sessions.{bits}
+use Rattle.gos_nodes.specs.blocks.Block.{BlockRealises, ArrayBlockRealises}
 use Rattle.gos_compile.specs.Wiring.{Types}
 use Rattle.gos_terms.specs.wired.Wired.{Supplies, Placing, IsWired, AreRealised, terms_of}
 use Rattle.gos_terms.specs.meanings.Meanings.{HasLeaves, BodyIsInstantiated}
-use Rattle.gos_terms.specs.regions.Blocks.{with_name, IsBound, HasBody, BlockIsWired}
+use Rattle.gos_terms.specs.regions.Blocks.{port_plan, with_name, IsBound, HasBody, BlockIsWired, ArrayBlockIsWired}
+use Rattle.gos_terms.proofs.regions.HolderLemmas.{Holder, OneNumber, ManyNumbers, binding_of, supply_of, server_of, name_supply}
 use Rattle.gos_terms.proofs.regions.FreshLemmas.{fresh_name, is_fresh}
 use Rattle.gos_terms.proofs.regions.NamedLemmas as named
-use Rattle.gos_terms.proofs.regions.NamedLemmas.{before, name_supply, inner_here, inner_there}
+use Rattle.gos_terms.proofs.regions.NamedLemmas.{before, inner_here, inner_there, inner_imports}
 use Rattle.gos_terms.specs.numbers.Kept.{InScope}
-use Rattle.gos_terms.specs.ground_forms.Cases.{RealisesWired, BlockCase}
+use Rattle.gos_terms.specs.ground_forms.Cases.{RealisesWired, BlockCase, ArrayBlockCase}
 use Rattle.gos_terms.proofs.ground_forms.WhoseLemmas.{below_whose, whose}
 use Rattle.gos_terms.proofs.regions.CutLemmas.{literals_within}
 use Rattle.gos_terms.proofs.regions.HeardLemmas.{body_heard}
@@ -41,10 +43,10 @@ use Rattle.gos_terms.proofs.ground_forms.InstantiatedLemmas.{body_instantiated}
 use Rattle.gos_terms.proofs.ground_forms.PutLemmas.{IsWithout, name_apart, put_typed}
 
 module _
-    (types : Types) (ns : List ℕ) (w n : ℕ) (m : Numbered) (type_n : types n ≡ Var w) (bound : IsBound n m ns)
+    (types : Types) (ns : List ℕ) (hold : Holder) (n : ℕ) (m : Numbered) (type_n : types n ≡ supply_of hold) (bound : IsBound n m ns)
     (env : Supplies) (supplies : AreRealised types env ns) (x : Name) where
   abbrev inner : Supplies
-  inner = with_name n x (Var w) env
+  inner = with_name n x (supply_of hold) env
 
   -- the bound number is none of those outside
   other : (k : ℕ) → Contains ns k → nat_eq k n ≡ false
@@ -63,22 +65,22 @@ module _
   abbrev Stands : ℕ → Supply → Type 0
   Stands k s = Realises (types k) s.plan s.term
 
-  inner_supplies : NameIsRealised → IsWidth w → AreRealised types inner (ns ++ n ∷ [])
-  inner_supplies law wide k has = by_test (nat_eq k n) refl
+  inner_supplies : Realises (supply_of hold) (port_plan x (supply_of hold)) (Import x) → AreRealised types inner (ns ++ n ∷ [])
+  inner_supplies realised k has = by_test (nat_eq k n) refl
     where
       by_test : (b : Bool) → nat_eq k n ≡ b → Stands k (inner k)
       by_test true is =
-          let type_k : types k ≡ Var w = ap types (eqb-true k n is) ∙ type_n in
-          subst (Stands k) (sym (inner_here n x w env k is))
-          (subst (λ (u : Type'). Realises u (name_plan x (Var w)) (Import x)) (sym type_k) (law x (Var w) tt wide))
-      by_test false is = subst (Stands k) (sym (inner_there n x w env k is)) (supplies k (before ns n k is has))
+          let type_k : types k ≡ supply_of hold = ap types (eqb-true k n is) ∙ type_n in
+          subst (Stands k) (sym (inner_here n x (supply_of hold) env k is))
+          (subst (λ (u : Type'). Realises u (port_plan x (supply_of hold)) (Import x)) (sym type_k) realised)
+      by_test false is = subst (Stands k) (sym (inner_there n x (supply_of hold) env k is)) (supplies k (before ns n k is has))
 
   module _
-      (t : Type') (i j a b : ℕ) (pl pc : Placing) (r body : Plan) (wired : IsWired types i j (Under t [] (OfNew w) n m) ns env pl r)
+      (t : Type') (i j a b : ℕ) (pl pc : Placing) (r body : Plan) (wired : IsWired types i j (Under t [] (binding_of hold) n m) ns env pl r)
       (v : IsWired types a b m (ns ++ n ∷ []) inner pc body) (differ : NamesDiffer r.imports)
       (fresh : (y : Imported) → Contains r.imports y → y.name ≢ x) where
     body_differ : NamesDiffer body.imports
-    body_differ = named.body_differ types ns w n m env x t i j a b pl pc r body wired v differ fresh
+    body_differ = named.body_differ types ns (binding_of hold) (supply_of hold) n m env x t i j a b pl pc r body wired v differ fresh
 
     -- a name of what stands for a number is that of an import of its plan, of the whole's and of the body's
     record IsImported (k : ℕ) (y : Name) : Type 0 where
@@ -96,7 +98,7 @@ module _
         let there = wired.imports k q name.import has at in
         let here =
         v.imports k q name.import (Contains-append_left ns (n ∷ []) k has)
-        (ap (λ (s : Supply). slice_get s.plan.imports q) (inner_there n x w env k (other k has)) ∙ at) in
+        (ap (λ (s : Supply). slice_get s.plan.imports q) (inner_there n x (supply_of hold) env k (other k has)) ∙ at) in
         record {
           import = name.import;
           own = name.has;
@@ -119,12 +121,12 @@ module _
             ∙ sym (type_has (env k).plan.imports apart y name.import name.own name.same)
 
     -- and so is the name
-    name_typed : import_type body.imports x ≡ Some (Var w)
+    name_typed : import_type body.imports x ≡ Some (supply_of hold)
     name_typed =
-        type_has body.imports body_differ x (imported x (Var w))
-        (contains_at body.imports (pc.import n 0) (imported x (Var w))
-        (v.imports n 0 (imported x (Var w)) (Contains-append_right ns (n ∷ []) n (0, omega arith, refl))
-        (ap (λ (s : Supply). slice_get s.plan.imports 0) (inner_here n x w env n (eq-eqb n n refl)))).0)
+        type_has body.imports body_differ x (imported x (supply_of hold))
+        (contains_at body.imports (pc.import n 0) (imported x (supply_of hold))
+        (v.imports n 0 (imported x (supply_of hold)) (Contains-append_right ns (n ∷ []) n (0, omega arith, refl))
+        (ap (λ (l : List Imported). slice_get l 0) (inner_imports n x (supply_of hold) env n (eq-eqb n n refl)))).0)
         ((bytes_eq-Decides x x).1 refl)
 
     abbrev body_term : Term
@@ -133,8 +135,8 @@ module _
     module _ (leaves : HasLeaves m) (scope : InScope (ns ++ n ∷ []) m) where
       instantiated : BodyIsInstantiated → instantiate body_term (Import x) ≡ meaning (terms_of inner) m
       instantiated law =
-          body_instantiated types ns n env inner (name_supply x w) (inner_here n x w env) (inner_there n x w env) body.imports supply_typed law m (Var w)
-          leaves scope name_typed
+          body_instantiated types ns n env inner (name_supply x (supply_of hold)) (inner_here n x (supply_of hold) env) (inner_there n x (supply_of hold) env) body.imports
+          supply_typed law m (supply_of hold) leaves scope name_typed
 
       body_name : (y : Name) → Contains (things 0 body_term) (Named y) → (k : ℕ) × IsImported k y
       body_name y has =
@@ -144,10 +146,10 @@ module _
       without : IsWithout x body_term
       without has = let (k, name) = body_name x has in fresh name.import name.outside (bytes_eq_same name.import.name x name.same)
 
-      body_typed : Typed r.imports (Var w ∷ []) body_term t → Typed body.imports [] (instantiate body_term (Import x)) t
+      body_typed : Typed r.imports (supply_of hold ∷ []) body_term t → Typed body.imports [] (instantiate body_term (Import x)) t
       body_typed typed =
-          put_typed body.imports (Import x) (Var w) name_typed body_term [] t (name_apart x body_term without)
-          (typed_under_fewer r.imports body.imports (Var w ∷ []) body_term t agree typed)
+          put_typed body.imports (Import x) (supply_of hold) name_typed body_term [] t (name_apart x body_term without)
+          (typed_under_fewer r.imports body.imports (supply_of hold ∷ []) body_term t agree typed)
         where
           agree : (y : Name) → Contains (things 0 body_term) (Named y) → import_type body.imports y ≡ import_type r.imports y
           agree y has =
@@ -156,36 +158,71 @@ module _
               ∙ sym (type_has r.imports differ y name.import name.outside name.same)
 
       -- So the body realises it.
-      body_realises : NameIsRealised → BodyIsInstantiated → RealisesWired types (ns ++ n ∷ []) m → type_of_node m ≡ t → IsWidth w
-          → All LiteralFits body.parts → Typed r.imports (Var w ∷ []) body_term t → Realises t body (instantiate body_term (Import x))
-      body_realises names means rm type_m wide fit typed =
+      body_realises : Realises (supply_of hold) (port_plan x (supply_of hold)) (Import x) → BodyIsInstantiated → RealisesWired types (ns ++ n ∷ []) m → type_of_node m ≡ t
+          → All LiteralFits body.parts → Typed r.imports (supply_of hold ∷ []) body_term t → Realises t body (instantiate body_term (Import x))
+      body_realises realised means rm type_m fit typed =
           let same = instantiated means in
           subst (λ (u : Type'). Realises u body (instantiate body_term (Import x))) type_m
           (subst (Realises (type_of_node m) body) (sym same)
-          (rm a b inner pc body v (inner_supplies names wide) body_differ fit
+          (rm a b inner pc body v (inner_supplies realised) body_differ fit
           (subst (Typed body.imports [] (meaning (terms_of inner) m)) (sym type_m)
           (subst (λ (c : Term). Typed body.imports [] c t) same (body_typed typed)))))
 
+-- the block's term, and what the plan of its body realises
+abbrev term_of : Holder → Term → Term
+term_of (OneNumber w) m = New w m
+term_of (ManyNumbers k w) m = NewArray k w m
+
+module _
+    (hold : Holder) (named_so : (x : Name) → Realises (supply_of hold) (port_plan x (supply_of hold)) (Import x)) (means : BodyIsInstantiated)
+    (types : Types) (ns : List ℕ) (t : Type') (n : ℕ) (m : Numbered) (type_m : type_of_node m ≡ t) (type_n : types n ≡ supply_of hold) (bound : IsBound n m ns)
+    (leaves : HasLeaves m) (scope : InScope (ns ++ n ∷ []) m) (rm : RealisesWired types (ns ++ n ∷ []) m)
+    (i j : ℕ) (env : Supplies) (pl : Placing) (r : Plan) (wired : IsWired types i j (Under t [] (binding_of hold) n m) ns env pl r)
+    (supplies : AreRealised types env ns) (differ : NamesDiffer r.imports) (fit : All LiteralFits r.parts)
+    (typed : Typed r.imports (supply_of hold ∷ []) (meaning (below n (terms_of env)) m) t) where
+  abbrev body : Term
+  body = meaning (below n (terms_of env)) m
+
+  abbrev Made : Name → Type 0
+  Made x = HasBody types i j n m ns env (pl.own 0) (server_of hold (bits r.outcome)) x r
+
+  -- where the block with such a body realises its term it does
+  abbrev ByBody : Name → Type 0
+  ByBody x =
+      (h : Made x) → IsHeard h.block.cut r h.block.body → Realises r.outcome h.block.body (instantiate body (Import h.block.variable.name))
+      → Realises r.outcome r (term_of hold body)
+
+  finish : (x : Name) → ((y : Imported) → Contains r.imports y → y.name ≢ x) → ByBody x → Made x → Realises t r (term_of hold body)
+  finish x fresh by h =
+      let apart = named.body_differ types ns (binding_of hold) (supply_of hold) n m env x t i j (i + 1) (suc j) pl h.placing r h.block.body wired h.wired differ fresh in
+      let realised =
+      body_realises types ns hold n m type_n bound env supplies x t i j (i + 1) (suc j) pl h.placing r h.block.body wired h.wired differ fresh leaves scope
+      (named_so x) means rm type_m (literals_within h.block.cut r h.block.body h.is_block.cut fit) typed in
+      subst (λ (u : Type'). Realises u r (term_of hold body)) wired.outcome
+      (by h (body_heard r h.block h.is_block apart h.imports)
+      (subst (λ (y : Imported). Realises r.outcome h.block.body (instantiate body (Import y.name))) (sym h.name)
+      (subst (λ (u : Type'). Realises u h.block.body (instantiate body (Import x))) (sym wired.outcome) realised)))
+
 pub block_case : BlockIsWired → BlockRealises → NameIsRealised → BodyIsInstantiated → BlockCase
 block_case wiring law names means types ns t w n m done type_m type_n bound leaves scope rm i j env pl r wired supplies differ fit (is_done, wide, typed) =
-    with_fresh (fresh_name r.imports) (is_fresh r.imports)
-  where
-    with_fresh : (x : Name) → ((y : Imported) → Contains r.imports y → y.name ≢ x) → Realises t r (New w (meaning (below n (terms_of env)) m))
-    with_fresh x fresh = finish (wiring types i j w n t m ns env pl x r wired done type_m type_n bound fresh)
-      where
-        heard : (h : HasBody types i j n m ns env (pl.own 0) w x r) → IsHeard h.block.cut r h.block.body
-        heard h =
-            body_heard r h.block h.is_block
-            (named.body_differ types ns w n m env x t i j (i + 1) (suc j) pl h.placing r h.block.body wired h.wired differ fresh) h.imports
+    let x = fresh_name r.imports in
+    let fresh = is_fresh r.imports in
+    let term : Term = meaning (below n (terms_of env)) m in
+    finish (OneNumber w) (λ y. names y (Var w) tt wide) means types ns t n m type_m type_n bound leaves scope rm i j env pl r wired supplies differ fit typed x fresh
+    (λ h heard body.
+    law r h.block w term h.is_block heard h.server fit
+    (imports_are_ports types i j (Under t [] (OfNew w) n m) ns env pl r wired supplies) differ
+    (subst (λ (u : Type'). Typed r.imports [] (New w term) u) (sym wired.outcome) (is_done, wide, typed)) body)
+    (wiring types i j w n t m ns env pl x r wired done type_m type_n bound fresh)
 
-        finish : HasBody types i j n m ns env (pl.own 0) w x r → Realises t r (New w (meaning (below n (terms_of env)) m))
-        finish h =
-            let realised =
-            body_realises types ns w n m type_n bound env supplies x t i j (i + 1) (suc j) pl h.placing r h.block.body wired h.wired differ fresh leaves scope
-            names means rm type_m wide (literals_within h.block.cut r h.block.body h.is_block.cut fit) typed in
-            subst (λ (u : Type'). Realises u r (New w (meaning (below n (terms_of env)) m))) wired.outcome
-            (law r h.block w (meaning (below n (terms_of env)) m) h.is_block (heard h) h.server fit
-            (imports_are_ports types i j (Under t [] (OfNew w) n m) ns env pl r wired supplies) differ
-            (subst (λ (u : Type'). Typed r.imports [] (New w (meaning (below n (terms_of env)) m)) u) (sym wired.outcome) (is_done, wide, typed))
-            (subst (λ (y : Imported). Realises r.outcome h.block.body (instantiate (meaning (below n (terms_of env)) m) (Import y.name))) (sym h.name)
-            (subst (λ (u : Type'). Realises u h.block.body (instantiate (meaning (below n (terms_of env)) m) (Import x))) (sym wired.outcome) realised)))
+pub array_block_case : ArrayBlockIsWired → ArrayBlockRealises → ArrayNameIsRealised → BodyIsInstantiated → ArrayBlockCase
+array_block_case wiring law names means types ns t k w n m done type_m type_n bound leaves scope rm i j env pl r wired supplies differ fit (is_done, length, wide, typed) =
+    let x = fresh_name r.imports in
+    let fresh = is_fresh r.imports in
+    let term : Term = meaning (below n (terms_of env)) m in
+    finish (ManyNumbers k w) (λ y. names y (index_width k) w wide) means types ns t n m type_m type_n bound leaves scope rm i j env pl r wired supplies differ fit typed x fresh
+    (λ h heard body.
+    law r h.block k w term h.is_block heard h.server fit
+    (imports_are_ports types i j (Under t [] (OfArray k w) n m) ns env pl r wired supplies) differ
+    (subst (λ (u : Type'). Typed r.imports [] (NewArray k w term) u) (sym wired.outcome) (is_done, length, wide, typed)) body)
+    (wiring types i j k w n t m ns env pl x r wired done type_m type_n bound fresh)

@@ -8,7 +8,7 @@ use Rattle.gos_model.specs.Terms as terms
 use Rattle.gos_model.specs.Terms.{Term, Name}
 use Rattle.gos_model.specs.Typing.{Thing, Variable, Named, things}
 use Rattle.gos_check.specs.declared.linear.Split.{Split}
-use Rattle.gos_check.specs.Nodes.{Numbered, Closed, Use, Under, One, Two, If, Binding, OfFun, OfNew, OneForm, OfFst, OfSnd, OfDeref, OfNot, TwoForm, OfApp, OfBoth, OfSeq, OfPar, OfWhile, OfAssign, OfBin, Meaning, shifted, below, inside_one, inside, meaning, binder_term, one_term, two_term}
+use Rattle.gos_check.specs.Nodes.{Numbered, Closed, Use, Under, One, Two, If, Binding, OfFun, OfNew, OfArray, OneForm, OfFst, OfSnd, OfDeref, OfNot, TwoForm, OfApp, OfBoth, OfSeq, OfPar, OfWhile, OfAssign, OfBin, Meaning, shifted, below, inside_one, inside, meaning, binder_term, one_term, two_term}
 use Rattle.gos_terms.specs.stages.Inside.{AreSplit, numbers_inside}
 use Rattle.gos_terms.specs.meanings.Meanings.{IsLeaf, HasLeaves}
 use Rattle.gos_terms.specs.numbers.Kept.{InScope}
@@ -128,6 +128,7 @@ leaf_names d (terms.Put m k) x leaf h = absurd leaf
 binder_things : (d : ℕ) (b : Binding) (t : Type') (m : Term) → things d (binder_term b t m) ≡ things (suc d) m
 binder_things d OfFun t m = refl
 binder_things d (OfNew w) t m = refl
+binder_things d (OfArray k w) t m = refl
 
 one_things : (d : ℕ) (g : OneForm) (m : Term) → things d (one_term g m) ≡ things d m
 one_things d OfFst m = refl

@@ -6,10 +6,10 @@ use Rattle.std.proofs.Common.{refl, sym, ◌∙◌, ap, arith}
 use Rattle.std.proofs.lemmas.Bool.{ne_eqb}
 use Rattle.gos_types.specs.Types.{Type', Var}
 use Rattle.gos_model.specs.Terms.{Term, Bound, Loc}
-use Rattle.gos_model.specs.Typing.{Imports, Typed}
+use Rattle.gos_model.specs.Typing.{Imports, Typed, array_type}
 use Rattle.gos_model.proofs.NumberLemmas.{number_cases}
 use Rattle.gos_check.specs.declared.linear.Split.{Split}
-use Rattle.gos_check.specs.Nodes.{Numbered, Closed, Use, Under, One, Two, If, OfFun, OfNew, OfFst, OfSnd, OfDeref, OfNot, OfApp, OfBoth, OfSeq, OfPar, OfWhile, OfAssign, OfBin, Meaning, meaning, shifted, argument_of, below, inside, inside_one}
+use Rattle.gos_check.specs.Nodes.{Numbered, Closed, Use, Under, One, Two, If, OfFun, OfNew, OfArray, OfFst, OfSnd, OfDeref, OfNot, OfApp, OfBoth, OfSeq, OfPar, OfWhile, OfAssign, OfBin, Meaning, meaning, shifted, argument_of, below, inside, inside_one}
 use Rattle.gos_check.specs.Linearity.{times, split_in, sides, all_sides}
 use Rattle.gos_check.proofs.TimesLemmas.{times_none, times_other, times-append, one_other, one_left, one_right}
 use Rattle.gos_compile.proofs.KnownLemmas.{sides_times}
@@ -42,6 +42,7 @@ uses_stand i g env (Closed t ss c) u typed = tt
 uses_stand i g env (Use t ss n) u typed = typed_stands i g (env n) u typed
 uses_stand i g env (Under t ss OfFun n m) u typed = uses_stand i (argument_of t ∷ g) (below n (inside ss env)) m typed.0 typed.2
 uses_stand i g env (Under t ss (OfNew w) n m) u typed = uses_stand i (Var w ∷ g) (below n (inside ss env)) m u typed.2
+uses_stand i g env (Under t ss (OfArray c w) n m) u typed = uses_stand i (array_type c w ∷ g) (below n (inside ss env)) m u typed.3
 uses_stand i g env (One t ss OfFst m) u typed = uses_stand i g (inside ss env) m _ typed.1
 uses_stand i g env (One t ss OfSnd m) u typed = uses_stand i g (inside ss env) m _ typed.1
 uses_stand i g env (One t ss OfDeref m) u typed = uses_stand i g (inside ss env) m _ typed.2

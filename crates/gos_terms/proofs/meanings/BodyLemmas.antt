@@ -5,7 +5,7 @@ use Rattle.gos_types.specs.Types.{Type'}
 use Rattle.gos_model.specs.Terms as terms
 use Rattle.gos_model.specs.Terms.{Term}
 use Rattle.gos_model.specs.Substitution.{put_at}
-use Rattle.gos_check.specs.Nodes.{Numbered, Closed, Use, Under, One, Two, If, Binding, OfFun, OfNew, OneForm, OfFst, OfSnd, OfDeref, OfNot, TwoForm, OfApp, OfBoth, OfSeq, OfPar, OfWhile, OfAssign, OfBin, Meaning, shifted, below, inside, binder_term, one_term, two_term}
+use Rattle.gos_check.specs.Nodes.{Numbered, Closed, Use, Under, One, Two, If, Binding, OfFun, OfNew, OfArray, OneForm, OfFst, OfSnd, OfDeref, OfNot, TwoForm, OfApp, OfBoth, OfSeq, OfPar, OfWhile, OfAssign, OfBin, Meaning, shifted, below, inside, binder_term, one_term, two_term}
 use Rattle.gos_terms.specs.meanings.Meanings.{IsLeaf, BodyIsInstantiated, standing}
 use Rattle.gos_terms.proofs.meanings.MapLemmas.{IsByForms, UsesKnown, IsShifted, mapped}
 use Rattle.gos_terms.proofs.meanings.StillLemmas.{other, put_still, shift_still}
@@ -45,6 +45,7 @@ module _ (t : Term) where
   puts_binder : (d : ℕ) (b : Binding) (a : Type') (m : Term) → put_at d t (binder_term b a m) ≡ binder_term b a (put_at (suc d) t m)
   puts_binder d OfFun a m = refl
   puts_binder d (OfNew w) a m = refl
+  puts_binder d (OfArray k w) a m = refl
 
   puts_one : (d : ℕ) (g : OneForm) (m : Term) → put_at d t (one_term g m) ≡ one_term g (put_at d t m)
   puts_one d OfFst m = refl

@@ -6,10 +6,10 @@ use Rattle.std.proofs.Common.{refl, sym, ◌∙◌, ap, subst}
 use Rattle.gos_types.specs.Types.{Type', Com, Exp, Var, Pair, Fun}
 use Rattle.gos_model.specs.Terms as terms
 use Rattle.gos_model.specs.Terms.{Term, Name}
-use Rattle.gos_model.specs.Typing.{Imports, Imported, Typed}
+use Rattle.gos_model.specs.Typing.{Imports, Imported, Typed, array_type}
 use Rattle.gos_model.specs.Linking.{supplied, or_import}
 use Rattle.gos_check.specs.declared.linear.Split.{Split}
-use Rattle.gos_check.specs.Nodes.{Numbered, Closed, Use, Under, One, Two, If, Binding, OfFun, OfNew, OneForm, OfFst, OfSnd, OfDeref, OfNot, TwoForm, OfApp, OfBoth, OfSeq, OfPar, OfWhile, OfAssign, OfBin, Meaning, argument_of, shifted, below, inside_one, inside, meaning, binder_term, one_term, two_term}
+use Rattle.gos_check.specs.Nodes.{Numbered, Closed, Use, Under, One, Two, If, Binding, OfFun, OfNew, OfArray, OneForm, OfFst, OfSnd, OfDeref, OfNot, TwoForm, OfApp, OfBoth, OfSeq, OfPar, OfWhile, OfAssign, OfBin, Meaning, argument_of, shifted, below, inside_one, inside, meaning, binder_term, one_term, two_term}
 use Rattle.gos_check.specs.Linearity.{import_at}
 use Rattle.gos_realises.specs.realises.Realises.{NamesDiffer}
 use Rattle.gos_realises.specs.realises.Modules.{Supply, term_for}
@@ -49,6 +49,7 @@ module _ (f : Name → Option Term) where
   binder : (b : Binding) (a : Type') (m : Term) → supplied f (binder_term b a m) ≡ binder_term b a (supplied f m)
   binder OfFun a m = refl
   binder (OfNew w) a m = refl
+  binder (OfArray k w) a m = refl
 
   one : (g : OneForm) (m : Term) → supplied f (one_term g m) ≡ one_term g (supplied f m)
   one OfFst m = refl
@@ -207,6 +208,8 @@ uses_named i g env (Under u ss OfFun n m) t all (b, e, h) =
     uses_named i (argument_of u ∷ g) (below n (inside ss env)) m b (below_sources n (inside ss env) (inside_sources ss env all)) h
 uses_named i g env (Under u ss (OfNew w) n m) t all (done, wide, h) =
     uses_named i (Var w ∷ g) (below n (inside ss env)) m t (below_sources n (inside ss env) (inside_sources ss env all)) h
+uses_named i g env (Under u ss (OfArray c w) n m) t all (done, length, wide, h) =
+    uses_named i (array_type c w ∷ g) (below n (inside ss env)) m t (below_sources n (inside ss env) (inside_sources ss env all)) h
 uses_named i g env (One u ss OfFst m) t all (b, h) = uses_named i g (inside ss env) m (Pair t b) (inside_sources ss env all) h
 uses_named i g env (One u ss OfSnd m) t all (a, h) = uses_named i g (inside ss env) m (Pair a t) (inside_sources ss env all) h
 uses_named i g env (One u ss OfDeref m) t all (w, e, h) = uses_named i g (inside ss env) m (Var w) (inside_sources ss env all) h

@@ -9,7 +9,7 @@ use Rattle.gos_model.specs.Terms.{Term}
 use Rattle.gos_model.specs.Typing.{Thing, Variable, Named, things}
 use Rattle.gos_model.proofs.NumberLemmas.{either, number_cases}
 use Rattle.gos_check.specs.declared.linear.Split.{Split}
-use Rattle.gos_check.specs.Nodes.{Numbered, Closed, Use, Under, One, Two, If, Binding, OfFun, OfNew, OneForm, OfFst, OfSnd, OfDeref, OfNot, TwoForm, OfApp, OfBoth, OfSeq, OfPar, OfWhile, OfAssign, OfBin, Meaning, meaning, below, shifted, inside, binder_term, one_term, two_term}
+use Rattle.gos_check.specs.Nodes.{Numbered, Closed, Use, Under, One, Two, If, Binding, OfFun, OfNew, OfArray, OneForm, OfFst, OfSnd, OfDeref, OfNot, TwoForm, OfApp, OfBoth, OfSeq, OfPar, OfWhile, OfAssign, OfBin, Meaning, meaning, below, shifted, inside, binder_term, one_term, two_term}
 use Rattle.gos_check.specs.Linearity.{times, split_in, sides, used, made}
 use Rattle.gos_check.proofs.TimesLemmas.{times_same, times_other, times-append, inside_other}
 use Rattle.gos_compile.specs.Wiring.{Types}
@@ -41,6 +41,7 @@ thing_below d m th h = absurd h
 binder_free : (d : ℕ) (b : Binding) (t : Type') (m : Term) (th : Thing) → Contains (things (suc d) m) th → Contains (things d (binder_term b t m)) th
 binder_free d OfFun t m th h = h
 binder_free d (OfNew w) t m th h = h
+binder_free d (OfArray k w) t m th h = h
 
 one_free : (d : ℕ) (f : OneForm) (m : Term) (th : Thing) → Contains (things d m) th → Contains (things d (one_term f m)) th
 one_free d OfFst m th h = h

@@ -4,10 +4,10 @@ use Rattle.std.proofs.Common.{refl, sym, subst, arith, inl, inr}
 use Rattle.gos_types.specs.Types.{Type', Var, type_of}
 use Rattle.gos_model.specs.Terms as terms
 use Rattle.gos_model.specs.Terms.{Term}
-use Rattle.gos_model.specs.Typing.{Imports, Typed, Apart, Thing, Variable, Named}
+use Rattle.gos_model.specs.Typing.{Imports, Typed, Apart, Thing, Variable, Named, array_type}
 use Rattle.gos_model.proofs.NumberLemmas.{either}
 use Rattle.gos_check.specs.declared.linear.Split.{Split}
-use Rattle.gos_check.specs.Nodes.{Numbered, Closed, Use, Under, One, Two, If, TwoForm, OfFun, OfNew, OfFst, OfSnd, OfDeref, OfNot, OfApp, OfBoth, OfSeq, OfPar, OfWhile, OfAssign, OfBin, Meaning, meaning, below, inside, argument_of, node_seen}
+use Rattle.gos_check.specs.Nodes.{Numbered, Closed, Use, Under, One, Two, If, TwoForm, OfFun, OfNew, OfArray, OfFst, OfSnd, OfDeref, OfNot, OfApp, OfBoth, OfSeq, OfPar, OfWhile, OfAssign, OfBin, Meaning, meaning, below, inside, argument_of, node_seen}
 use Rattle.gos_check.specs.Linearity.{times, used, made, sides, import_at}
 use Rattle.gos_check.specs.Checked.{program_in}
 use Rattle.gos_check.proofs.TimesLemmas.{times-append}
@@ -93,6 +93,9 @@ unsplit types ns (Under t ss OfFun n m) i g env u is names typed none =
 unsplit types ns (Under t ss (OfNew w) n m) i g env u is names typed none =
     unsplit types (ns ++ n ∷ []) m i (Var w ∷ g) (below n (inside ss env)) u (body_is_kept types ns t ss (OfNew w) n m is).1
     (below_names n (inside ss env) (inside_names ss env names)) typed.2 (two_none (lost_in env ss) (lost (below n (inside ss env)) m) none).1
+unsplit types ns (Under t ss (OfArray c w) n m) i g env u is names typed none =
+    unsplit types (ns ++ n ∷ []) m i (array_type c w ∷ g) (below n (inside ss env)) u (body_is_kept types ns t ss (OfArray c w) n m is).1
+    (below_names n (inside ss env) (inside_names ss env names)) typed.3 (two_none (lost_in env ss) (lost (below n (inside ss env)) m) none).1
 unsplit types ns (One t ss OfFst m) i g env u is names typed none =
     unsplit types ns m i g (inside ss env) _ (part_is_kept types ns t ss OfFst m is).1.kept
     (inside_names ss env names) typed.1 (two_none (lost_in env ss) (lost (inside ss env) m) none).1

@@ -1,17 +1,15 @@
--- A node `new x : w in m` that is wired to supplies is made of its body, wired to them and to a name.
+-- A node `new x : w in m`, or `new a[n] : w in m`, that is wired to supplies is made of its body, wired to them and to a name.
 use Rattle.std.specs.Prelude.{◌≡◌, ◌≢◌, ℕ, zero, suc, ◌+◌, ◌-◌, ◌<◌, ◌⊎◌, Bool, true, false, List, [], ◌∷◌, ◌++◌, Option, Some, None, slice_get, nat_eq, Contains, if◌then◌else◌}
 use Rattle.std.proofs.Common.{refl, sym, ◌∙◌, ap, subst, arith, inl, inr}
 use Rattle.std.proofs.lemmas.Option.{none-some, same_Some, slice_get_within}
 use Rattle.std.proofs.lemmas.List.Elements.{Contains-append_left, Contains-append_cases}
 use Rattle.std.proofs.lemmas.Bool.{eqb-true, eq-eqb}
-use Rattle.gos_types.specs.declared.shakes.Role.TheVariants.{Serve, Ask}
 use Rattle.gos_types.specs.Types.{Type', Com, Exp, Var, Pair, Fun, IsDone}
 use Rattle.gos_model.specs.Terms.{Name}
 use Rattle.gos_model.specs.Typing.{Imported}
 use Rattle.gos_nodes.specs.sessions.Sessions.{bits}
-use Rattle.gos_check.specs.Nodes.{Numbered, Under, OfNew, type_of_node}
-use Rattle.gos_plan.specs.Kinds as kinds
-use Rattle.gos_plan.specs.Kinds.{Part, Contact, asks, serves, contacts_of, part_contacts}
+use Rattle.gos_check.specs.Nodes.{Numbered, Under, type_of_node}
+use Rattle.gos_plan.specs.Kinds.{Part, Contact, asks, contacts_of, part_contacts}
 use Rattle.gos_plan.specs.Plans.{End, PartEnd, ImportEnd, ResultEnd, Joint, Plan, contacts_of_part, contacts_of_import, turned_if, contact_at}
 use Rattle.gos_plan.specs.Tokens.{IsPortEnd}
 use Rattle.gos_plan.proofs.JointLemmas.{one_joint, contained}
@@ -29,15 +27,14 @@ use Rattle.gos_nodes.proofs.windows.PortLemmas.{stands_contact}
 use Rattle.gos_nodes.specs.folds.Folds.{joined_cut, with_joints}
 use Rattle.gos_nodes.proofs.folds.RegionLemmas.{folded_joint}
 use Rattle.gos_nodes.specs.parallel.Parallel.{IsJointOf, IsPartOf}
-use Rattle.gos_supplies.specs.names.Names.{name_plan, imported}
-use Rattle.gos_nodes.specs.blocks.Servers.{local_server}
+use Rattle.gos_supplies.specs.names.Names.{imported}
 use Rattle.gos_nodes.specs.blocks.Block.{Block, IsBlock}
-use Rattle.gos_nodes.proofs.blocks.DriverLemmas.{local_is_server}
+use Rattle.gos_nodes.proofs.blocks.ServerLemmas.{WhichContact, at_body, at_supply, at_run, body_contact, supply_contact, which_contact}
 use Rattle.gos_compile.specs.Wiring.{Types, parts_of, answer_bits}
 use Rattle.gos_terms.specs.wired.Wired.{Supplies, Source, Own, Supplied, Placing, IsFrom, placed, source_dot, result_ties, supply_ties, all_supply_ties, IsWired}
 use Rattle.gos_terms.specs.wired.Wired as origins
 use Rattle.gos_terms.proofs.wired.TieLemmas.{of_results}
-use Rattle.gos_terms.specs.regions.Blocks.{with_name, IsBound, HasBody, BlockIsWired}
+use Rattle.gos_terms.specs.regions.Blocks.{port_plan, with_name, IsBound, HasBody, BlockIsWired, ArrayBlockIsWired}
 use Rattle.gos_terms.proofs.regions.NumberingLemmas.{origin, import_there, import_is}
 use Rattle.gos_terms.proofs.regions.FrameLemmas as frames
 use Rattle.gos_terms.proofs.regions.FrameLemmas.{size, in_range_true, out_of_range, itself_true, own_part, back, laid, laid_end}
@@ -46,8 +43,9 @@ use Rattle.gos_terms.proofs.regions.ChildLemmas as children
 use Rattle.gos_terms.proofs.regions.FoldLemmas.{HasPlan, has_plan}
 use Rattle.gos_terms.proofs.regions.CutLemmas.{region_is_cut}
 use Rattle.gos_terms.proofs.regions.RegionLemmas.{lies_joined, IsIn, in_number, in_back, keeps_imports}
+use Rattle.gos_terms.proofs.regions.HolderLemmas.{Holder, OneNumber, ManyNumbers, binding_of, supply_of, part_of, server_of, server_is, run_contact, holder_part, port_imports}
 use Rattle.gos_terms.proofs.regions.BodyLemmas as bodies
-use Rattle.gos_terms.proofs.regions.BodyLemmas.{block_port, block_port_end, done_contact, done_only, variable_contact}
+use Rattle.gos_terms.proofs.regions.BodyLemmas.{block_port, block_port_end, port_below, port_end_below, below_port, done_contact, done_only, name_tie, turned_tie, of_name}
 
 pub same_bits : (t : Type') → IsDone t → answer_bits t ≡ bits t
 same_bits Com done = refl
@@ -56,27 +54,18 @@ same_bits (Var w) done = absurd done
 same_bits (Pair a b) done = absurd done
 same_bits (Fun a b) done = absurd done
 
--- a variable asks nothing
-serves_not_asks : Serve ≡ Ask → ⊥
-serves_not_asks e = cc e
-
-none_asks : (w h : ℕ) (c : Contact) → slice_get (contacts_of (Var w)) h ≡ Some c → c.role ≡ Ask → ⊥
-none_asks w zero c at asks = serves_not_asks (ap (λ (x : Contact). x.role) (same_Some (serves 0 w) c at) ∙ asks)
-none_asks w (suc zero) c at asks = serves_not_asks (ap (λ (x : Contact). x.role) (same_Some (serves w 0) c at) ∙ asks)
-none_asks w (suc (suc h)) c at asks = none-some c at
-
 module _
-    (types : Types) (i j w n : ℕ) (t : Type') (m : Numbered) (ns : List ℕ) (env : Supplies) (pl : Placing) (x : Name) (r : Plan)
-    (is : IsWired types i j (Under t [] (OfNew w) n m) ns env pl r)
-    (done : IsDone t) (type_m : type_of_node m ≡ t) (type_n : types n ≡ Var w) (bound : IsBound n m ns) where
+    (types : Types) (i j : ℕ) (hold : Holder) (n : ℕ) (t : Type') (m : Numbered) (ns : List ℕ) (env : Supplies) (pl : Placing) (x : Name) (r : Plan)
+    (is : IsWired types i j (Under t [] (binding_of hold) n m) ns env pl r)
+    (done : IsDone t) (type_m : type_of_node m ≡ t) (type_n : types n ≡ supply_of hold) (bound : IsBound n m ns) where
   abbrev s : Sitting
-  s = bodies.s types i j w n t m ns env pl x done type_m type_n bound
+  s = bodies.s types i j hold n t m ns env pl x done type_m type_n bound
 
   abbrev sits : IsSitting s
-  sits = bodies.is_sitting types i j w n t m ns env pl x done type_m type_n bound
+  sits = bodies.is_sitting types i j hold n t m ns env pl x done type_m type_n bound
 
   abbrev inner : Supplies
-  inner = with_name n x (Var w) env
+  inner = with_name n x (supply_of hold) env
 
   abbrev numbers : List ℕ
   numbers = ns ++ n ∷ []
@@ -88,29 +77,38 @@ module _
   place = plc.import n 0
 
   abbrev variable : Imported
-  variable = imported x (Var w)
+  variable = imported x (supply_of hold)
 
   abbrev v : ℕ
   v = answer_bits t
 
-  abbrev local_part : Part
-  local_part = kinds.Local w v
+  abbrev own_part_is : Part
+  own_part_is = part_of hold v
 
-  name_there : (k : ℕ) → nat_eq k n ≡ true → (inner k).plan ≡ name_plan x (Var w)
-  name_there k e = ap (λ (y : Supply). y.plan) (bodies.name_there types i j w n t m ns env pl x done type_m type_n bound k e)
+  abbrev served : ℕ
+  served = count (supply_of hold)
+
+  name_there : (k : ℕ) → nat_eq k n ≡ true → (inner k).plan ≡ port_plan x (supply_of hold)
+  name_there k e = ap (λ (y : Supply). y.plan) (bodies.name_there types i j hold n t m ns env pl x done type_m type_n bound k e)
+
+  its_name : (k : ℕ) → nat_eq k n ≡ true → (inner k).plan.imports ≡ variable ∷ []
+  its_name k e = ap (λ (p : Plan). p.imports) (name_there k e) ∙ port_imports x (supply_of hold)
 
   same_n : nat_eq n n ≡ true
   same_n = eq-eqb n n refl
 
-  driver : (slice_get r.parts (pl.own 0) ≡ Some local_part) × (pl.source (pl.own 0) ≡ Own 0)
-  driver = is.parts local_part (Own 0) refl
+  parts_are : (k : ℕ) → slice_get (parts_of types (Under t [] (binding_of hold) n m)) k ≡ slice_get (own_part_is ∷ parts_of types m) k
+  parts_are k = ap (λ (ps : List Part). slice_get (ps ++ parts_of types m) k) (holder_part hold t)
+
+  driver : (slice_get r.parts (pl.own 0) ≡ Some own_part_is) × (pl.source (pl.own 0) ≡ Own 0)
+  driver = is.parts own_part_is (Own 0) (parts_are 0)
 
   own_outside : (its_cut s r).number (pl.own 0) ≡ None
   own_outside =
       (λ a. number_of s.frame plc (driver.0 a) (driver.1 a))
       ∙ ap (λ (b : Bool). number_if b (0 - 1)) (out_of_range 1 (size s.frame) 0 (inl (omega arith)))
 
-  own_contact : (h : ℕ) → contact_at r (PartEnd (pl.own 0) h) ≡ slice_get (part_contacts local_part) h
+  own_contact : (h : ℕ) → contact_at r (PartEnd (pl.own 0) h) ≡ slice_get (part_contacts own_part_is) h
   own_contact h = ap (λ (y : Option Part). slice_get (contacts_of_part y) h) driver.0
 
   own_dot : (h : ℕ) → (whole_web s).at (PartEnd (pl.own 0) h) ≡ Within 0 (Of (PartEnd i h))
@@ -118,8 +116,8 @@ module _
       let same : i + 0 ≡ i = omega arith in
       ap (λ (a : Source). source_dot i a h) driver.1 ∙ ap (λ (a : ℕ). Within 0 (Of (PartEnd a h))) same
 
-  own_inner : (h : ℕ) → its_inner s r (PartEnd (pl.own 0) h) ≡ block_port_end place h
-  own_inner h = ap (λ (b : Bool). if b then block_port_end place h else None) (eq-eqb (pl.own 0) (pl.own 0) refl)
+  own_inner : (h : ℕ) → its_inner s r (PartEnd (pl.own 0) h) ≡ block_port_end served place h
+  own_inner h = ap (λ (b : Bool). if b then block_port_end served place h else None) (eq-eqb (pl.own 0) (pl.own 0) refl)
 
   -- the result
   result_contact : contact_at (child_plan s) (ResultEnd 0) ≡ Some (asks 0 v)
@@ -130,7 +128,7 @@ module _
       record {
         outside = own_outside;
         inner = own_inner 0;
-        contact = own_contact 0;
+        contact = own_contact 0 ∙ body_contact (server_of hold v) v (server_is hold v);
         folded = (sym (own_dot 0), ap (back s.frame) (own_dot 0) ∙ own_part s.frame 0);
       }
 
@@ -141,11 +139,11 @@ module _
   -- the variable
   variable_there : (slice_get (child_plan s).imports place ≡ Some variable) × (plc.origin place ≡ origin n 0)
   variable_there =
-      import_there (child_parts s) inner numbers n 0 variable (bodies.bound_in types i j w n t m ns env pl x done type_m type_n bound)
-      (ap (λ (p : Plan). slice_get p.imports 0) (name_there n same_n))
+      import_there (child_parts s) inner numbers n 0 variable (bodies.bound_in types i j hold n t m ns env pl x done type_m type_n bound)
+      (ap (λ (is : List Imported). slice_get is 0) (its_name n same_n))
 
   -- an import of the name is the variable
-  only_import : (b : ℕ) (y : Imported) → slice_get (name_plan x (Var w)).imports b ≡ Some y → (b ≡ 0) × (variable ≡ y)
+  only_import : (b : ℕ) (y : Imported) → slice_get (variable ∷ []) b ≡ Some y → (b ≡ 0) × (variable ≡ y)
   only_import zero y e = (refl, same_Some variable y e)
   only_import (suc b) y e = absurd (none-some y e)
 
@@ -154,28 +152,20 @@ module _
   is_variable a y e named =
       let (has, at, home) = import_is (child_parts s) inner numbers sits.once a y e in
       let number : (plc.origin a).number ≡ n = eqb-true (plc.origin a).number n named in
-      let (none, same) = only_import (plc.origin a).import y (ap (λ (p : Plan). slice_get p.imports (plc.origin a).import) (sym (name_there (plc.origin a).number named)) ∙ at) in
+      let (none, same) = only_import (plc.origin a).import y (ap (λ (is : List Imported). slice_get is (plc.origin a).import) (sym (its_name (plc.origin a).number named)) ∙ at) in
       ((λ b. plc.import (sym number b) (sym none b)) ∙ home, same)
 
   variable_contact_there : (h : ℕ) (c : Contact) → contact_at (child_plan s) (ImportEnd place h) ≡ Some c
-      → (h < 2) × (slice_get (part_contacts local_part) (suc h) ≡ Some c)
+      → (h < served) × (slice_get (part_contacts own_part_is) (suc h) ≡ Some c)
   variable_contact_there h c e =
-      variable_contact w v h c (sym (ap (λ (o : Option Imported). slice_get (contacts_of_import o) h) variable_there.0) ∙ e)
+      let there : slice_get (contacts_of (supply_of hold)) h ≡ Some c =
+      sym (ap (λ (o : Option Imported). slice_get (contacts_of_import o) h) variable_there.0) ∙ e in
+      (slice_get_within (contacts_of (supply_of hold)) h c there, supply_contact (server_of hold v) v (server_is hold v) h c there)
 
   outer_there : (h : ℕ) → its_outer s (ImportEnd place h) ≡ PartEnd (pl.own 0) (suc h)
   outer_there h =
       ap (λ (o : origins.Origin). port_of (nat_eq o.number n) (pl.own 0) h (ImportEnd (pl.import o.number o.import) h)) variable_there.1
       ∙ ap (λ (b : Bool). port_of b (pl.own 0) h (ImportEnd (pl.import n 0) h)) same_n
-
-  port_end_is : (h : ℕ) → h < 2 → block_port_end place (suc h) ≡ Some (ImportEnd place h)
-  port_end_is zero lt = refl
-  port_end_is (suc zero) lt = refl
-  port_end_is (suc (suc h)) lt = absurd (omega (arith, lt))
-
-  port_is : (h : ℕ) → h < 2 → block_port n (suc h) ≡ Some (Within (suc n) (Of (ImportEnd 0 h)))
-  port_is zero lt = refl
-  port_is (suc zero) lt = refl
-  port_is (suc (suc h)) lt = absurd (omega (arith, lt))
 
   named_laid : (e : End) → laid s.frame (Within (suc n) (Of e)) ≡ laid_end true i n e
   named_laid e = ap (λ (b : Bool). laid_end b i n e) same_n
@@ -188,12 +178,12 @@ module _
       ap (λ (o : origins.Origin). Within (suc o.number) (Of (ImportEnd o.import h))) variable_there.1 in
       record {
         outside = subst (λ (d : End). IsOutside (its_cut s r) d) (sym outer) own_outside;
-        inner = ap (its_inner s r) outer ∙ (own_inner (suc h) ∙ port_end_is h lt);
+        inner = ap (its_inner s r) outer ∙ (own_inner (suc h) ∙ port_end_below served place h lt);
         contact = ap (contact_at r) outer ∙ (own_contact (suc h) ∙ con);
         folded = (
           ap (laid s.frame) stands ∙ (named_laid (ImportEnd 0 h) ∙ (sym (own_dot (suc h)) ∙ ap (λ (d : End). (whole_web s).at d) (sym outer))),
           ap (λ (d : End). back s.frame ((whole_web s).at d)) outer
-              ∙ (ap (back s.frame) (own_dot (suc h)) ∙ (own_part s.frame (suc h) ∙ (port_is h lt ∙ ap Some (sym stands)))),
+              ∙ (ap (back s.frame) (own_dot (suc h)) ∙ (own_part s.frame (suc h) ∙ (port_below served n h lt ∙ ap Some (sym stands)))),
         );
       }
 
@@ -206,37 +196,45 @@ module _
       (variable_port h c (ap (λ (b : ℕ). contact_at (child_plan s) (ImportEnd b h)) same ∙ e))
 
   -- the ties of the name
-  whole_in : (u : Tie) → Contains (bodies.whole_dots types i j w n t m ns env pl x done type_m type_n bound) u
+  whole_in : (u : Tie) → Contains (bodies.whole_dots types i j hold n t m ns env pl x done type_m type_n bound) u
       → Contains (whole_web s).ties (tie (Within 0 u.one) (Within 0 u.other))
   whole_in u has =
-      Contains-append_left (within 0 (bodies.whole_dots types i j w n t m ns env pl x done type_m type_n bound)) (all_supply_ties types env ns)
+      Contains-append_left (within 0 (bodies.whole_dots types i j hold n t m ns env pl x done type_m type_n bound)) (all_supply_ties types env ns)
       (tie (Within 0 u.one) (Within 0 u.other))
-      (in_image (λ (y : Tie). tie (Within 0 y.one) (Within 0 y.other)) (bodies.whole_dots types i j w n t m ns env pl x done type_m type_n bound) u has)
+      (in_image (λ (y : Tie). tie (Within 0 y.one) (Within 0 y.other)) (bodies.whole_dots types i j hold n t m ns env pl x done type_m type_n bound) u has)
 
   abbrev LaidWay : Tie → Type 0
   LaidWay u = Way (whole_web s).ties (laid s.frame u.one) (laid s.frame u.other)
+
+  abbrev OwnDot : ℕ → Dot
+  OwnDot h = Within 0 (Of (PartEnd i (suc h)))
+
+  straight_way : (h : ℕ) → LaidWay (name_tie n h)
+  straight_way h =
+      subst (λ (d : Dot). Way (whole_web s).ties d (laid s.frame (Within (suc n) (Of (ImportEnd 0 h))))) (sym (named_laid (ResultEnd h)))
+      (subst (λ (d : Dot). Way (whole_web s).ties (OwnDot h) d) (sym (named_laid (ImportEnd 0 h))) (here (OwnDot h)))
+
+  turned_way : (h : ℕ) → LaidWay (turned_tie n h)
+  turned_way h =
+      subst (λ (d : Dot). Way (whole_web s).ties d (laid s.frame (Within (suc n) (Of (ResultEnd h))))) (sym (named_laid (ImportEnd 0 h)))
+      (subst (λ (d : Dot). Way (whole_web s).ties (OwnDot h) d) (sym (named_laid (ResultEnd h))) (here (OwnDot h)))
 
   name_way : (u : Tie) → Contains (supply_ties types inner n) u → LaidWay u
   name_way u has =
       elim (Contains-append_cases (within (suc n) (own_web (inner n).plan).ties) (result_ties n 0 (count (types n))) u has) [
         | inl own ↦
-            let (h, lt, same) =
-            bodies.of_name types i j w n t m ns env pl x done type_m type_n bound u
-            (subst (λ (p : Plan). Contains (within (suc n) (own_web p).ties) u) (name_there n same_n) own) in
-            subst LaidWay same
-            (subst (λ (d : Dot). Way (whole_web s).ties d (laid s.frame (Within (suc n) (Of (ImportEnd 0 h))))) (sym (named_laid (ResultEnd h)))
-            (subst (λ (d : Dot). Way (whole_web s).ties (Within 0 (Of (PartEnd i (suc h)))) d) (sym (named_laid (ImportEnd 0 h)))
-            (here (Within 0 (Of (PartEnd i (suc h)))))))
+            let (h, lt, which) = of_name hold n x u (subst (λ (p : Plan). Contains (within (suc n) (own_web p).ties) u) (name_there n same_n) own) in
+            elim which [ inl same ↦ subst LaidWay same (straight_way h) | inr same ↦ subst LaidWay same (turned_way h) ]
         | inr later ↦
             let (h, low, high, same) = of_results n 0 (count (types n)) u later in
-            let two = bodies.two_handshakes types i j w n t m ns env pl x done type_m type_n bound in
-            let lt : h < 2 = omega (arith, high, two) in
+            let all = bodies.all_served types i j hold n t m ns env pl x done type_m type_n bound in
+            let lt : h < served = omega (arith, high, all) in
             subst LaidWay (sym same)
             (subst (λ (d : Dot). Way (whole_web s).ties (Within 0 (Number n h)) d) (sym (named_laid (ResultEnd h)))
             (along (Within 0 (Number n h)) (Within 0 (Of (PartEnd i (suc h)))) (Within 0 (Of (PartEnd i (suc h))))
             (inl
             (whole_in (tie (Number n h) (Of (PartEnd i (suc h))))
-            (bodies.variable_in types i j w n t m ns env pl x done type_m type_n bound h lt)))
+            (bodies.variable_in types i j hold n t m ns env pl x done type_m type_n bound h lt)))
             (here (Within 0 (Of (PartEnd i (suc h)))))))
       ]
 
@@ -247,13 +245,23 @@ module _
   abbrev PortAt : ℕ → Contact → Type 0
   PortAt h c = (d : End) × IsPortEnd d × (its_outer s d ≡ PartEnd (pl.own 0) h) × (contact_at (child_plan s) d ≡ Some c)
 
-  own_ports : (h : ℕ) (c : Contact) (y : Dot) → block_port n h ≡ Some y → slice_get (part_contacts local_part) h ≡ Some c → PortAt h c
-  own_ports zero c y stands e = (ResultEnd 0, tt, refl, result_contact ∙ e)
-  own_ports (suc zero) c y stands e =
-      (ImportEnd place 0, tt, outer_there 0, ap (λ (o : Option Imported). slice_get (contacts_of_import o) 0) variable_there.0 ∙ e)
-  own_ports (suc (suc zero)) c y stands e =
-      (ImportEnd place 1, tt, outer_there 1, ap (λ (o : Option Imported). slice_get (contacts_of_import o) 1) variable_there.0 ∙ e)
-  own_ports (suc (suc (suc h))) c y stands e = absurd (none-some y stands)
+  own_ports : (h : ℕ) (c : Contact) (y : Dot) → block_port served n h ≡ Some y → slice_get (part_contacts own_part_is) h ≡ Some c → PortAt h c
+  own_ports zero c y stands e = (ResultEnd 0, tt, refl, result_contact ∙ (sym (body_contact (server_of hold v) v (server_is hold v)) ∙ e))
+  own_ports (suc h) c y stands e = by_contact (which_contact (server_of hold v) v (server_is hold v) (suc h) c e)
+    where
+      by_contact : WhichContact (server_of hold v) v (suc h) c → PortAt (suc h) c
+      by_contact (at_body first is_c) = absurd (omega (arith, first))
+      by_contact (at_supply k same there) =
+          let one : k ≡ h = omega (arith, same) in (
+            ImportEnd place h,
+            tt,
+            outer_there h,
+            ap (λ (o : Option Imported). slice_get (contacts_of_import o) h) variable_there.0
+                ∙ (ap (slice_get (contacts_of (supply_of hold))) (sym one) ∙ there),
+          )
+      by_contact (at_run last is_c) =
+          let low = below_port served n h y stands in
+          let same : suc h ≡ suc served = last in absurd (omega (arith, low, same))
 
   ports : HasPorts s r
   ports =
@@ -268,49 +276,58 @@ module _
   abbrev Whose : Source → Type 0
   Whose o = IsIn s.frame o ⊎ (o ≡ Own 0)
 
-  whose : (y : Part) (o : Source) → IsFrom (parts_of types (Under t [] (OfNew w) n m)) ns env y o → Whose o
+  whose : (y : Part) (o : Source) → IsFrom (parts_of types (Under t [] (binding_of hold) n m)) ns env y o → Whose o
   whose y (Own zero) has = inr refl
   whose y (Own (suc a)) has =
-      let low = slice_get_within (parts_of types (Under t [] (OfNew w) n m)) (suc a) y has in
+      let low = slice_get_within (own_part_is ∷ parts_of types m) (suc a) y (sym (parts_are (suc a)) ∙ has) in
       let less : suc a < 1 + size s.frame = omega (arith, low) in inl (in_range_true 1 (size s.frame) (suc a) (omega arith) less)
-  whose y (Supplied a b) (has, at) = inl (bodies.outer_kept types i j w n t m ns env pl x done type_m type_n bound a has)
+  whose y (Supplied a b) (has, at) = inl (bodies.outer_kept types i j hold n t m ns env pl x done type_m type_n bound a has)
 
   whole_result : (h : ℕ) → contact_at r (ResultEnd h) ≡ turned_if (slice_get (contacts_of t) h)
   whole_result h = ap (λ (u : Type'). turned_if (slice_get (contacts_of u) h)) is.outcome
 
-  run_way : Way (whole_web s).ties (Within 0 (Of (ResultEnd 0))) (Within 0 (Of (PartEnd i 3)))
+  run_way : Way (whole_web s).ties (Within 0 (Of (ResultEnd 0))) (Within 0 (Of (PartEnd i (suc served))))
   run_way =
-      along (Within 0 (Of (ResultEnd 0))) (Within 0 (Of (PartEnd i 3))) (Within 0 (Of (PartEnd i 3)))
-      (inl (whole_in (tie (Of (ResultEnd 0)) (Of (PartEnd i 3))) (bodies.run_in types i j w n t m ns env pl x done type_m type_n bound)))
-      (here (Within 0 (Of (PartEnd i 3))))
+      along (Within 0 (Of (ResultEnd 0))) (Within 0 (Of (PartEnd i (suc served)))) (Within 0 (Of (PartEnd i (suc served))))
+      (inl (whole_in (tie (Of (ResultEnd 0)) (Of (PartEnd i (suc served)))) (bodies.run_in types i j hold n t m ns env pl x done type_m type_n bound)))
+      (here (Within 0 (Of (PartEnd i (suc served)))))
 
-  run_joint : Contains r.joints (joint (ResultEnd 0) (PartEnd (pl.own 0) 3))
+  run_joint : Contains r.joints (joint (ResultEnd 0) (PartEnd (pl.own 0) (suc served)))
   run_joint =
-      (is.web.joints (ResultEnd 0) (PartEnd (pl.own 0) 3)).1 (
+      (is.web.joints (ResultEnd 0) (PartEnd (pl.own 0) (suc served))).1 (
         0,
         v,
         whole_result 0 ∙ done_contact t done,
-        own_contact 3,
-        subst (λ (d : Dot). Way (whole_web s).ties (Within 0 (Of (ResultEnd 0))) d) (sym (own_dot 3)) run_way,
+        own_contact (suc served) ∙ run_contact hold v,
+        subst (λ (d : Dot). Way (whole_web s).ties (Within 0 (Of (ResultEnd 0))) d) (sym (own_dot (suc served))) run_way,
       )
 
-  only_run : (b : End) → Contains r.joints (joint (ResultEnd 0) b) → b ≡ PartEnd (pl.own 0) 3
+  only_run : (b : End) → Contains r.joints (joint (ResultEnd 0) b) → b ≡ PartEnd (pl.own 0) (suc served)
   only_run b has =
       ap (λ (y : Joint). y.serving)
-      (one_joint r [] r.joints (joint (ResultEnd 0) b) (joint (ResultEnd 0) (PartEnd (pl.own 0) 3)) (ResultEnd 0) is.web.right
-      (contained r.joints (joint (ResultEnd 0) b) has) (contained r.joints (joint (ResultEnd 0) (PartEnd (pl.own 0) 3)) run_joint)
-      (asks_there (ResultEnd 0) b) (asks_there (ResultEnd 0) (PartEnd (pl.own 0) 3)))
+      (one_joint r [] r.joints (joint (ResultEnd 0) b) (joint (ResultEnd 0) (PartEnd (pl.own 0) (suc served))) (ResultEnd 0) is.web.right
+      (contained r.joints (joint (ResultEnd 0) b) has) (contained r.joints (joint (ResultEnd 0) (PartEnd (pl.own 0) (suc served))) run_joint)
+      (asks_there (ResultEnd 0) b) (asks_there (ResultEnd 0) (PartEnd (pl.own 0) (suc served))))
 
   -- What an end that asks stands for.
   abbrev Asker : End → Type 0
   Asker a = ((y : Dot) × (back s.frame ((whole_web s).at a) ≡ Some y)) ⊎ (a ≡ ResultEnd 0)
 
-  own_asker : (h q c : ℕ) → slice_get (part_contacts local_part) h ≡ Some (asks q c) → Asker (PartEnd (pl.own 0) h)
-  own_asker zero q c e = inl (Within 0 (Of (ResultEnd 0)), ap (back s.frame) (own_dot 0) ∙ own_part s.frame 0)
-  own_asker (suc zero) q c e = absurd (serves_is_not_asks 0 w q c e)
-  own_asker (suc (suc zero)) q c e = absurd (serves_is_not_asks w 0 q c e)
-  own_asker (suc (suc (suc zero))) q c e = absurd (serves_is_not_asks 0 v q c e)
-  own_asker (suc (suc (suc (suc h)))) q c e = absurd (none-some (asks q c) e)
+  own_asker : (h q c : ℕ) → slice_get (part_contacts own_part_is) h ≡ Some (asks q c) → Asker (PartEnd (pl.own 0) h)
+  own_asker h q c e = by_contact (which_contact (server_of hold v) v (server_is hold v) h (asks q c) e)
+    where
+      by_contact : WhichContact (server_of hold v) v h (asks q c) → Asker (PartEnd (pl.own 0) h)
+      by_contact (at_body first is_c) =
+          subst (λ (k : ℕ). Asker (PartEnd (pl.own 0) k)) (sym first)
+          (inl (Within 0 (Of (ResultEnd 0)), ap (back s.frame) (own_dot 0) ∙ own_part s.frame 0))
+      by_contact (at_supply k same there) =
+          let lt = slice_get_within (contacts_of (supply_of hold)) k (asks q c) there in
+          subst (λ (l : ℕ). Asker (PartEnd (pl.own 0) l)) (sym same)
+          (inl (
+            Within (suc n) (Of (ImportEnd 0 k)),
+            ap (back s.frame) (own_dot (suc k)) ∙ (own_part s.frame (suc k) ∙ port_below served n k lt),
+          ))
+      by_contact (at_run last is_c) = absurd (serves_is_not_asks 0 v q c (ap Some (sym is_c)))
 
   part_asker : (a h q c : ℕ) → contact_at r (PartEnd a h) ≡ Some (asks q c) → placed pl (pl.source a) ≡ a → Whose (pl.source a) → Asker (PartEnd a h)
   part_asker a h q c con back_at (inl one) = inl (in_back s.frame (omega arith) (pl.source a) h one)
@@ -330,7 +347,7 @@ module _
   asker (ImportEnd a h) q c con =
       let (y, at) = there_is r.imports a h (asks q c) con in
       let (has, got, home) = is.no_import a y at in
-      let keep = bodies.outer_kept types i j w n t m ns env pl x done type_m type_n bound (pl.origin a).number has in
+      let keep = bodies.outer_kept types i j hold n t m ns env pl x done type_m type_n bound (pl.origin a).number has in
       inl (
         Within (suc (pl.origin a).number) (Of (ImportEnd (pl.origin a).import h)),
         itself_true (frames.kept s.frame (pl.origin a).number) (Within (suc (pl.origin a).number) (Of (ImportEnd (pl.origin a).import h))) keep,
@@ -357,7 +374,7 @@ module _
     cut = joined_cut (its_cut s r) h.joints
 
     abbrev block : Block
-    block = record { own = pl.own 0; server = local_server w (bits r.outcome); body = body; cut = cut; place = place; variable = variable }
+    block = record { own = pl.own 0; server = server_of hold (bits r.outcome); body = body; cut = cut; place = place; variable = variable }
 
     abbrev OneImport : ℕ → ℕ → Type 0
     OneImport a g = (b : ℕ) × (cut.outer (ImportEnd a g) ≡ ImportEnd b g) × (slice_get body.imports a ≡ slice_get r.imports b)
@@ -384,7 +401,7 @@ module _
         by_case a (inr there) = inr (contains_at r.imports (pl.import (plc.origin a).number (plc.origin a).import) y there.at)
 
     abbrev Joined : End → End → Type 0
-    Joined a b = IsJointOf cut body a b ⊎ ((a ≡ ResultEnd 0) × (b ≡ PartEnd (pl.own 0) 3))
+    Joined a b = IsJointOf cut body a b ⊎ ((a ≡ ResultEnd 0) × (b ≡ PartEnd (pl.own 0) (suc served)))
 
     joined : (a b : End) → Contains r.joints (joint a b) → Asker a → Joined a b
     joined a b has (inl (y, stands)) =
@@ -393,12 +410,12 @@ module _
         inl (d, e, there, lies_joined (its_cut s r) h.joints d ∙ lies_d, lies_joined (its_cut s r) h.joints e ∙ lies_e)
     joined a b has (inr same) = inr (same, only_run b (subst (λ (d : End). Contains r.joints (joint d b)) same has))
 
-    part_of : (a : ℕ) (y : Part) → slice_get r.parts a ≡ Some y → Whose (pl.source a) → placed pl (pl.source a) ≡ a
+    whose_part : (a : ℕ) (y : Part) → slice_get r.parts a ≡ Some y → Whose (pl.source a) → placed pl (pl.source a) ≡ a
         → IsPartOf cut a ⊎ (a ≡ pl.own 0)
-    part_of a y at (inl one) back_at =
+    whose_part a y at (inl one) back_at =
         let (b, e) = in_number s.frame plc y (pl.source a) one in
         inl (b, ap (λ (o : Option Part). number_of s.frame plc o (pl.source a)) at ∙ e)
-    part_of a y at (inr own) back_at = inr (sym back_at ∙ ap (placed pl) own)
+    whose_part a y at (inr own) back_at = inr (sym back_at ∙ ap (placed pl) own)
 
     is_block : IsBlock r block
     is_block =
@@ -406,16 +423,15 @@ module _
           cut = region_is_cut cut r body h.region;
           done = subst IsDone (sym is.outcome) done;
           outcome = type_m ∙ sym is.outcome;
-          server = local_is_server w (bits r.outcome);
+          server = server_is hold (bits r.outcome);
           own =
               driver.0
-              ∙ ap (λ (b : ℕ). Some (kinds.Local w b)) (same_bits t done ∙ ap bits (sym is.outcome));
+              ∙ ap (λ (b : ℕ). Some (part_of hold b)) (same_bits t done ∙ ap bits (sym is.outcome));
           outside = own_outside;
           result = refl;
           there = variable_there.0;
           type = refl;
           served = outer_there;
-          heard = λ h a c stands at asks. absurd (none_asks w a c at asks);
           imports = its_imports;
           others = its_others;
           fresh = fresh;
@@ -423,15 +439,25 @@ module _
           joints = λ a b has. (let (q, c, con, con_b, way) = (is.web.joints a b).0 has in joined a b has (asker a q c con));
           parts =
               λ a y at.
-              let (from, back_at) = is.no_more a y at in part_of a y at (whose y (pl.source a) from) back_at;
+              let (from, back_at) = is.no_more a y at in whose_part a y at (whose y (pl.source a) from) back_at;
         }
 
-    has_body : HasBody types i j n m ns env (pl.own 0) w x r
+    has_body : HasBody types i j n m ns env (pl.own 0) (server_of hold (bits r.outcome)) x r
     has_body = record { block = block; placing = plc; at = refl; server = refl; name = refl; wired = h.wired; is_block = is_block; imports = keeps_imports s r h.joints }
+
+holder_is_wired : (types : Types) (i j : ℕ) (hold : Holder) (n : ℕ) (t : Type') (m : Numbered) (ns : List ℕ) (env : Supplies) (pl : Placing) (x : Name) (r : Plan)
+    → IsWired types i j (Under t [] (binding_of hold) n m) ns env pl r → IsDone t → type_of_node m ≡ t → types n ≡ supply_of hold → IsBound n m ns
+    → ((y : Imported) → Contains r.imports y → y.name ≢ x) → HasBody types i j n m ns env (pl.own 0) (server_of hold (bits r.outcome)) x r
+holder_is_wired types i j hold n t m ns env pl x r is done type_m type_n bound fresh =
+    has_body types i j hold n t m ns env pl x r is done type_m type_n bound fresh
+    (has_plan (bodies.s types i j hold n t m ns env pl x done type_m type_n bound) r
+    (bodies.is_sitting types i j hold n t m ns env pl x done type_m type_n bound)
+    (ports types i j hold n t m ns env pl x r is done type_m type_n bound) is)
 
 pub block_is_wired : BlockIsWired
 block_is_wired types i j w n t m ns env pl x r is done type_m type_n bound fresh =
-    has_body types i j w n t m ns env pl x r is done type_m type_n bound fresh
-    (has_plan (bodies.s types i j w n t m ns env pl x done type_m type_n bound) r
-    (bodies.is_sitting types i j w n t m ns env pl x done type_m type_n bound)
-    (ports types i j w n t m ns env pl x r is done type_m type_n bound) is)
+    holder_is_wired types i j (OneNumber w) n t m ns env pl x r is done type_m type_n bound fresh
+
+pub array_block_is_wired : ArrayBlockIsWired
+array_block_is_wired types i j k w n t m ns env pl x r is done type_m type_n bound fresh =
+    holder_is_wired types i j (ManyNumbers k w) n t m ns env pl x r is done type_m type_n bound fresh

@@ -1,21 +1,22 @@
--- The body of `new x : w in M` sits in its node: its result and the name of its variable at handshakes of the node's own part.
-use Rattle.std.specs.Prelude.{◌≡◌, ℕ, zero, suc, ◌+◌, ◌<◌, ◌≤◌, ◌⊎◌, Bool, true, false, List, [], ◌∷◌, ◌++◌, Option, Some, None, slice_get, nat_eq, Contains, if◌then◌else◌}
+-- The body of a block, `new x : w in M` or `new a[n] : w in M`, sits in its node: its result and the name of what is bound at handshakes of
+-- the node's own part.
+use Rattle.std.specs.Prelude.{◌≡◌, ℕ, zero, suc, ◌+◌, ◌<◌, ◌≤◌, ◌⊎◌, Bool, true, false, List, [], ◌∷◌, ◌++◌, length, Option, Some, None, slice_get, nat_eq, nat_lt, Contains, if◌then◌else◌}
 use Rattle.std.proofs.Common.{refl, sym, ◌∙◌, ap, subst, arith, inl, inr}
 use Rattle.std.proofs.lemmas.Option.{none-some}
 use Rattle.std.proofs.lemmas.List.Elements.{Contains-append_left, Contains-append_right, Contains-append_cases}
-use Rattle.std.proofs.lemmas.Bool.{eq-eqb, ne_eqb, eqb-false}
+use Rattle.std.proofs.lemmas.Bool.{eq-eqb, ne_eqb, eqb-false, lt-ltb}
 use Rattle.gos_types.specs.Types.{Type', Com, Exp, Var, Pair, Fun, IsDone}
-use Rattle.gos_model.specs.Terms.{Name, Import}
+use Rattle.gos_model.specs.Terms.{Name}
 use Rattle.gos_model.specs.Typing.{Imported}
-use Rattle.gos_check.specs.Nodes.{Numbered, Under, OfNew}
+use Rattle.gos_check.specs.Nodes.{Numbered, Under}
 use Rattle.gos_check.specs.Linearity.{times, made}
 use Rattle.gos_check.proofs.TimesLemmas.{times-append, times_same, some_times}
-use Rattle.gos_plan.specs.Kinds as kinds
-use Rattle.gos_plan.specs.Kinds.{Part, Contact, asks, contacts_of, part_contacts}
+use Rattle.gos_plan.specs.Kinds.{Part, Contact, asks, contacts_of}
 use Rattle.gos_plan.specs.Plans.{End, PartEnd, ImportEnd, ResultEnd, turned_if}
 use Rattle.gos_realises.specs.realises.Regular.{count}
 use Rattle.gos_realises.specs.realises.Modules.{Supply}
 use Rattle.gos_ties.specs.declared.points.Place.TheVariants as places
+use Rattle.gos_ties.specs.declared.points.Point.{Point}
 use Rattle.gos_ties.specs.declared.points.Tie as point_ties
 use Rattle.gos_ties.specs.Ties as paths
 use Rattle.gos_ties.specs.Ties.{point}
@@ -24,32 +25,30 @@ use Rattle.gos_joining.specs.webs.Webs.{Dot, Of, Number, Within, Tie, tie, Way, 
 use Rattle.gos_joining.specs.unions.Unions.{within}
 use Rattle.gos_joining.proofs.unions.UnionLemmas.{of_image, in_image}
 use Rattle.gos_nodes.specs.folds.Folds as folds
-use Rattle.gos_supplies.specs.names.Names.{name_plan, imported}
-use Rattle.gos_compile.specs.Wiring.{Types, row, led, parts_of, type_of_node, ties_of, answer_bits}
+use Rattle.gos_supplies.specs.names.Names.{imported}
+use Rattle.gos_compile.specs.Wiring.{Types, row, led, parts_of, type_of_node, ties_of, answer_bits, binder_part, binder_ties, binder_out}
 use Rattle.gos_terms.specs.wired.Wired.{Supplies, Placing, dot_of, dot_ties, result_ties, supply_ties, all_supply_ties}
 use Rattle.gos_terms.proofs.wired.TieLemmas.{result_tie, in_results, in_supplies}
-use Rattle.gos_terms.specs.regions.Blocks.{with_name, IsBound}
+use Rattle.gos_terms.specs.regions.Blocks.{port_plan, with_name, IsBound}
+use Rattle.gos_terms.proofs.stages.WayLemmas.{in_led}
 use Rattle.gos_terms.proofs.regions.NumberingLemmas.{numbering}
+use Rattle.gos_terms.proofs.regions.HolderLemmas.{Holder, OneNumber, ManyNumbers, name_supply, binding_of, supply_of, part_of, holder_part, holder_ties, holder_out, holder_name}
 use Rattle.gos_terms.proofs.regions.FrameLemmas as frames
 use Rattle.gos_terms.proofs.regions.FrameLemmas.{Frame, kept, known, kept_true, own_part, back}
 use Rattle.gos_terms.proofs.regions.FoldLemmas.{follows_none}
 use Rattle.gos_terms.proofs.regions.ChildLemmas.{Sitting, child_placing, its_web, IsSitting}
 
--- what the handshakes of the block's own part stand for
-abbrev pub block_port : ℕ → ℕ → Option Dot
-block_port n zero = Some (Within 0 (Of (ResultEnd 0)))
-block_port n (suc zero) = Some (Within (suc n) (Of (ImportEnd 0 0)))
-block_port n (suc (suc zero)) = Some (Within (suc n) (Of (ImportEnd 0 1)))
-block_port n (suc (suc (suc h))) = None
+-- what the handshakes of the block's own part stand for, which serves k of them to its body
+abbrev pub block_port : ℕ → ℕ → ℕ → Option Dot
+block_port k n zero = Some (Within 0 (Of (ResultEnd 0)))
+block_port k n (suc h) = if nat_lt h k then Some (Within (suc n) (Of (ImportEnd 0 h))) else None
 
-abbrev pub block_port_end : ℕ → ℕ → Option End
-block_port_end a zero = Some (ResultEnd 0)
-block_port_end a (suc zero) = Some (ImportEnd a 0)
-block_port_end a (suc (suc zero)) = Some (ImportEnd a 1)
-block_port_end a (suc (suc (suc h))) = None
+abbrev pub block_port_end : ℕ → ℕ → ℕ → Option End
+block_port_end k a zero = Some (ResultEnd 0)
+block_port_end k a (suc h) = if nat_lt h k then Some (ImportEnd a h) else None
 
-abbrev pub body_frame : Types → ℕ → ℕ → ℕ → Numbered → List ℕ → Frame
-body_frame types i j n m ns =
+abbrev pub body_frame : Types → ℕ → ℕ → ℕ → ℕ → Numbered → List ℕ → Frame
+body_frame types k i j n m ns =
     record {
       types = types;
       first = i;
@@ -58,19 +57,19 @@ body_frame types i j n m ns =
       child = m;
       numbers = ns ++ n ∷ [];
       named = λ k. nat_eq k n;
-      port = block_port n;
+      port = block_port k n;
       out = point (places.Part i) 0 ∷ [];
     }
 
 abbrev pub body_placing : Types → ℕ → Numbered → List ℕ → Supplies → Placing
 body_placing types n m ns env = numbering (parts_of types m) env (ns ++ n ∷ [])
 
-abbrev pub body_sitting : Types → ℕ → ℕ → ℕ → Numbered → List ℕ → Supplies → Supplies → Numbered → Placing → Sitting
-body_sitting types i j n m ns inner env whole pl =
+abbrev pub body_sitting : Types → ℕ → ℕ → ℕ → ℕ → Numbered → List ℕ → Supplies → Supplies → Numbered → Placing → Sitting
+body_sitting types k i j n m ns inner env whole pl =
     record {
-      frame = body_frame types i j n m ns;
+      frame = body_frame types k i j n m ns;
       asked = 0;
-      port_end = block_port_end ((body_placing types n m ns inner).import n 0);
+      port_end = block_port_end k ((body_placing types n m ns inner).import n 0);
       supplies = inner;
       node = j;
       whole = whole;
@@ -94,47 +93,123 @@ done_only (Var w) done h c e = done
 done_only (Pair a b) done h c e = done
 done_only (Fun a b) done h c e = done
 
--- the handshakes of a variable, as the part Local serves them
-pub variable_contact : (w v h : ℕ) (c : Contact) → slice_get (contacts_of (Var w)) h ≡ Some c
-    → (h < 2) × (slice_get (part_contacts (kinds.Local w v)) (suc h) ≡ Some c)
-variable_contact w v zero c e = (omega arith, e)
-variable_contact w v (suc zero) c e = (omega arith, e)
-variable_contact w v (suc (suc h)) c e = absurd (none-some c e)
+-- the ties of the handshakes that the block's part serves, to the number's
+abbrev pub number_tie : ℕ → ℕ → ℕ → point_ties.Tie
+number_tie n i h = paths.tie (point (places.Number n) h) (point (places.Part i) (suc h))
+
+in_number_ties : (n i k h : ℕ) → h < k → Contains (led (row (places.Number n) 0 k) (places.Part i) 1) (number_tie n i h)
+in_number_ties n i k h lt =
+    let one : 0 + h ≡ h = omega arith in
+    let other : 1 + h ≡ suc h = omega arith in
+    subst (Contains (led (row (places.Number n) 0 k) (places.Part i) 1)) (λ l. paths.tie (point (places.Number n) (one l)) (point (places.Part i) (other l)))
+    (in_led (places.Number n) i 0 k 1 h lt)
+
+of_led : (n i b k g : ℕ) (y : point_ties.Tie) → Contains (led (row (places.Number n) b k) (places.Part i) g) y
+    → (h : ℕ) × (h < k) × (paths.tie (point (places.Number n) (b + h)) (point (places.Part i) (g + h)) ≡ y)
+of_led n i b zero g y (a, lt, e) = absurd (omega (arith, lt))
+of_led n i b (suc k) g y (zero, lt, e) =
+    let one : b + 0 ≡ b = omega arith in
+    let other : g + 0 ≡ g = omega arith in
+    (0, omega arith, (λ l. paths.tie (point (places.Number n) (one l)) (point (places.Part i) (other l))) ∙ e)
+of_led n i b (suc k) g y (suc a, lt, e) =
+    let (h, low, is) = of_led n i (suc b) k (suc g) y (a, omega (arith, lt), e) in
+    let one : b + suc h ≡ suc b + h = omega arith in
+    let other : g + suc h ≡ suc g + h = omega arith in
+    (suc h, omega (arith, low), (λ l. paths.tie (point (places.Number n) (one l)) (point (places.Part i) (other l))) ∙ is)
+
+of_number_ties : (n i k : ℕ) (y : point_ties.Tie) → Contains (led (row (places.Number n) 0 k) (places.Part i) 1) y → (h : ℕ) × (h < k) × (number_tie n i h ≡ y)
+of_number_ties n i k y has =
+    let (h, low, is) = of_led n i 0 k 1 y has in
+    let one : h ≡ 0 + h = omega arith in
+    let other : suc h ≡ 1 + h = omega arith in
+    (h, low, (λ l. paths.tie (point (places.Number n) (one l)) (point (places.Part i) (other l))) ∙ is)
+
+-- beyond these it stands for nothing
+pub port_below : (k n h : ℕ) → h < k → block_port k n (suc h) ≡ Some (Within (suc n) (Of (ImportEnd 0 h)))
+port_below k n h lt = ap (λ (b : Bool). if b then Some (Within (suc n) (Of (ImportEnd 0 h))) else None) (lt-ltb h k lt)
+
+pub port_end_below : (k a h : ℕ) → h < k → block_port_end k a (suc h) ≡ Some (ImportEnd a h)
+port_end_below k a h lt = ap (λ (b : Bool). if b then Some (ImportEnd a h) else None) (lt-ltb h k lt)
+
+pub port_beyond : (k n : ℕ) → block_port k n (suc k) ≡ None
+port_beyond k n =
+    let not : nat_lt k k ≡ false = grind arith in ap (λ (b : Bool). if b then Some (Within (suc n) (Of (ImportEnd 0 k))) else None) not
+
+pub below_port : (k n h : ℕ) (y : Dot) → block_port k n (suc h) ≡ Some y → h < k
+below_port k n h y stands = by_test (nat_lt h k) refl stands
+  where
+    by_test : (b : Bool) → nat_lt h k ≡ b → (if b then Some (Within (suc n) (Of (ImportEnd 0 h))) else None) ≡ Some y → h < k
+    by_test true low at = grind (arith, low)
+    by_test false low at = absurd (none-some y at)
+
+-- the ties of the name of what is bound, one each for a handshake
+abbrev pub name_web : Holder → ℕ → Name → List Tie
+name_web hold n x = within (suc n) (own_web (port_plan x (supply_of hold))).ties
+
+abbrev pub name_tie : ℕ → ℕ → Tie
+name_tie n h = tie (Within (suc n) (Of (ResultEnd h))) (Within (suc n) (Of (ImportEnd 0 h)))
+
+abbrev pub turned_tie : ℕ → ℕ → Tie
+turned_tie n h = tie (Within (suc n) (Of (ImportEnd 0 h))) (Within (suc n) (Of (ResultEnd h)))
+
+name_has : (hold : Holder) (n : ℕ) (x : Name) (h : ℕ) → h < count (supply_of hold)
+    → Contains (name_web hold n x) (name_tie n h) ⊎ Contains (name_web hold n x) (turned_tie n h)
+name_has (OneNumber w) n x zero lt = inl (0, omega arith, refl)
+name_has (OneNumber w) n x (suc zero) lt = inl (1, omega arith, refl)
+name_has (OneNumber w) n x (suc (suc h)) lt = let low : suc (suc h) < 2 = lt in absurd (omega (arith, low))
+name_has (ManyNumbers k w) n x zero lt = inr (0, omega arith, refl)
+name_has (ManyNumbers k w) n x (suc zero) lt = inl (1, omega arith, refl)
+name_has (ManyNumbers k w) n x (suc (suc zero)) lt = inl (2, omega arith, refl)
+name_has (ManyNumbers k w) n x (suc (suc (suc h))) lt = let low : suc (suc (suc h)) < 3 = lt in absurd (omega (arith, low))
+
+pub of_name : (hold : Holder) (n : ℕ) (x : Name) (u : Tie) → Contains (name_web hold n x) u
+    → (h : ℕ) × (h < count (supply_of hold)) × ((name_tie n h ≡ u) ⊎ (turned_tie n h ≡ u))
+of_name (OneNumber w) n x u (zero, lt, e) = (0, omega arith, inl e)
+of_name (OneNumber w) n x u (suc zero, lt, e) = (1, omega arith, inl e)
+of_name (OneNumber w) n x u (suc (suc a), lt, e) = absurd (omega (arith, lt))
+of_name (ManyNumbers k w) n x u (zero, lt, e) = (0, omega arith, inr e)
+of_name (ManyNumbers k w) n x u (suc zero, lt, e) = (1, omega arith, inl e)
+of_name (ManyNumbers k w) n x u (suc (suc zero), lt, e) = (2, omega arith, inl e)
+of_name (ManyNumbers k w) n x u (suc (suc (suc a)), lt, e) = absurd (omega (arith, lt))
 
 module _
-    (types : Types) (i j w n : ℕ) (t : Type') (m : Numbered) (ns : List ℕ) (env : Supplies) (pl : Placing) (x : Name)
-    (done : IsDone t) (type_m : type_of_node m ≡ t) (type_n : types n ≡ Var w) (bound : IsBound n m ns) where
+    (types : Types) (i j : ℕ) (hold : Holder) (n : ℕ) (t : Type') (m : Numbered) (ns : List ℕ) (env : Supplies) (pl : Placing) (x : Name)
+    (done : IsDone t) (type_m : type_of_node m ≡ t) (type_n : types n ≡ supply_of hold) (bound : IsBound n m ns) where
   abbrev pub whole : Numbered
-  whole = Under t [] (OfNew w) n m
+  whole = Under t [] (binding_of hold) n m
+
+  -- how many handshakes are served
+  abbrev pub served : ℕ
+  served = count (supply_of hold)
 
   abbrev pub inner : Supplies
-  inner = with_name n x (Var w) env
+  inner = with_name n x (supply_of hold) env
 
   abbrev pub numbers : List ℕ
   numbers = ns ++ n ∷ []
 
   abbrev pub f : Frame
-  f = body_frame types i j n m ns
+  f = body_frame types served i j n m ns
 
   abbrev pub s : Sitting
-  s = body_sitting types i j n m ns inner env whole pl
+  s = body_sitting types served i j n m ns inner env whole pl
 
   abbrev plc : Placing
   plc = child_placing s
 
   abbrev pub variable : Imported
-  variable = imported x (Var w)
+  variable = imported x (supply_of hold)
 
   -- the place of the variable among the imports
   abbrev pub place : ℕ
   place = plc.import n 0
 
   -- the supplies
-  pub name_there : (k : ℕ) → nat_eq k n ≡ true → inner k ≡ record { plan = name_plan x (Var w); term = Import x }
-  name_there k e = ap (λ (b : Bool). if b then record { plan = name_plan x (Var w); term = Import x } else env k) e
+  pub name_there : (k : ℕ) → nat_eq k n ≡ true → inner k ≡ name_supply x (supply_of hold)
+  name_there k e = ap (λ (b : Bool). if b then name_supply x (supply_of hold) else env k) e
 
   pub other_there : (k : ℕ) → nat_eq k n ≡ false → inner k ≡ env k
-  other_there k e = ap (λ (b : Bool). if b then record { plan = name_plan x (Var w); term = Import x } else env k) e
+  other_there k e = ap (λ (b : Bool). if b then name_supply x (supply_of hold) else env k) e
 
   pub bound_in : Contains numbers n
   bound_in = Contains-append_right ns (n ∷ []) n (0, omega arith, refl)
@@ -170,18 +245,27 @@ module _
   abbrev body_ties : List point_ties.Tie
   body_ties = ties_of types (i + 1) (suc j) m (point (places.Part i) 0 ∷ [])
 
-  abbrev node_ties : ℕ → ℕ → List point_ties.Tie
-  node_ties a c =
-      (led (row places.Result 0 c) (places.Part a) 3 ++ led (row (places.Number n) 0 2) (places.Part a) 1)
-      ++ ties_of types (a + 1) (suc j) m (point (places.Part a) 0 ∷ [])
+  abbrev node_ties : List point_ties.Tie → ℕ → List Point → List point_ties.Tie
+  node_ties own first out = own ++ ties_of types first (suc j) m out
 
   abbrev own_ties : List point_ties.Tie
   own_ties =
-      paths.tie (point places.Result 0) (point (places.Part i) 3) ∷ paths.tie (point (places.Number n) 0) (point (places.Part i) 1)
-      ∷ paths.tie (point (places.Number n) 1) (point (places.Part i) 2) ∷ []
+      paths.tie (point places.Result 0) (point (places.Part i) (suc served)) ∷ led (row (places.Number n) 0 served) (places.Part i) 1
+
+  abbrev binder_there : ℕ → ℕ → List point_ties.Tie
+  binder_there a c =
+      node_ties (binder_ties (binding_of hold) t a n (row places.Result 0 c)) (a + length (binder_part (binding_of hold) t))
+      (binder_out (binding_of hold) t a (row places.Result 0 c))
+
+  binder_is : ties_of types i j whole (row places.Result 0 (count t)) ≡ binder_there i 1
+  binder_is = let none : i + 0 ≡ i = omega arith in λ l. binder_there (none l) (done_count t done l)
+
+  own_is : binder_there i 1 ≡ own_ties ++ body_ties
+  own_is =
+      λ l. node_ties (holder_ties hold t i n (row places.Result 0 1) l) (i + length (holder_part hold t l)) (holder_out hold t i (row places.Result 0 1) l)
 
   node_is : ties_of types i j whole (row places.Result 0 (count t)) ≡ own_ties ++ body_ties
-  node_is = let none : i + 0 ≡ i = omega arith in λ a. node_ties (none a) (done_count t done a)
+  node_is = binder_is ∙ own_is
 
   abbrev pub whole_dots : List Tie
   whole_dots = dot_ties (ties_of types i j whole (row places.Result 0 (count (type_of_node whole))))
@@ -196,13 +280,15 @@ module _
       let (y, has_y, same) = of_image (λ (y : point_ties.Tie). tie (dot_of y.one) (dot_of y.other)) body_ties u has in
       subst (λ (z : Tie). Contains whole_dots z) same (in_node y (Contains-append_right own_ties body_ties y has_y))
 
-  pub run_in : Contains whole_dots (tie (Of (ResultEnd 0)) (Of (PartEnd i 3)))
-  run_in = in_node (paths.tie (point places.Result 0) (point (places.Part i) 3)) (0, omega arith, refl)
+  pub run_in : Contains whole_dots (tie (Of (ResultEnd 0)) (Of (PartEnd i (suc served))))
+  run_in = in_node (paths.tie (point places.Result 0) (point (places.Part i) (suc served))) (0, omega arith, refl)
 
-  pub variable_in : (h : ℕ) → h < 2 → Contains whole_dots (tie (Number n h) (Of (PartEnd i (suc h))))
-  variable_in zero lt = in_node (paths.tie (point (places.Number n) 0) (point (places.Part i) 1)) (1, omega arith, refl)
-  variable_in (suc zero) lt = in_node (paths.tie (point (places.Number n) 1) (point (places.Part i) 2)) (2, omega arith, refl)
-  variable_in (suc (suc h)) lt = absurd (omega (arith, lt))
+  pub variable_in : (h : ℕ) → h < served → Contains whole_dots (tie (Number n h) (Of (PartEnd i (suc h))))
+  variable_in h lt =
+      in_node (number_tie n i h) (Contains-append_left own_ties body_ties (number_tie n i h) (behind (in_number_ties n i served h lt)))
+    where
+      behind : Contains (led (row (places.Number n) 0 served) (places.Part i) 1) (number_tie n i h) → Contains own_ties (number_tie n i h)
+      behind (a, low, is) = (suc a, omega (arith, low), is)
 
   abbrev Follow : Tie → Type 0
   Follow u = folds.Follows (its_web s).ties (back f (Within 0 u.one)) (back f (Within 0 u.other))
@@ -214,56 +300,38 @@ module _
       (within 0 (dot_ties (ties_of types (i + 1) (suc j) m (row places.Result 0 (count (type_of_node m))))))
       (all_supply_ties types inner numbers) u (in_supplies types inner numbers n u bound_in has)
 
-  pub two_handshakes : count (types n) ≡ 2
-  two_handshakes = ap count type_n
+  pub all_served : count (types n) ≡ served
+  all_served = ap count type_n
 
-  result_in : (h : ℕ) → h < 2 → Contains (its_web s).ties (result_tie n h)
+  result_in : (h : ℕ) → h < served → Contains (its_web s).ties (result_tie n h)
   result_in h lt =
       supply_in (result_tie n h)
       (Contains-append_right (within (suc n) (own_web (inner n).plan).ties) (result_ties n 0 (count (types n))) (result_tie n h)
-      (in_results n 0 (count (types n)) h (omega arith) (omega (arith, two_handshakes, lt))))
+      (in_results n 0 (count (types n)) h (omega arith) (omega (arith, all_served, lt))))
 
-  abbrev pub name_web : List Tie
-  name_web = within (suc n) (own_web (name_plan x (Var w))).ties
-
-  abbrev pub name_tie : ℕ → Tie
-  name_tie h = tie (Within (suc n) (Of (ResultEnd h))) (Within (suc n) (Of (ImportEnd 0 h)))
-
-  name_has : (h : ℕ) → h < 2 → Contains name_web (name_tie h)
-  name_has zero lt = (0, omega arith, refl)
-  name_has (suc zero) lt = (1, omega arith, refl)
-  name_has (suc (suc h)) lt = absurd (omega (arith, lt))
-
-  pub of_name : (u : Tie) → Contains name_web u → (h : ℕ) × (h < 2) × (name_tie h ≡ u)
-  of_name u (zero, lt, e) = (0, omega arith, e)
-  of_name u (suc zero, lt, e) = (1, omega arith, e)
-  of_name u (suc (suc a), lt, e) = absurd (omega (arith, lt))
-
-  name_in : (h : ℕ) → h < 2 → Contains (its_web s).ties (name_tie h)
-  name_in h lt =
-      supply_in (name_tie h)
-      (Contains-append_left (within (suc n) (own_web (inner n).plan).ties) (result_ties n 0 (count (types n))) (name_tie h)
-      (subst (λ (y : Supply). Contains (within (suc n) (own_web y.plan).ties) (name_tie h)) (sym (name_there n (eq-eqb n n refl))) (name_has h lt)))
+  name_in : (h : ℕ) → h < served → Contains (its_web s).ties (name_tie n h) ⊎ Contains (its_web s).ties (turned_tie n h)
+  name_in h lt = elim (name_has hold n x h lt) [ inl there ↦ inl (one_in (name_tie n h) there) | inr there ↦ inr (one_in (turned_tie n h) there) ]
+    where
+      one_in : (u : Tie) → Contains (name_web hold n x) u → Contains (its_web s).ties u
+      one_in u there =
+          supply_in u
+          (Contains-append_left (within (suc n) (own_web (inner n).plan).ties) (result_ties n 0 (count (types n))) u
+          (subst (λ (y : Supply). Contains (within (suc n) (own_web y.plan).ties) u) (sym (name_there n (eq-eqb n n refl))) there))
 
   -- from the number, by its supply's result, to the import
-  variable_way : (h : ℕ) → h < 2 → Way (its_web s).ties (Within 0 (Number n h)) (Within (suc n) (Of (ImportEnd 0 h)))
+  variable_way : (h : ℕ) → h < served → Way (its_web s).ties (Within 0 (Number n h)) (Within (suc n) (Of (ImportEnd 0 h)))
   variable_way h lt =
       along (Within 0 (Number n h)) (Within (suc n) (Of (ResultEnd h))) (Within (suc n) (Of (ImportEnd 0 h))) (inl (result_in h lt))
-      (along (Within (suc n) (Of (ResultEnd h))) (Within (suc n) (Of (ImportEnd 0 h))) (Within (suc n) (Of (ImportEnd 0 h))) (inl (name_in h lt))
+      (along (Within (suc n) (Of (ResultEnd h))) (Within (suc n) (Of (ImportEnd 0 h))) (Within (suc n) (Of (ImportEnd 0 h))) (name_in h lt)
       (here (Within (suc n) (Of (ImportEnd 0 h)))))
-
-  port_is : (h : ℕ) → h < 2 → block_port n (suc h) ≡ Some (Within (suc n) (Of (ImportEnd 0 h)))
-  port_is zero lt = refl
-  port_is (suc zero) lt = refl
-  port_is (suc (suc h)) lt = absurd (omega (arith, lt))
 
   known_bound : (h : ℕ) → back f (Within 0 (Number n h)) ≡ Some (Within 0 (Number n h))
   known_bound h = frames.itself_true (known f n) (Within 0 (Number n h)) (frames.known_of f n bound_in)
 
-  follow_variable : (h : ℕ) → h < 2 → Follow (tie (Number n h) (Of (PartEnd i (suc h))))
+  follow_variable : (h : ℕ) → h < served → Follow (tie (Number n h) (Of (PartEnd i (suc h))))
   follow_variable h lt =
       subst (λ (o : Option Dot). folds.Follows (its_web s).ties o (back f (Within 0 (Of (PartEnd i (suc h)))))) (sym (known_bound h))
-      (subst (λ (o : Option Dot). folds.Follows (its_web s).ties (Some (Within 0 (Number n h))) o) (sym (own_part f (suc h) ∙ port_is h lt))
+      (subst (λ (o : Option Dot). folds.Follows (its_web s).ties (Some (Within 0 (Number n h))) o) (sym (own_part f (suc h) ∙ port_below served n h lt))
       (variable_way h lt))
 
   which : (u : Tie) → Contains whole_dots u → Contains (dot_ties body_ties) u ⊎ Follow u
@@ -280,20 +348,24 @@ module _
       by_list y (inr has) = inl (in_image (λ (z : point_ties.Tie). tie (dot_of z.one) (dot_of z.other)) body_ties y has)
       by_list y (inl (zero, lt, e)) =
           subst Case e
-          (inr (follows_none (its_web s).ties (back f (Within 0 (Of (ResultEnd 0)))) (back f (Within 0 (Of (PartEnd i 3)))) refl (own_part f 3)))
-      by_list y (inl (suc zero, lt, e)) = subst Case e (inr (follow_variable 0 (omega arith)))
-      by_list y (inl (suc (suc zero), lt, e)) = subst Case e (inr (follow_variable 1 (omega arith)))
-      by_list y (inl (suc (suc (suc a)), lt, e)) = absurd (omega (arith, lt))
+          (inr
+          (follows_none (its_web s).ties (back f (Within 0 (Of (ResultEnd 0)))) (back f (Within 0 (Of (PartEnd i (suc served))))) refl
+          (own_part f (suc served) ∙ port_beyond served n)))
+      by_list y (inl (suc a, lt, e)) =
+          let (h, low, is) = of_number_ties n i served y (a, omega (arith, lt), e) in subst Case is (inr (follow_variable h low))
 
   pub is_sitting : IsSitting s
   is_sitting =
       record {
         shifted = omega arith;
-        parts = λ k y e. (let next : 1 + k ≡ suc k = omega arith in ap (slice_get (parts_of types whole)) next ∙ e);
+        parts = λ k y e.
+            (let next : 1 + k ≡ suc k = omega arith in
+            ap (λ (ps : List Part). slice_get (ps ++ parts_of types m) (1 + k)) (holder_part hold t)
+            ∙ (ap (slice_get (part_of hold (answer_bits t) ∷ parts_of types m)) next ∙ e));
         knows = bound.knows;
         once = λ k. (let one = bound.once k in omega (arith, one));
         shared = λ k has unnamed. (of_numbers k has unnamed, other_there k unnamed);
-        names = λ k has named. ap (λ (y : Supply). y.plan.parts) (name_there k named);
+        names = λ k has named. ap (λ (y : Supply). y.plan.parts) (name_there k named) ∙ (holder_name hold x).parts;
         apart = λ k has out. absurd (clash (sym (outer_kept k has) ∙ out));
         one = ap count type_m ∙ done_count t done;
         result = (own_part f 0, tt);

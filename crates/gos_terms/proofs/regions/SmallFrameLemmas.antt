@@ -1,11 +1,16 @@
 -- Small examples of numbers that are parted and bound, and of what ties speak.
-use Rattle.std.specs.Prelude.{◌≤◌, ℕ, [], ◌∷◌}
+use Rattle.std.specs.Prelude.{◌≤◌, ℕ, zero, suc, [], ◌∷◌, Contains}
 use Rattle.std.proofs.Common.{arith, subst, ◌≡◌, ap, refl}
 use Rattle.gos_model.proofs.NumberLemmas.{number_cases}
-use Rattle.gos_plan.specs.Plans.{PartEnd, ImportEnd}
+use Rattle.gos_model.specs.Typing.{array_type, index_width}
+use Rattle.gos_plan.specs.Kinds.{asks}
+use Rattle.gos_plan.specs.Plans.{PartEnd, ImportEnd, ResultEnd, Joint}
+use Rattle.gos_joining.specs.webs.Webs.{joint}
+use Rattle.gos_supplies.specs.names.Names.{name_plan}
 use Rattle.gos_check.specs.Linearity.{times}
 use Rattle.gos_check.proofs.TimesLemmas.{times_same, times_other}
-use Rattle.gos_terms.specs.regions.SmallFrames.{UsesAreParted, SharedIsNotParted, UseIsBound, OtherIsNotBound, UseSpeaksOfIt, NotOfParts, WholeIsKept, TornIsNotKept}
+use Rattle.gos_terms.specs.regions.SmallFrames.{UsesAreParted, SharedIsNotParted, UseIsBound, OtherIsNotBound, UseSpeaksOfIt, NotOfParts, PortsHaveNames, GroundNameIsNone, WholeIsKept, TornIsNotKept}
+use Rattle.gos_terms.proofs.regions.HolderLemmas.{OneNumber, ManyNumbers, holder_name}
 
 -- a list of one number has it once, and of two numbers each once
 one_at_most : (k a : ℕ) → times k (a ∷ []) ≤ 1
@@ -50,3 +55,18 @@ whole_is_kept i h k n at = let same : 1 ≡ k = cc at in ap (λ (x : ℕ). Impor
 
 pub torn_is_not_kept : TornIsNotKept
 torn_is_not_kept keeps = let clash : PartEnd 0 0 ≡ ImportEnd 1 1 = keeps 0 0 1 1 refl in cc clash
+
+pub ports_have_names : PortsHaveNames
+ports_have_names x k w = (holder_name (OneNumber w) x, holder_name (ManyNumbers k w) x)
+
+apart : (h : ℕ) → joint (ResultEnd h) (ImportEnd 0 h) ≡ joint (ImportEnd 0 0) (ResultEnd 0) → ⊥
+apart h e = let ends : ResultEnd h ≡ ImportEnd 0 0 = ap (λ (j : Joint). j.asking) e in cc ends
+
+pub ground_name_is_none : GroundNameIsNone
+ground_name_is_none x k w is = by_place (is.asking 0 (asks 0 (index_width k)) refl refl)
+  where
+    by_place : Contains (name_plan x (array_type k w)).joints (joint (ImportEnd 0 0) (ResultEnd 0)) → ⊥
+    by_place (zero, lt, e) = apart 0 e
+    by_place (suc zero, lt, e) = apart 1 e
+    by_place (suc (suc zero), lt, e) = apart 2 e
+    by_place (suc (suc (suc n)), lt, e) = omega (arith, lt)

@@ -4,7 +4,7 @@ use Rattle.std.proofs.Common.{◌≡◌, ℕ, zero, suc, ◌+◌, List, [], ◌�
 use Rattle.std.proofs.lemmas.List.{append-nil}
 use Rattle.gos_types.specs.Types.{Type'}
 use Rattle.gos_check.specs.declared.linear.Split.{Split}
-use Rattle.gos_check.specs.Nodes.{Numbered, Closed, Use, Under, One, Two, If, Binding, OfFun, OfNew, OneForm, OfFst, OfSnd, OfDeref, OfNot, TwoForm, OfApp, OfBoth, OfSeq, OfPar, OfWhile, OfAssign, OfBin, argument_of}
+use Rattle.gos_check.specs.Nodes.{Numbered, Closed, Use, Under, One, Two, If, Binding, OfFun, OfNew, OfArray, OneForm, OfFst, OfSnd, OfDeref, OfNot, TwoForm, OfApp, OfBoth, OfSeq, OfPar, OfWhile, OfAssign, OfBin, argument_of}
 use Rattle.gos_check.specs.Linearity.{times, split_in, sides, used, made}
 use Rattle.gos_check.proofs.TimesLemmas.{times-append, times_same}
 use Rattle.gos_plan.specs.Kinds as kinds
@@ -135,11 +135,18 @@ module _ (P : Point → Type 0) where
     where
       part : At (places.Part i)
       part h = parts i h (omega arith) (omega arith)
+  binder_holds (OfArray k w) t i n out all parts number =
+      ties_both (led out (places.Part i) 4) (led (row (places.Number n) 0 3) (places.Part i) 1) (led_holds (places.Part i) part out all 4)
+      (numbers_led n i 1 3 number part)
+    where
+      part : At (places.Part i)
+      part h = parts i h (omega arith) (omega arith)
 
   binder_leads : (b : Binding) (t : Type') (i : ℕ) (out : List Point) → EachPoint P out
       → Parts i (length (binder_part b t)) → EachPoint P (binder_out b t i out)
   binder_leads OfFun t i out all parts = points_dropped (count (argument_of t)) out all
   binder_leads (OfNew w) t i out all parts = (parts i 0 (omega arith) (omega arith), tt)
+  binder_leads (OfArray k w) t i out all parts = (parts i 0 (omega arith) (omega arith), tt)
 
   one_holds : (form : OneForm) (t : Type') (i : ℕ) (out : List Point) → EachPoint P out
       → Parts i (length (one_part form t)) → EachTie Both (one_ties form i out)

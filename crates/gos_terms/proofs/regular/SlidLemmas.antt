@@ -6,7 +6,7 @@ use Rattle.std.proofs.Common.{refl, sym, ◌∙◌, ap, subst, arith, inl, inr}
 use Rattle.std.proofs.lemmas.List.Elements.{Contains-append_left, Contains-append_right, Contains-append_cases}
 use Rattle.gos_types.specs.Types.{Type'}
 use Rattle.gos_check.specs.declared.linear.Split.{Split}
-use Rattle.gos_check.specs.Nodes.{Numbered, Closed, Use, Under, One, Two, If, Binding, OfFun, OfNew, OneForm, OfFst, OfSnd, OfDeref, OfNot, TwoForm, OfApp, OfBoth, OfSeq, OfPar, OfWhile, OfAssign, OfBin, argument_of, type_of_node}
+use Rattle.gos_check.specs.Nodes.{Numbered, Closed, Use, Under, One, Two, If, Binding, OfFun, OfNew, OfArray, OneForm, OfFst, OfSnd, OfDeref, OfNot, TwoForm, OfApp, OfBoth, OfSeq, OfPar, OfWhile, OfAssign, OfBin, argument_of, type_of_node}
 use Rattle.gos_ties.specs.declared.points.Place.{Place}
 use Rattle.gos_ties.specs.declared.points.Place.TheVariants as places
 use Rattle.gos_ties.specs.declared.points.Point.{Point}
@@ -99,10 +99,15 @@ binder_slid (OfNew w) t i n out =
     let own : List point_ties.Tie = led (row (places.Number n) 0 2) (places.Part i) 1 in
     both (led out (places.Part i) 3) own (led (map slid out) (places.Part i) 3) own
     (led_slid (places.Part i) (places.Part i) (part_goes i) out 3) (led_kept (places.Number n) (places.Part i) (number_goes n) (part_goes i) 0 2 1)
+binder_slid (OfArray k w) t i n out =
+    let own : List point_ties.Tie = led (row (places.Number n) 0 3) (places.Part i) 1 in
+    both (led out (places.Part i) 4) own (led (map slid out) (places.Part i) 4) own
+    (led_slid (places.Part i) (places.Part i) (part_goes i) out 4) (led_kept (places.Number n) (places.Part i) (number_goes n) (part_goes i) 0 3 1)
 
 binder_out_slid : (b : Binding) (t : Type') (i : ℕ) (out : List Point) → map slid (binder_out b t i out) ≡ binder_out b t i (map slid out)
 binder_out_slid OfFun t i out = map_drop slid (count (argument_of t)) out
 binder_out_slid (OfNew w) t i out = refl
+binder_out_slid (OfArray k w) t i out = refl
 
 one_slid : (f : OneForm) (i : ℕ) (out : List Point) → map slid_tie (one_ties f i out) ≡ one_ties f i (map slid out)
 one_slid OfFst i out = refl

@@ -3,7 +3,7 @@ use Rattle.std.specs.Prelude.{◌+◌, ◌-◌, length, map, take, drop, slice_g
 use Rattle.std.proofs.Common.{◌≡◌, ℕ, zero, suc, List, [], ◌∷◌, ◌++◌, Option, refl, sym, ◌∙◌, ap, arith}
 use Rattle.gos_types.specs.Types.{Type'}
 use Rattle.gos_check.specs.declared.linear.Split.{Split}
-use Rattle.gos_check.specs.Nodes.{Numbered, Closed, Use, Under, One, Two, If, Binding, OfFun, OfNew, OneForm, OfFst, OfSnd, OfDeref, OfNot, TwoForm, OfApp, OfBoth, OfSeq, OfPar, OfWhile, OfAssign, OfBin, argument_of}
+use Rattle.gos_check.specs.Nodes.{Numbered, Closed, Use, Under, One, Two, If, Binding, OfFun, OfNew, OfArray, OneForm, OfFst, OfSnd, OfDeref, OfNot, TwoForm, OfApp, OfBoth, OfSeq, OfPar, OfWhile, OfAssign, OfBin, argument_of}
 use Rattle.gos_realises.specs.realises.Regular.{count}
 use Rattle.gos_ties.specs.declared.points.Place.{Place}
 use Rattle.gos_ties.specs.declared.points.Place.TheVariants as places
@@ -83,10 +83,15 @@ module _ (f : Point → Point) (leaves : LeavesInner f) where
       let served : List Tie = led out (places.Part i) 3 in
       let bound : List Tie = led (row (places.Number n) 0 2) (places.Part i) 1 in
       two served bound (led (map f out) (places.Part i) 3) bound (led_follows (places.Part i) (leaves.part i) out 3) (numbers_stay n i 1 2)
+  binder_led (OfArray k w) t i n out =
+      let served : List Tie = led out (places.Part i) 4 in
+      let bound : List Tie = led (row (places.Number n) 0 3) (places.Part i) 1 in
+      two served bound (led (map f out) (places.Part i) 4) bound (led_follows (places.Part i) (leaves.part i) out 4) (numbers_stay n i 1 3)
 
   binder_onward : (b : Binding) (t : Type') (i : ℕ) (out : List Point) → binder_out b t i (map f out) ≡ map f (binder_out b t i out)
   binder_onward OfFun t i out = points_dropped f (count (argument_of t)) out
   binder_onward (OfNew w) t i out = one_point i 0
+  binder_onward (OfArray k w) t i out = one_point i 0
 
   one_led : (form : OneForm) (i : ℕ) (out : List Point) → one_ties form i (map f out) ≡ led_by f (one_ties form i out)
   one_led OfFst i out = refl

@@ -5,9 +5,9 @@ use Rattle.std.proofs.lemmas.List.Elements.{All-from_recursion, All-append}
 use Rattle.gos_types.specs.Types.{Type', Var}
 use Rattle.gos_model.specs.Terms as terms
 use Rattle.gos_model.specs.Terms.{Term}
-use Rattle.gos_model.specs.Typing.{Imported, Imports, Typed}
+use Rattle.gos_model.specs.Typing.{Imported, Imports, Typed, array_type}
 use Rattle.gos_check.specs.declared.linear.Split.{Split}
-use Rattle.gos_check.specs.Nodes.{Numbered, Closed, Use, Under, One, Two, If, Binding, OfFun, OfNew, OneForm, OfFst, OfSnd, OfDeref, OfNot, TwoForm, OfApp, OfBoth, OfSeq, OfPar, OfWhile, OfAssign, OfBin, Meaning, meaning, below, inside, argument_of}
+use Rattle.gos_check.specs.Nodes.{Numbered, Closed, Use, Under, One, Two, If, Binding, OfFun, OfNew, OfArray, OneForm, OfFst, OfSnd, OfDeref, OfNot, TwoForm, OfApp, OfBoth, OfSeq, OfPar, OfWhile, OfAssign, OfBin, Meaning, meaning, below, inside, argument_of}
 use Rattle.gos_plan.specs.Kinds as kinds
 use Rattle.gos_plan.specs.Kinds.{Part}
 use Rattle.gos_plan.specs.Plans.{Plan}
@@ -41,6 +41,7 @@ closed_fits i g c t typed = first_fits kinds.Skip [] tt none_fit
 binder_fits : (b : Binding) (t : Type') → Fit (binder_part b t)
 binder_fits OfFun t = none_fit
 binder_fits (OfNew w) t = first_fits _ [] tt none_fit
+binder_fits (OfArray k w) t = first_fits _ [] tt none_fit
 
 one_fits : (f : OneForm) (t : Type') → Fit (one_part f t)
 one_fits OfFst t = none_fit
@@ -84,6 +85,8 @@ literals_fit types i g env (Under t ss OfFun n m) u typed =
     under_fits types t ss OfFun m (literals_fit types i (argument_of t ∷ g) (below n (inside ss env)) m typed.0 typed.2)
 literals_fit types i g env (Under t ss (OfNew w) n m) u typed =
     under_fits types t ss (OfNew w) m (literals_fit types i (Var w ∷ g) (below n (inside ss env)) m u typed.2)
+literals_fit types i g env (Under t ss (OfArray c w) n m) u typed =
+    under_fits types t ss (OfArray c w) m (literals_fit types i (array_type c w ∷ g) (below n (inside ss env)) m u typed.3)
 literals_fit types i g env (One t ss OfFst m) u typed = one_node_fits types t ss OfFst m (literals_fit types i g (inside ss env) m _ typed.1)
 literals_fit types i g env (One t ss OfSnd m) u typed = one_node_fits types t ss OfSnd m (literals_fit types i g (inside ss env) m _ typed.1)
 literals_fit types i g env (One t ss OfDeref m) u typed = one_node_fits types t ss OfDeref m (literals_fit types i g (inside ss env) m _ typed.2)

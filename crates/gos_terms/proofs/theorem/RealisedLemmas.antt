@@ -2,10 +2,10 @@
 use Rattle.std.specs.Prelude.{◌≡◌, ℕ, List, [], ◌∷◌, ◌++◌}
 use Rattle.std.proofs.Common.{refl}
 use Rattle.gos_types.specs.Types.{Com, Exp, Pair}
-use Rattle.gos_check.specs.Nodes.{Numbered, Closed, Use, Under, One, Two, If, OfFun, OfNew, OfFst, OfSnd, OfDeref, OfNot, OfApp, OfBoth, OfSeq, OfPar, OfWhile, OfAssign, OfBin, type_of_node}
+use Rattle.gos_check.specs.Nodes.{Numbered, Closed, Use, Under, One, Two, If, OfFun, OfNew, OfArray, OfFst, OfSnd, OfDeref, OfNot, OfApp, OfBoth, OfSeq, OfPar, OfWhile, OfAssign, OfBin, type_of_node}
 use Rattle.gos_check.specs.Linearity.{used}
 use Rattle.gos_compile.specs.Wiring.{Types}
-use Rattle.gos_terms.specs.ground_forms.Cases.{RealisesWired, UseCase, SkipCase, LiteralCase, ParallelCase, BlockCase}
+use Rattle.gos_terms.specs.ground_forms.Cases.{RealisesWired, UseCase, SkipCase, LiteralCase, ParallelCase, BlockCase, ArrayBlockCase}
 use Rattle.gos_terms.specs.numbers.Kept.{IsKept}
 use Rattle.gos_terms.specs.numbers.Unsplit.{ParallelsAreUnsplit, ApplicationsAreUnsplit}
 use Rattle.gos_terms.specs.numbers.Inherited.{own_numbers, first_numbers, BodyIsKept, PartIsKept, BothAreKept, BothAreParted, ThreeAreKept}
@@ -26,6 +26,7 @@ pub record RealisedLaws : Type 0 where
   pub literal : LiteralCase
   pub parallel : ParallelCase
   pub block : BlockCase
+  pub array : ArrayBlockCase
   pub sequence : SequenceCase
   pub choice : ChoiceCase
   pub loop : LoopCase
@@ -65,6 +66,11 @@ term_is_realised laws types ns (Under t ss (OfNew w) n m) kept unsplit applied =
     let (none, body, bound) = laws.body types ns t ss (OfNew w) n m kept in
     same RealisesWired types ns (Under t ss (OfNew w) n m) (Under t [] (OfNew w) n m) (λ i. Under t (none i) (OfNew w) n m)
     (laws.block types ns t w n m kept.typed.1.0 kept.typed.1.2 kept.typed.1.1 bound (has_leaves types m body.typed) body.scope
+    (term_is_realised laws types (ns ++ n ∷ []) m body unsplit applied))
+term_is_realised laws types ns (Under t ss (OfArray k w) n m) kept unsplit applied =
+    let (none, body, bound) = laws.body types ns t ss (OfArray k w) n m kept in
+    same RealisesWired types ns (Under t ss (OfArray k w) n m) (Under t [] (OfArray k w) n m) (λ i. Under t (none i) (OfArray k w) n m)
+    (laws.array types ns t k w n m kept.typed.1.0 kept.typed.1.2 kept.typed.1.1 bound (has_leaves types m body.typed) body.scope
     (term_is_realised laws types (ns ++ n ∷ []) m body unsplit applied))
 term_is_realised laws types ns (One t ss OfFst m) kept unsplit applied =
     let (none, part) = laws.one types ns t ss OfFst m kept in

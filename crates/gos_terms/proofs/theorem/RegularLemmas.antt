@@ -2,13 +2,13 @@
 use Rattle.std.specs.Prelude.{◌≡◌, [], ◌∷◌, ◌++◌}
 use Rattle.std.proofs.Common.{refl}
 use Rattle.gos_types.specs.Types.{Com, Exp, Pair}
-use Rattle.gos_check.specs.Nodes.{Closed, Use, Under, One, Two, If, OfFun, OfNew, OfFst, OfSnd, OfDeref, OfNot, OfApp, OfBoth, OfSeq, OfPar, OfWhile, OfAssign, OfBin, type_of_node}
+use Rattle.gos_check.specs.Nodes.{Closed, Use, Under, One, Two, If, OfFun, OfNew, OfArray, OfFst, OfSnd, OfDeref, OfNot, OfApp, OfBoth, OfSeq, OfPar, OfWhile, OfAssign, OfBin, type_of_node}
 use Rattle.gos_check.specs.Linearity.{used}
 use Rattle.gos_terms.specs.wired.Regular.{RegularWired}
 use Rattle.gos_terms.specs.leaves.RegularLeaves.{UseIsRegular, SkipIsRegular, LiteralIsRegular}
 use Rattle.gos_terms.specs.numbers.Kept.{IsKept}
 use Rattle.gos_terms.specs.numbers.Inherited.{own_numbers, first_numbers, BodyIsKept, PartIsKept, BothAreKept, BothAreParted, ThreeAreKept}
-use Rattle.gos_terms.specs.regular_and_resting.Cases.{ParallelIsSteady, BlockIsSteady}
+use Rattle.gos_terms.specs.regular_and_resting.Cases.{ParallelIsSteady, BlockIsSteady, ArrayBlockIsSteady}
 use Rattle.gos_terms.specs.regular_and_resting.Forks.{SequenceIsSteady, ChoiceIsSteady, LoopIsSteady, OperatorIsSteady, ComplementIsSteady}
 use Rattle.gos_terms.specs.function_forms.Cases.{ApplicationIsRegular, FirstIsRegular, SecondIsRegular, DerefIsRegular}
 use Rattle.gos_terms.specs.function_forms.Functions.{FunctionNodeIsRegular}
@@ -24,6 +24,7 @@ pub record RegularLaws : Type 0 where
   pub literal : LiteralIsRegular
   pub parallel : ParallelIsSteady
   pub block : BlockIsSteady
+  pub array : ArrayBlockIsSteady
   pub sequence : SequenceIsSteady
   pub choice : ChoiceIsSteady
   pub loop : LoopIsSteady
@@ -55,6 +56,11 @@ term_is_regular laws types ns (Under t ss (OfNew w) n m) kept unsplit applied =
     let (none, body, bound) = laws.body types ns t ss (OfNew w) n m kept in
     same RegularWired types ns (Under t ss (OfNew w) n m) (Under t [] (OfNew w) n m) (λ i. Under t (none i) (OfNew w) n m)
     (laws.block types ns t w n m kept.typed.1.0 kept.typed.1.2 kept.typed.1.1 bound
+    (term_is_regular laws types (ns ++ n ∷ []) m body unsplit applied))
+term_is_regular laws types ns (Under t ss (OfArray k w) n m) kept unsplit applied =
+    let (none, body, bound) = laws.body types ns t ss (OfArray k w) n m kept in
+    same RegularWired types ns (Under t ss (OfArray k w) n m) (Under t [] (OfArray k w) n m) (λ i. Under t (none i) (OfArray k w) n m)
+    (laws.array types ns t k w n m kept.typed.1.0 kept.typed.1.2 kept.typed.1.1 bound
     (term_is_regular laws types (ns ++ n ∷ []) m body unsplit applied))
 term_is_regular laws types ns (One t ss OfFst m) kept unsplit applied =
     let (none, part) = laws.one types ns t ss OfFst m kept in

@@ -3,7 +3,7 @@ use Rattle.std.specs.Prelude.{◌≡◌, ℕ, zero, suc, ◌+◌, ◌-◌, List,
 use Rattle.std.proofs.Common.{refl, subst, arith}
 use Rattle.gos_types.specs.Types.{Type'}
 use Rattle.gos_check.specs.declared.linear.Split.{Split}
-use Rattle.gos_check.specs.Nodes.{Numbered, Closed, Use, Under, One, Two, If, Binding, OfFun, OfNew, OneForm, OfFst, OfSnd, OfDeref, OfNot, TwoForm, OfApp, OfBoth, OfSeq, OfPar, OfWhile, OfAssign, OfBin, argument_of, type_of_node}
+use Rattle.gos_check.specs.Nodes.{Numbered, Closed, Use, Under, One, Two, If, Binding, OfFun, OfNew, OfArray, OneForm, OfFst, OfSnd, OfDeref, OfNot, TwoForm, OfApp, OfBoth, OfSeq, OfPar, OfWhile, OfAssign, OfBin, argument_of, type_of_node}
 use Rattle.gos_ties.specs.declared.points.Place.{Place}
 use Rattle.gos_ties.specs.declared.points.Place.TheVariants as places
 use Rattle.gos_ties.specs.declared.points.Point.{Point}
@@ -78,10 +78,14 @@ binder_away OfFun t i n out all = led_away (places.Number n) tt 0 (take (count (
 binder_away (OfNew w) t i n out all =
     ties_two (led out (places.Part i) 3) (led (row (places.Number n) 0 2) (places.Part i) 1) (led_away (places.Part i) tt 3 out all)
     (led_away (places.Part i) tt 1 (row (places.Number n) 0 2) (row_away (places.Number n) tt 0 2))
+binder_away (OfArray k w) t i n out all =
+    ties_two (led out (places.Part i) 4) (led (row (places.Number n) 0 3) (places.Part i) 1) (led_away (places.Part i) tt 4 out all)
+    (led_away (places.Part i) tt 1 (row (places.Number n) 0 3) (row_away (places.Number n) tt 0 3))
 
 binder_out_away : (b : Binding) (t : Type') (i : ℕ) (out : List Point) → PointsAway out → PointsAway (binder_out b t i out)
 binder_out_away OfFun t i out all = drop_away (count (argument_of t)) out all
 binder_out_away (OfNew w) t i out all = (tt, tt)
+binder_out_away (OfArray k w) t i out all = (tt, tt)
 
 one_away : (f : OneForm) (i : ℕ) (out : List Point) → PointsAway out → TiesAway (one_ties f i out)
 one_away OfFst i out all = tt

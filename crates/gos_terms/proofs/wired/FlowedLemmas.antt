@@ -4,14 +4,14 @@
 use Rattle.std.specs.Prelude.{ℕ, suc, ◌+◌, List, [], ◌∷◌, ◌++◌, length, take}
 use Rattle.gos_types.specs.Types.{Type', Var}
 use Rattle.gos_check.specs.declared.linear.Split.{Split}
-use Rattle.gos_check.specs.Nodes.{Numbered, Closed, Use, Under, One, Two, If, Binding, OfFun, OfNew, OneForm, OfFst, OfSnd, TwoForm, OfApp, OfBoth, argument_of, type_of_node}
+use Rattle.gos_check.specs.Nodes.{Numbered, Closed, Use, Under, One, Two, If, Binding, OfFun, OfNew, OfArray, OneForm, OfFst, OfSnd, TwoForm, OfApp, OfBoth, argument_of, type_of_node}
 use Rattle.gos_plan.specs.Kinds.{Contact, contacts_of, other_side}
 use Rattle.gos_ties.specs.declared.points.Place.{Place}
 use Rattle.gos_ties.specs.declared.points.Place.TheVariants as places
 use Rattle.gos_ties.specs.declared.points.Point.{Point}
 use Rattle.gos_ties.specs.Ties.{point}
 use Rattle.gos_realises.specs.realises.Regular.{count}
-use Rattle.gos_model.specs.Typing.{Imports}
+use Rattle.gos_model.specs.Typing.{Imports, array_type}
 use Rattle.gos_compile.specs.Wiring.{Types, row, binder_part, one_part, two_part, parts_of, nodes, one_out, first_out, second_out, binder_out, all_types}
 use Rattle.gos_terms.proofs.wired.FlowLemmas.{Flow}
 
@@ -39,6 +39,8 @@ abbrev pub binder_flows : Binding → Type' → ℕ → ℕ → List Point → L
 binder_flows OfFun t i n out = flowing (seen t) (take (count (argument_of t)) out) (places.Number n) 0
 binder_flows (OfNew w) t i n out =
     flowing (seen t) out (places.Part i) 3 ++ flowing (seen (Var w)) (row (places.Number n) 0 2) (places.Part i) 1
+binder_flows (OfArray k w) t i n out =
+    flowing (seen t) out (places.Part i) 4 ++ flowing (seen (array_type k w)) (row (places.Number n) 0 3) (places.Part i) 1
 
 abbrev pub one_flows : OneForm → Type' → ℕ → List Point → List Flow
 one_flows OfFst t i out = []

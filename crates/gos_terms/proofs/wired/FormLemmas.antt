@@ -6,9 +6,9 @@ use Rattle.std.proofs.Common.{refl, sym, ◌∙◌, ap, subst, arith, inl}
 use Rattle.gos_types.specs.Types.{Type', Com, Exp, Var, Pair, Fun, IsDone}
 use Rattle.gos_model.specs.Terms as terms
 use Rattle.gos_model.specs.Terms.{Term, result_width}
-use Rattle.gos_model.specs.Typing.{Imports}
+use Rattle.gos_model.specs.Typing.{Imports, array_type, index_width}
 use Rattle.gos_check.specs.declared.linear.Split.{Split}
-use Rattle.gos_check.specs.Nodes.{Binding, OfFun, OfNew, OneForm, OfFst, OfSnd, OfDeref, OfNot, TwoForm, OfApp, OfBoth, OfSeq, OfPar, OfWhile, OfAssign, OfBin}
+use Rattle.gos_check.specs.Nodes.{Binding, OfFun, OfNew, OfArray, OneForm, OfFst, OfSnd, OfDeref, OfNot, TwoForm, OfApp, OfBoth, OfSeq, OfPar, OfWhile, OfAssign, OfBin}
 use Rattle.gos_plan.specs.Kinds as kinds
 use Rattle.gos_plan.specs.Kinds.{Part, Contact, asks, serves, contacts_of, other_side, part_contacts}
 use Rattle.gos_plan.proofs.SideLemmas.{sides_turn_back}
@@ -209,6 +209,26 @@ module _ (parts : List Part) (is : Imports) (outcome : Type') (types : Types) (t
         (has_part i 0 (kinds.Local w v) (asks 0 v) all refl, tt),
   )
 
+  array_good : (c w v : ℕ) (t : Type') (i n : ℕ) (out : List Point) → seen t ≡ asks 0 v ∷ [] → answer_bits t ≡ v → types n ≡ array_type c w
+      → PartsAt i (kinds.Array w c v ∷ []) → See (seen t) out
+      → Good (binder_flows (OfArray c w) t i n out) (binder_ties (OfArray c w) t i n out) × See (seen t) (binder_out (OfArray c w) t i out)
+  array_good c w v t i n out is_seen bits e all see = (
+    sight.good_two parts is outcome types table (flowing (seen t) out (places.Part i) 4)
+        (flowing (seen (array_type c w)) (row (places.Number n) 0 3) (places.Part i) 1)
+        (led out (places.Part i) 4) (led (row (places.Number n) 0 3) (places.Part i) 1)
+        (led_good (seen t) out (places.Part i) 4 see
+        (subst (λ (cs : List Contact). Offers (places.Part i) 4 (other_side cs)) (sym is_seen)
+        (one_offered (places.Part i) 4 (serves 0 v) (has_part i 4 (kinds.Array w c v) (serves 0 v) all refl))))
+        (led_good (seen (array_type c w)) (row (places.Number n) 0 3) (places.Part i) 1
+        (sight.see_row parts is outcome types table (places.Number n) 0 (seen (array_type c w)) 3 refl
+        (sight.made_offers parts is outcome types table n (array_type c w) (sym e)))
+        (sight.three_offers parts is outcome types table (places.Part i) 1 (asks 0 (index_width c)) (serves 0 w) (serves w 0)
+        (has_part i 1 (kinds.Array w c v) (asks 0 (index_width c)) all refl)
+        (has_part i 2 (kinds.Array w c v) (serves 0 w) all refl) (has_part i 3 (kinds.Array w c v) (serves w 0) all refl))),
+    subst (λ (cs : List Contact). See cs (point (places.Part i) 0 ∷ [])) (sym is_seen)
+        (has_part i 0 (kinds.Array w c v) (asks 0 v) all refl, tt),
+  )
+
   pub binder_good : (b : Binding) (t u : Type') (i n : ℕ) (out : List Point) → BinderTyped types b t n u → PartsAt i (binder_part b t) → See (seen t) out
       → Good (binder_flows b t i n out) (binder_ties b t i n out) × See (seen u) (binder_out b t i out)
   binder_good OfFun t u i n out e all see =
@@ -223,6 +243,15 @@ module _ (parts : List Part) (is : Imports) (outcome : Type') (types : Types) (t
   binder_good (OfNew w) (Var v) u i n out (done, there, body) all see = absurd done
   binder_good (OfNew w) (Pair a b) u i n out (done, there, body) all see = absurd done
   binder_good (OfNew w) (Fun a b) u i n out (done, there, body) all see = absurd done
+  binder_good (OfArray c w) Com u i n out (done, there, body) all see =
+      let both = array_good c w 0 Com i n out refl refl there all see in
+      (both.0, subst (λ (x : Type'). See (seen x) (point (places.Part i) 0 ∷ [])) (sym body) both.1)
+  binder_good (OfArray c w) (Exp v) u i n out (done, there, body) all see =
+      let both = array_good c w v (Exp v) i n out refl refl there all see in
+      (both.0, subst (λ (x : Type'). See (seen x) (point (places.Part i) 0 ∷ [])) (sym body) both.1)
+  binder_good (OfArray c w) (Var v) u i n out (done, there, body) all see = absurd done
+  binder_good (OfArray c w) (Pair a b) u i n out (done, there, body) all see = absurd done
+  binder_good (OfArray c w) (Fun a b) u i n out (done, there, body) all see = absurd done
 
   -- forms of one part
   abbrev OneGood : OneForm → Type' → Type' → ℕ → ℕ → List Point → Type 0

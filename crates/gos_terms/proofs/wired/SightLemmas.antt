@@ -185,3 +185,11 @@ module _ (parts : List Part) (is : Imports) (outcome : Type') (types : Types) (t
       subst (λ (x : Contact). Has q (h + 0) x) same (subst (λ (n : ℕ). Has q n c) sum has)
   two_offers q h c e has next (suc k) d at =
       let sum : suc h + k ≡ h + suc k = omega arith in subst (λ (n : ℕ). Has q n d) sum (one_offer q (suc h) e next k d at)
+
+  pub three_offers : (q : Place) (h : ℕ) (c e g : Contact) → Has q h c → Has q (suc h) e → Has q (suc (suc h)) g → Offers q h (c ∷ e ∷ g ∷ [])
+  three_offers q h c e g has next last zero d at =
+      let sum : h ≡ h + 0 = omega arith in
+      let same : c ≡ d = cc at in
+      subst (λ (x : Contact). Has q (h + 0) x) same (subst (λ (n : ℕ). Has q n c) sum has)
+  three_offers q h c e g has next last (suc k) d at =
+      let sum : suc h + k ≡ h + suc k = omega arith in subst (λ (n : ℕ). Has q n d) sum (two_offers q (suc h) e g next last k d at)

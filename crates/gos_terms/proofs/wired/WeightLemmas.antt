@@ -5,8 +5,9 @@ use Rattle.std.specs.Prelude.{◌≡◌, ℕ, zero, suc, ◌+◌, ◌-◌, ◌�
 use Rattle.std.proofs.Common.{refl, sym, ◌∙◌, ap, subst, arith, length-append}
 use Rattle.gos_types.specs.declared.shakes.Role.{Role}
 use Rattle.gos_types.specs.Types.{Type', Var, Pair, Fun}
+use Rattle.gos_model.specs.Typing.{array_type}
 use Rattle.gos_check.specs.declared.linear.Split.{Split}
-use Rattle.gos_check.specs.Nodes.{Numbered, Closed, Use, Under, One, Two, If, Binding, OfFun, OfNew, OneForm, OfFst, OfSnd, OfDeref, OfNot, TwoForm, OfApp, OfBoth, OfSeq, OfPar, OfWhile, OfAssign, OfBin}
+use Rattle.gos_check.specs.Nodes.{Numbered, Closed, Use, Under, One, Two, If, Binding, OfFun, OfNew, OfArray, OneForm, OfFst, OfSnd, OfDeref, OfNot, TwoForm, OfApp, OfBoth, OfSeq, OfPar, OfWhile, OfAssign, OfBin}
 use Rattle.gos_plan.specs.Kinds as kinds
 use Rattle.gos_plan.specs.Kinds.{Part, Contact, contacts_of, other_side}
 use Rattle.gos_plan.proofs.SideLemmas.{sides_turn_back}
@@ -121,6 +122,13 @@ module _ (types : Types) (r : Role) (q : Point) (U M N : ℕ → ℕ) (no_part :
         let first = to_part (seen t) out i 3 in
         let second = to_part (seen (Var w)) (row (places.Number n) 0 2) i 1 in
         let made = side_makes n 2 (Var w) there in
+        let none = of_part (seen u) i 0 in
+        omega (arith, all, first, second, made, none)
+    binder_count (OfArray c w) t u i n out (done, there, body) size =
+        let all = meets_two r q (flowing (seen t) out (places.Part i) 4) (flowing (seen (array_type c w)) (row (places.Number n) 0 3) (places.Part i) 1) in
+        let first = to_part (seen t) out i 4 in
+        let second = to_part (seen (array_type c w)) (row (places.Number n) 0 3) i 1 in
+        let made = side_makes n 3 (array_type c w) there in
         let none = of_part (seen u) i 0 in
         omega (arith, all, first, second, made, none)
 

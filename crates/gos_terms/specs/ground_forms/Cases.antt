@@ -4,8 +4,8 @@
 use Rattle.std.specs.Prelude.{◌≡◌, ℕ, List, [], ◌∷◌, ◌++◌, All, Contains}
 use Rattle.gos_types.specs.Types.{Type', Com, Exp, Var, IsDone}
 use Rattle.gos_model.specs.Terms as terms
-use Rattle.gos_model.specs.Typing.{Typed}
-use Rattle.gos_check.specs.Nodes.{Numbered, Closed, Use, Under, Two, OfNew, OfPar, meaning, type_of_node}
+use Rattle.gos_model.specs.Typing.{Typed, array_type}
+use Rattle.gos_check.specs.Nodes.{Numbered, Closed, Use, Under, Two, OfNew, OfArray, OfPar, meaning, type_of_node}
 use Rattle.gos_plan.specs.Plans.{Plan}
 use Rattle.gos_plan.specs.TokenBits.{LiteralFits}
 use Rattle.gos_realises.specs.realises.Realises.{NamesDiffer, Realises}
@@ -48,3 +48,10 @@ BlockCase =
     (types : Types) (ns : List ℕ) (t : Type') (w n : ℕ) (m : Numbered)
     → IsDone t → type_of_node m ≡ t → types n ≡ Var w → IsBound n m ns → HasLeaves m → InScope (ns ++ n ∷ []) m
     → RealisesWired types (ns ++ n ∷ []) m → RealisesWired types ns (Under t [] (OfNew w) n m)
+
+-- a block with an array of k numbers, whose body may use the bound number too
+abbrev pub ArrayBlockCase : Type 0
+ArrayBlockCase =
+    (types : Types) (ns : List ℕ) (t : Type') (k w n : ℕ) (m : Numbered)
+    → IsDone t → type_of_node m ≡ t → types n ≡ array_type k w → IsBound n m ns → HasLeaves m → InScope (ns ++ n ∷ []) m
+    → RealisesWired types (ns ++ n ∷ []) m → RealisesWired types ns (Under t [] (OfArray k w) n m)

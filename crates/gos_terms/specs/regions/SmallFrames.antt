@@ -1,16 +1,21 @@
--- Numbers of two sides and of a body, and what are none; of what the ties of a use speak; and regions that keep imports, and don't.
+-- Numbers of two sides and of a body, and what are none; of what the ties of a use speak; names of ports; and regions that keep imports,
+-- and don't.
 --
 -- Read first: Spans, Frames, Blocks. They show that these definitions can be met and can be missed.
 use Rattle.std.specs.Prelude.{List, ℕ, zero, suc, [], ◌∷◌, None}
-use Rattle.gos_types.specs.Types.{Com}
+use Rattle.gos_types.specs.Types.{Com, Var}
+use Rattle.gos_model.specs.Terms.{Name}
+use Rattle.gos_model.specs.Typing.{array_type}
 use Rattle.gos_check.specs.Nodes.{Numbered, Use}
 use Rattle.gos_ties.specs.declared.points.Place.TheVariants as places
 use Rattle.gos_plan.specs.Plans.{End, PartEnd, ImportEnd, ResultEnd}
 use Rattle.gos_joining.specs.webs.Cutting.{Cut}
+use Rattle.gos_supplies.specs.names.Names.{name_plan, imported}
+use Rattle.gos_supplies.specs.turns.Names.{IsNamePlan}
 use Rattle.gos_compile.specs.Wiring.{Types}
 use Rattle.gos_terms.specs.regions.Spans.{IsOwnPlace}
 use Rattle.gos_terms.specs.regions.Frames.{AreParted, KeepsImports}
-use Rattle.gos_terms.specs.regions.Blocks.{IsBound}
+use Rattle.gos_terms.specs.regions.Blocks.{port_plan, IsBound}
 
 -- uses of two numbers
 abbrev pub one_use : Numbered
@@ -39,6 +44,16 @@ UseSpeaksOfIt = (types : Types) → IsOwnPlace types 0 0 one_use (places.Number 
 
 abbrev pub NotOfParts : Type 0
 NotOfParts = (types : Types) (k : ℕ) → IsOwnPlace types 0 0 one_use (places.Part k) → ⊥
+
+-- The name of a variable and that of an array stand for a number by the plan of a name. The plan that joins each handshake of an array
+-- as those of a variable are joined is none: the array asks for its index.
+abbrev pub PortsHaveNames : Type 0
+PortsHaveNames =
+    (x : Name) (k w : ℕ)
+    → IsNamePlan (imported x (Var w)) (port_plan x (Var w)) × IsNamePlan (imported x (array_type k w)) (port_plan x (array_type k w))
+
+abbrev pub GroundNameIsNone : Type 0
+GroundNameIsNone = (x : Name) (k w : ℕ) → IsNamePlan (imported x (array_type k w)) (name_plan x (array_type k w)) → ⊥
 
 -- import 0 leads to import 1, end by end; or its second end leads to a part
 abbrev pub kept_outer : End → End

@@ -3,7 +3,8 @@
 -- Read first: Regular of wired; Frames and Blocks of regions.
 use Rattle.std.specs.Prelude.{◌≡◌, ℕ, List, [], ◌∷◌, ◌++◌}
 use Rattle.gos_types.specs.Types.{Type', Com, Var, IsDone}
-use Rattle.gos_check.specs.Nodes.{Numbered, Under, Two, OfNew, OfPar, type_of_node}
+use Rattle.gos_model.specs.Typing.{array_type}
+use Rattle.gos_check.specs.Nodes.{Numbered, Under, Two, OfNew, OfArray, OfPar, type_of_node}
 use Rattle.gos_compile.specs.Wiring.{Types}
 use Rattle.gos_terms.specs.wired.Regular.{RegularWired}
 use Rattle.gos_terms.specs.regions.Frames.{AreParted}
@@ -22,3 +23,10 @@ BlockIsSteady =
     (types : Types) (ns : List ℕ) (t : Type') (w n : ℕ) (m : Numbered)
     → IsDone t → type_of_node m ≡ t → types n ≡ Var w → IsBound n m ns → RegularWired types (ns ++ n ∷ []) m
     → RegularWired types ns (Under t [] (OfNew w) n m)
+
+-- and a block with an array
+abbrev pub ArrayBlockIsSteady : Type 0
+ArrayBlockIsSteady =
+    (types : Types) (ns : List ℕ) (t : Type') (k w n : ℕ) (m : Numbered)
+    → IsDone t → type_of_node m ≡ t → types n ≡ array_type k w → IsBound n m ns → RegularWired types (ns ++ n ∷ []) m
+    → RegularWired types ns (Under t [] (OfArray k w) n m)

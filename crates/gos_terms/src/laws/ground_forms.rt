@@ -1,10 +1,11 @@
 // What wired nodes of ground types realise, form by form. Each theorem is the contract of a function that does nothing.
-ghost use Rattle.gos_terms.specs.ground_forms.Cases.{BlockCase, LiteralCase, ParallelCase, SkipCase, UseCase};
+ghost use Rattle.gos_terms.specs.ground_forms.Cases.{ArrayBlockCase, BlockCase, LiteralCase, ParallelCase, SkipCase, UseCase};
 
 use super::leaves::{closed_is_realised, use_is_realised};
 use super::meanings::meanings;
 use super::regions::{block_bodies, parallel_sides};
 use gos_nodes::laws::parallel::parallel;
+use gos_supplies::laws::arrays::array_names;
 use gos_supplies::laws::names::names;
 
 /// Nodes without parts.
@@ -25,12 +26,14 @@ pub fn parallel_nodes()
     parallel();
 }
 
-/// A block.
+/// A block with a variable, and one with an array.
 pub fn blocks()
-    ensures { BlockCase }
+    ensures one { BlockCase }
+    ensures array { ArrayBlockCase }
 {
     block_bodies();
     gos_nodes::laws::blocks::blocks();
     names();
+    array_names();
     meanings();
 }

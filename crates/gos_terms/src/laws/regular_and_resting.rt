@@ -1,6 +1,6 @@
 // What the definitions give. Each theorem is the contract of a function that does nothing.
 ghost use Rattle.gos_terms.specs.regular_and_resting.Assignments.{AssignmentIsSteady};
-ghost use Rattle.gos_terms.specs.regular_and_resting.Cases.{BlockIsSteady, ParallelIsSteady};
+ghost use Rattle.gos_terms.specs.regular_and_resting.Cases.{ArrayBlockIsSteady, BlockIsSteady, ParallelIsSteady};
 ghost use Rattle.gos_terms.specs.regular_and_resting.Forks.{ChoiceIsSteady, ComplementIsSteady, ForkIsSteady, LoopIsSteady, OperatorIsSteady, SequenceIsSteady};
 ghost use Rattle.gos_terms.specs.regular_and_resting.SmallAssignments.{OneIsOpen, ReadIsNotOpen, SevenAreNotOpen};
 ghost use Rattle.gos_terms.specs.regular_and_resting.SmallForks.{BothAreRun, SecondIsNotRun};
@@ -28,9 +28,10 @@ pub fn parallel_nodes()
     ensures { ParallelIsSteady }
 {}
 
-/// So has a block, if its body has.
+/// So has a block, if its body has: with a variable or with an array.
 pub fn block_nodes()
-    ensures { BlockIsSteady }
+    ensures one { BlockIsSteady }
+    ensures array { ArrayBlockIsSteady }
 {
     blocks();
 }

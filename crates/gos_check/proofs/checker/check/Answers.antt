@@ -22,13 +22,13 @@ returns-clause-accepted c = accepted_where_none c.found_exactly.ensures c.args.p
 pub returns-clause-term : goal.returns-clause-term
 returns-clause-term c =
     let accepted = accepted_where_none c.found_exactly.ensures c.args.program.now c.in_ok-weight.weight c.in_ok-weight.ensures.ok in
-    rw c.in_ok-term.ensures.ok (stands c.args.program.now (type_of c.args.program.now.result) accepted.typed accepted.limits)
+    rw c.in_ok-term.ensures.ok (stands c.args.program.now (type_of c.args.program.now.result) accepted.typed)
 
 pub invariant_of-result : goal.invariant_of-result
 invariant_of-result c =
     let accepted = accepted_where_none c.found_exactly.ensures c.args.program.now c.in_ok-weight.weight c.in_ok-weight.ensures.ok in
     let term : StandsFor (program_of c.args.program.now) (node_seen c.in_ok-term.term) =
-    rw c.in_ok-term.ensures.ok (stands c.args.program.now (type_of c.args.program.now.result) accepted.typed accepted.limits) in
+    rw c.in_ok-term.ensures.ok (stands c.args.program.now (type_of c.args.program.now.result) accepted.typed) in
     let imports : map plain_import c.in_ok-copy_imports.field-0.items ≡ map plain_import c.args.program.now.imports = search rules in
     let outcome : type_of c.in_ok-copy.field-0 ≡ type_of c.args.program.now.result = search rules in
     let found = (c.found_exactly.ensures c.args.program.now c.in_ok-weight.weight).0 c.in_ok-weight.ensures.ok in
@@ -40,7 +40,7 @@ pub returns-clause-program : goal.returns-clause-program
 returns-clause-program c =
     let accepted = accepted_where_none c.found_exactly.ensures c.args.program.now c.in_ok-weight.weight c.in_ok-weight.ensures.ok in
     let term : StandsFor (program_of c.args.program.now) (node_seen c.in_ok-term.term) =
-    rw c.in_ok-term.ensures.ok (stands c.args.program.now (type_of c.args.program.now.result) accepted.typed accepted.limits) in
+    rw c.in_ok-term.ensures.ok (stands c.args.program.now (type_of c.args.program.now.result) accepted.typed) in
     let imports : map plain_import c.in_ok-copy_imports.field-0.items ≡ map plain_import c.args.program.now.imports = search rules in
     program_same c.args.program.now
     (record { weight = c.in_ok-weight.weight; imports = c.in_ok-copy_imports.field-0.items; result = c.in_ok-copy.field-0; term = c.in_ok-term.term })

@@ -13,7 +13,7 @@ use Rattle.gos_check.specs.Judging.{judged}
 use Rattle.gos_check.specs.inner.Seen.{binders_of}
 use Rattle.gos_check.specs.inner.Known.{Finds}
 use Rattle.gos_check.specs.inner.Walked.{tree, weight_of, parts_judged}
-use Rattle.gos_check.proofs.RefusalLemmas.{finds_same, one_found, function_is_found, block_found, choice_found, choice_at, two_found, array_found, known_there, sized_there, whole_there}
+use Rattle.gos_check.proofs.RefusalLemmas.{finds_same, one_found, function_is_found, block_found, choice_found, choice_at, two_found, array_found, array_at, known_there, sized_there, whole_there}
 use Rattle.gos_check.proofs.judging.+judging.Goals as goal
 
 pub judge-returns-clause-known : goal.judge-returns-clause-known
@@ -142,3 +142,12 @@ judge_form-returns-in-If-clause-found t c =
     subst (λ (form : Form). Finds (parts_judged (map import_of c.args.imports.now) (binders_of c.args.scope.now) (tree_of form c.args.term.now.span))
     c.judge_choice.result)
     (sym c.in-If.is) there
+
+pub judge_form-returns-in-Array-clause-found : goal.judge_form-returns-in-Array-clause-found
+judge_form-returns-in-Array-clause-found t c =
+    let there =
+    array_at (map import_of c.args.imports.now) (binders_of c.args.scope.now) c.judge_array.result c.in-Array.name c.in-Array.length c.in-Array.length_span
+    c.in-Array.width c.in-Array.width_span c.deref-in-Array.ensures c.judge_array.ensures.found in
+    subst (λ (form : Form). Finds (parts_judged (map import_of c.args.imports.now) (binders_of c.args.scope.now) (tree_of form c.args.term.now.span))
+    c.judge_array.result)
+    (sym c.in-Array.is) there

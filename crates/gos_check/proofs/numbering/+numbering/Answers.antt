@@ -1,9 +1,10 @@
-use Rattle.std.specs.Prelude.{◌+◌, ◌*◌, ◌<◌, map}
+use Rattle.std.specs.Prelude.{◌+◌, ◌*◌, ◌<◌, ◌∷◌, map}
 use Rattle.std.proofs.Common.{arith, rules, ap, ◌∙◌}
 use Rattle.gos_types.specs.Types.{type_of, Var}
 use Rattle.gos_model.specs.Sources.{import_of}
+use Rattle.gos_model.specs.Typing.{array_type}
 use Rattle.gos_syntax.specs.Sizes.{size}
-use Rattle.gos_check.specs.Nodes.{OfFun, OfNew, one_form, two_form}
+use Rattle.gos_check.specs.Nodes.{OfFun, OfNew, OfArray, one_form, two_form}
 use Rattle.gos_check.specs.inner.Seen.{binders_of}
 use Rattle.gos_check.specs.inner.Walked.{tree}
 use Rattle.gos_check.specs.Numbering.{binder_result, one_result, two_result, choice_result, inner_next, numbered}
@@ -51,6 +52,20 @@ number_block-returns-clause-seen t c =
 pub number_block-returns-clause-room : goal.number_block-returns-clause-room
 number_block-returns-clause-room t c =
     room_there c.below_block.result _ _ (omega (arith, c.in_ok-body.ensures.room, size_parts (tree c.args.body.now))) c.below_block.ensures.room
+
+pub number_array-returns-clause-seen : goal.number_array-returns-clause-seen
+number_array-returns-clause-seen t c =
+    let inner =
+    c.in_ok-body.ensures.seen
+    ∙ (λ k. numbered (map import_of c.args.imports.now) (record { name = c.args.name.now; ty = c.in_ok-array.ensures.ok k } ∷ binders_of c.args.scope.now)
+    c.args.next (tree c.args.body.now)) in
+    numbers_same c.below_array.result _ _
+    (ap (binder_result (OfArray c.args.many.0 c.args.many.1) c.args.name.now (array_type c.args.many.0 c.args.many.1)) inner)
+    c.below_array.ensures.seen
+
+pub number_array-returns-clause-room : goal.number_array-returns-clause-room
+number_array-returns-clause-room t c =
+    room_there c.below_array.result _ _ (omega (arith, c.in_ok-body.ensures.room, size_parts (tree c.args.body.now))) c.below_array.ensures.room
 
 pub number_choice-returns-clause-seen : goal.number_choice-returns-clause-seen
 number_choice-returns-clause-seen t c =

@@ -12,6 +12,9 @@ decreases-number_function l = 3 * size (tree l.body.now) + 2
 abbrev pub decreases-number_block : goal.decreases-number_block
 decreases-number_block l = 3 * size (tree l.body.now) + 2
 
+abbrev pub decreases-number_array : goal.decreases-number_array
+decreases-number_array l = 3 * size (tree l.body.now) + 2
+
 abbrev pub decreases-number_one : goal.decreases-number_one
 decreases-number_one l = 3 * size (tree l.m.now) + 2
 

@@ -6,6 +6,9 @@ use Rattle.gos_compile.proofs.walk.+walk.Given as goal
 abbrev pub decreases-wire : goal.decreases-wire
 decreases-wire l = 2 * nodes (node_seen l.node.now)
 
+abbrev pub decreases-wire_array : goal.decreases-wire_array
+decreases-wire_array l = 2 * nodes (node_seen l.body.now) + 1
+
 abbrev pub decreases-wire_block : goal.decreases-wire_block
 decreases-wire_block l = 2 * nodes (node_seen l.body.now) + 1
 

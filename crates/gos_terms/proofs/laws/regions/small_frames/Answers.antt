@@ -1,4 +1,4 @@
-use Rattle.gos_terms.proofs.regions.SmallFrameLemmas.{uses_are_parted, shared_is_not_parted, use_is_bound, other_is_not_bound, use_speaks_of_it, not_of_parts, whole_is_kept, torn_is_not_kept}
+use Rattle.gos_terms.proofs.regions.SmallFrameLemmas.{uses_are_parted, shared_is_not_parted, use_is_bound, other_is_not_bound, use_speaks_of_it, not_of_parts, ports_have_names, ground_name_is_none, whole_is_kept, torn_is_not_kept}
 use Rattle.gos_terms.proofs.laws.regions.small_frames.Goals as goal
 
 pub returns-clause-parted : goal.returns-clause-parted
@@ -18,6 +18,12 @@ returns-clause-spoken c = use_speaks_of_it
 
 pub returns-clause-unspoken : goal.returns-clause-unspoken
 returns-clause-unspoken c = not_of_parts
+
+pub returns-clause-named : goal.returns-clause-named
+returns-clause-named c = ports_have_names
+
+pub returns-clause-unnamed : goal.returns-clause-unnamed
+returns-clause-unnamed c = ground_name_is_none
 
 pub returns-clause-whole : goal.returns-clause-whole
 returns-clause-whole c = whole_is_kept
