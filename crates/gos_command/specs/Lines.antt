@@ -158,6 +158,9 @@ explain_text (explain.Form at) = counted (codes "M1 at ") at
 explain_text (explain.Wrong line) = counted (codes "M2 line ") line
 explain_text (explain.Labels matched) = counted (codes "M3 labels ") matched
 explain_text (explain.Nodes nodes) = counted (codes "M4 nodes ") nodes
+explain_text (explain.NotTrace label) = counted (codes "M5 label ") label
+explain_text (explain.Spent label) = counted (codes "M6 label ") label
+explain_text explain.Taken = codes "M7"
 explain_text explain.NoMemory = []
 
 abbrev pub cause_text : Option Netlist → Cause → List ℕ

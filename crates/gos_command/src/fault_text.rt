@@ -157,6 +157,9 @@ fn explain_text(alloc: Global, fault: &ExplainFault) -> Result<Vec<u8>, NoMemory
         ExplainFault::Wrong { line } => counted(alloc, b"M2 line ", *line),
         ExplainFault::Labels { matched } => counted(alloc, b"M3 labels ", *matched),
         ExplainFault::Nodes { nodes } => counted(alloc, b"M4 nodes ", *nodes),
+        ExplainFault::NotTrace { label } => counted(alloc, b"M5 label ", *label),
+        ExplainFault::Spent { label } => counted(alloc, b"M6 label ", *label),
+        ExplainFault::Taken => Ok(b"M7".to_vec(alloc)?),
         ExplainFault::NoMemory => Err(NoMemory),
     }
 }

@@ -1,2 +1,4 @@
 pub mod NeededLemmas
 pub mod ResidueLemmas
+pub mod BlockedLemmas
+pub mod SmallLemmas

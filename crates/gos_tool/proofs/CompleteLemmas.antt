@@ -15,23 +15,24 @@ use Rattle.gos_tool.specs.circuits.Complete.{LinkIsNotRejected}
 use Rattle.gos_tool.specs.netlists.Complete.{TidyIsNotRejected, GatesAreNotRejected}
 use Rattle.gos_tool.specs.simulate.Complete.{SimIsNotRejected}
 use Rattle.gos_tool.specs.build.Complete.{BuildIsNotRejected}
-use Rattle.gos_tool.specs.explained.Complete.{VerifiedIsNotRejected}
-use Rattle.gos_tool.specs.Command.{Command, Check, Compile, Link, Sim, Build, Demo, Tidy, Gates, Verify, Means}
+use Rattle.gos_tool.specs.explained.Complete.{ExplainedIsNotRejected, VerifiedIsNotRejected}
+use Rattle.gos_tool.specs.Command.{Command, Check, Compile, Link, Sim, Build, Demo, Tidy, Gates, Explain, Verify, Means}
 use Rattle.gos_tool.specs.Run.{IsRejected}
 use Rattle.gos_tool.specs.Complete.{AreRight, RightIsNotRejected}
 use Rattle.gos_tool.proofs.EndLemmas.{same_meaning}
 
 pub right_is_not_rejected : AcceptedIsNotRejected → LinkIsNotRejected → SimIsNotRejected → BuildIsNotRejected → TidyIsNotRejected → GatesAreNotRejected
-    → VerifiedIsNotRejected → RightIsNotRejected
-right_is_not_rejected source link sim build tidy gates verify (Check name) files new fault line right wrong = source files name right.0 fault line right.1 wrong.2
-right_is_not_rejected source link sim build tidy gates verify (Compile name object) files new fault line right wrong = source files name right.0 fault line right.1 wrong.2
-right_is_not_rejected source link sim build tidy gates verify (Link own) files new fault line right wrong = link files own fault line right wrong.1
-right_is_not_rejected source link sim build tidy gates verify (Sim net pulses trace) files new fault line right wrong = sim files net pulses fault line right wrong.2
-right_is_not_rejected source link sim build tidy gates verify (Build own) files new fault line right wrong = build files new own fault line right wrong
-right_is_not_rejected source link sim build tidy gates verify (Demo levels) files new fault line right wrong = cc wrong
-right_is_not_rejected source link sim build tidy gates verify (Tidy net out) files new fault line right wrong = tidy files net fault line right wrong.2
-right_is_not_rejected source link sim build tidy gates verify (Gates net out) files new fault line right wrong = gates files net fault line right wrong.2
-right_is_not_rejected source link sim build tidy gates verify (Verify own moves) files new fault line right wrong = verify files own moves fault line right wrong.1
+    → ExplainedIsNotRejected → VerifiedIsNotRejected → RightIsNotRejected
+right_is_not_rejected source link sim build tidy gates explain verify (Check name) files new fault line right wrong = source files name right.0 fault line right.1 wrong.2
+right_is_not_rejected source link sim build tidy gates explain verify (Compile name object) files new fault line right wrong = source files name right.0 fault line right.1 wrong.2
+right_is_not_rejected source link sim build tidy gates explain verify (Link own) files new fault line right wrong = link files own fault line right wrong.1
+right_is_not_rejected source link sim build tidy gates explain verify (Sim net pulses trace) files new fault line right wrong = sim files net pulses fault line right wrong.2
+right_is_not_rejected source link sim build tidy gates explain verify (Build own) files new fault line right wrong = build files new own fault line right wrong
+right_is_not_rejected source link sim build tidy gates explain verify (Demo levels) files new fault line right wrong = cc wrong
+right_is_not_rejected source link sim build tidy gates explain verify (Tidy net out) files new fault line right wrong = tidy files net fault line right wrong.2
+right_is_not_rejected source link sim build tidy gates explain verify (Gates net out) files new fault line right wrong = gates files net fault line right wrong.2
+right_is_not_rejected source link sim build tidy gates explain verify (Explain own moves) files new fault line right wrong = explain files own moves fault line right wrong.1
+right_is_not_rejected source link sim build tidy gates explain verify (Verify own moves) files new fault line right wrong = verify files own moves fault line right wrong.1
 
 -- one status of two
 abbrev IsDoneOrShort : Status → Type 0

@@ -14,7 +14,7 @@ use Rattle.gos_command.specs.declared.status.Status.{Status}
 use Rattle.gos_command.specs.declared.status.Status.TheVariants as statuses
 use Rattle.gos_command.specs.declared.stop.Stop.{Stop}
 use Rattle.gos_command.specs.declared.stop.Stop.TheVariants as stops
-use Rattle.gos_tool.specs.Calls.{read_source, read_build_file, compile_calls, link_calls, sim_calls, build_calls, rewrite_calls, verify_calls, write_calls, GoesByBuild}
+use Rattle.gos_tool.specs.Calls.{read_source, read_build_file, compile_calls, link_calls, sim_calls, build_calls, rewrite_calls, explain_calls, verify_calls, write_calls, GoesByBuild}
 use Rattle.gos_tool.specs.objects.Checked.{IsSourceFault}
 use Rattle.gos_tool.specs.circuits.Linked.{RejectsLink}
 use Rattle.gos_tool.specs.netlists.Netlist.{IsNetFault}
@@ -24,8 +24,9 @@ use Rattle.gos_tool.specs.build.Headline.{Headline}
 use Rattle.gos_tool.specs.build.Paced.{HeadlineHolds}
 use Rattle.gos_tool.specs.demo.DemoFiles.{build_file, demo_files}
 use Rattle.gos_tool.specs.demo.Demo.{with_demo, with_files, names_of}
+use Rattle.gos_tool.specs.explained.Found.{RejectsExplain}
 use Rattle.gos_tool.specs.explained.Verified.{RejectsVerify}
-use Rattle.gos_tool.specs.Command.{Command, Check, Compile, Link, Sim, Build, Demo, Tidy, Gates, Verify, Means}
+use Rattle.gos_tool.specs.Command.{Command, Check, Compile, Link, Sim, Build, Demo, Tidy, Gates, Explain, Verify, Means}
 use Rattle.gos_tool.proofs.WordLemmas.{levels_in, levels_back}
 use Rattle.gos_tool.specs.Causes.{IsOneOf, StopsFor}
 use Rattle.gos_tool.specs.Run.{Tells, kinds_of, IsDone, IsRejected, IsCutShort, KeepsOthers, CallsOf, EndsDone, EndsRejected, IsUnsaid, IsUntold}
@@ -55,7 +56,7 @@ with_one_file letter file =
 
 abbrev with_two_files : ℕ → Word → Word → Command
 with_two_files letter file made =
-    if nat_eq letter 109 then Compile file made else (if nat_eq letter 100 then Tidy file made else (if nat_eq letter 114 then Verify file made else Gates file made))
+    if nat_eq letter 109 then Compile file made else (if nat_eq letter 100 then Tidy file made else (if nat_eq letter 114 then Verify file made else (if nat_eq letter 112 then Explain file made else Gates file made)))
 
 abbrev read_back : List Word → Option Command
 read_back (verb ∷ file ∷ []) = Some (with_one_file (third verb) file)
@@ -72,6 +73,7 @@ is_read_back words (Build own) means = ap read_back means.0
 is_read_back words (Demo levels) means = ap read_back means.0 ∙ ap (λ (n : ℕ). Some (Demo n)) (levels_back levels means.1.1)
 is_read_back words (Tidy net out) means = ap read_back means.0
 is_read_back words (Gates net out) means = ap read_back means.0
+is_read_back words (Explain own moves) means = ap read_back means.0
 is_read_back words (Verify own moves) means = ap read_back means.0
 
 -- words are one command at most
@@ -221,6 +223,16 @@ gates_rejected net out old new (Err (stops.Rejected rejection)) kept file why = 
 gates_rejected net out old new (Err stops.StoreFailed) kept file why = tt
 gates_rejected net out old new (Err stops.NoMemory) kept file why = tt
 
+-- and of `explain`
+pub explain_rejected : (own moves : Word) (old new : Option Files) (ended : Result Report Stop)
+    → IfErr ended (λ stop. IfStopped stop (λ fault line. new ≡ old))
+    → IfErr ended (λ stop. IfStopped stop (λ fault line. IfSome old (λ files. RejectsExplain files own moves fault line)))
+    → IfErr ended (λ stop. IfStopped stop (IsRejected (Explain own moves) old new))
+explain_rejected own moves old new (Ok report) kept why = tt
+explain_rejected own moves old new (Err (stops.Rejected rejection)) kept why = (kept, why)
+explain_rejected own moves old new (Err stops.StoreFailed) kept why = tt
+explain_rejected own moves old new (Err stops.NoMemory) kept why = tt
+
 -- and of `verify`, which leaves all files
 pub verify_rejected : (own moves : Word) (old new : Option Files) (ended : Result Report Stop) → new ≡ old
     → IfErr ended (λ stop. IfStopped stop (λ fault line. IfSome old (λ files. RejectsVerify files own moves fault line)))
@@ -246,6 +258,7 @@ short_of (Demo levels) files old new made =
     short_by_build (write_calls (names_of (demo_files levels))) (with_files (demo_files levels) files) (build_file levels).name build_calls old new made
 short_of (Tidy net out) files old new made = all_made (rewrite_calls net out) old new made
 short_of (Gates net out) files old new made = all_made (rewrite_calls net out) old new made
+short_of (Explain own moves) files old new made = short_by_build [] files own (explain_calls moves) old new made
 short_of (Verify own moves) files old new made = short_by_build [] files own (verify_calls moves) old new made
 
 -- how far a command came is told by its status, where its line may be unsaid

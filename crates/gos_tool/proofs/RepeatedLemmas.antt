@@ -8,7 +8,7 @@ use Rattle.gos_tool.specs.build.Repeated.{BuildMakesOne}
 use Rattle.gos_tool.specs.demo.DemoFiles.{build_file}
 use Rattle.gos_tool.specs.demo.Demo.{with_demo}
 use Rattle.gos_tool.specs.explained.Repeated.{VerifyMakesOne}
-use Rattle.gos_tool.specs.Command.{Check, Compile, Link, Sim, Build, Demo, Tidy, Gates, Verify}
+use Rattle.gos_tool.specs.Command.{Check, Compile, Link, Sim, Build, Demo, Tidy, Gates, Explain, Verify}
 use Rattle.gos_tool.specs.Repeated.{CommandMakesOne}
 use Rattle.gos_tool.proofs.lemmas.demo.RepeatedLemmas.{demo_agrees, demo_then_build}
 
@@ -30,5 +30,6 @@ command_makes_one one_build check compile link sim build verify (Demo levels) fi
     (demo_then_build levels files others new other made.0, made.1)
 command_makes_one one_build check compile link sim build verify (Tidy net out) files others new other report told decided agree one two = absurd decided
 command_makes_one one_build check compile link sim build verify (Gates net out) files others new other report told decided agree one two = absurd decided
+command_makes_one one_build check compile link sim build verify (Explain own moves) files others new other report told decided agree one two = absurd decided
 command_makes_one one_build check compile link sim build verify (Verify own moves) files others new other report told decided agree one two =
     verify files others own moves new other report told agree one two

@@ -81,6 +81,14 @@ explained_calls trace moves = read_explained trace ∷ read_explained moves ∷ 
 abbrev pub verify_calls : Word → Build → List StoreCall
 verify_calls moves b = source_calls b.instances.items ++ explained_calls b.trace moves
 
+-- a trace file is read, and the lines that explain it are written
+abbrev pub found_calls : Word → Word → List StoreCall
+found_calls trace moves = read_explained trace ∷ Write moves ∷ []
+
+-- what `explain` does once its build file is read
+abbrev pub explain_calls : Word → Build → List StoreCall
+explain_calls moves b = source_calls b.instances.items ++ found_calls b.trace moves
+
 -- files are written
 abbrev pub write_calls : List Word → List StoreCall
 write_calls names = map Write names

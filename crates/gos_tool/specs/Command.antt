@@ -16,6 +16,7 @@ pub data Command : Type 0 where
   Demo : (levels : ℕ) → Command
   Tidy : (net out : Word) → Command
   Gates : (net out : Word) → Command
+  Explain : (own moves : Word) → Command
   Verify : (own moves : Word) → Command
 
 -- the words as their bytes
@@ -35,6 +36,7 @@ Means words (Build own) = (words ≡ codes "build" ∷ own ∷ []) × IsFileName
 Means words (Demo levels) = (words ≡ codes "demo" ∷ decimal levels ∷ []) × IsLevelCount levels
 Means words (Tidy net out) = (words ≡ codes "tidy" ∷ net ∷ out ∷ []) × IsFileName net × IsFileName out × (out ≢ net)
 Means words (Gates net out) = (words ≡ codes "gates" ∷ net ∷ out ∷ []) × IsFileName net × IsFileName out × (out ≢ net)
+Means words (Explain own moves) = (words ≡ codes "explain" ∷ own ∷ moves ∷ []) × IsFileName own × IsFileName moves × (moves ≢ own)
 Means words (Verify own moves) = (words ≡ codes "verify" ∷ own ∷ moves ∷ []) × IsFileName own × IsFileName moves
 
 -- the words are no command
@@ -45,4 +47,4 @@ MeanNothing words = (c : Command) → Means words c → ⊥
 abbrev pub usage_line : List ℕ
 usage_line =
     codes "usage: gos check SRC | compile SRC OBJ | link BUILD | sim NET PULSES TRACE | build BUILD | demo N"
-    ++ codes " | tidy NET OUT | gates NET OUT | verify BUILD MOVES" ++ 10 ∷ []
+    ++ codes " | tidy NET OUT | gates NET OUT | explain BUILD MOVES | verify BUILD MOVES" ++ 10 ∷ []

@@ -10,8 +10,8 @@ use Rattle.gos_tool.specs.circuits.Complete.{AreRightToLink}
 use Rattle.gos_tool.specs.simulate.Complete.{AreRightToRun}
 use Rattle.gos_tool.specs.build.Complete.{AreRightToBuild}
 use Rattle.gos_tool.specs.netlists.Complete.{IsRightToTidy, IsRightToLower}
-use Rattle.gos_tool.specs.explained.Complete.{AreRightToVerify}
-use Rattle.gos_tool.specs.Command.{Command, Check, Compile, Link, Sim, Build, Demo, Tidy, Gates, Verify}
+use Rattle.gos_tool.specs.explained.Complete.{AreRightToExplain, AreRightToVerify}
+use Rattle.gos_tool.specs.Command.{Command, Check, Compile, Link, Sim, Build, Demo, Tidy, Gates, Explain, Verify}
 use Rattle.gos_tool.specs.Run.{IsRejected}
 
 -- The files, as they are when the command begins, are right for it. A demo writes its own. Of the files that are left only the
@@ -25,6 +25,7 @@ AreRight (Build own) files new = AreRightToBuild files new own
 AreRight (Demo levels) files new = Unit {0}
 AreRight (Tidy net out) files new = IsRightToTidy (bytes_at files net)
 AreRight (Gates net out) files new = IsRightToLower (bytes_at files net)
+AreRight (Explain own moves) files new = AreRightToExplain files own moves
 AreRight (Verify own moves) files new = AreRightToVerify files own moves
 
 -- a command rejects no file where they are right

@@ -1,7 +1,8 @@
--- Of the same files a command makes the same. A law of these definitions, for all commands but two.
+-- Of the same files a command makes the same. A law of these definitions, for all commands but three.
 --
 -- Read first: Command, Run, Agreement. The same files are those that the command reads: it may be done again where it was done before, or
--- among others. What `tidy` and `gates` write is free: any netlist that is tidy and alike, any gates to which the netlist is lowered.
+-- among others. What `tidy`, `gates` and `explain` write is free: any netlist that is tidy and alike, any gates to which the netlist is
+-- lowered, any lines that explain the trace.
 use Rattle.std.specs.Prelude.{◌≡◌, [], ◌∷◌, ◌++◌, Option, Some}
 use Rattle.gos_outside.specs.Files.{Files}
 use Rattle.gos_link.specs.BuildFile.{IsBuildFile}
@@ -11,7 +12,7 @@ use Rattle.gos_tool.specs.Calls.{read_source, compile_calls, sim_calls, link_cal
 use Rattle.gos_tool.specs.Agreement.{AgreeOn, AgreeOnBuild, WriteTheSame, WriteOneBuild}
 use Rattle.gos_tool.specs.demo.DemoFiles.{IsLevelCount, build_file, demo_files}
 use Rattle.gos_tool.specs.demo.Demo.{names_of}
-use Rattle.gos_tool.specs.Command.{Command, Check, Compile, Link, Sim, Build, Demo, Tidy, Gates, Verify}
+use Rattle.gos_tool.specs.Command.{Command, Check, Compile, Link, Sim, Build, Demo, Tidy, Gates, Explain, Verify}
 use Rattle.gos_tool.specs.Run.{IsDone}
 
 -- what the command writes and tells is decided by what it reads
@@ -24,10 +25,11 @@ IsDecided (Build own) = Unit {0}
 IsDecided (Demo levels) = IsLevelCount levels
 IsDecided (Tidy net out) = ⊥
 IsDecided (Gates net out) = ⊥
+IsDecided (Explain own moves) = ⊥
 IsDecided (Verify own moves) = Unit {0}
 
--- Both stores hold the same bytes in each file that the command reads. `demo` reads what it wrote itself; of `tidy` and `gates` nothing
--- is said here.
+-- Both stores hold the same bytes in each file that the command reads. `demo` reads what it wrote itself; of `tidy`, `gates` and
+-- `explain` nothing is said here.
 abbrev pub AgreeFor : Command → Files → Files → Type 0
 AgreeFor (Check source) files others = AgreeOn (read_source source ∷ []) files others
 AgreeFor (Compile source object) files others = AgreeOn (compile_calls source object) files others

@@ -1,7 +1,7 @@
 -- How the tool's commands end.
 --
 -- Read first: Command; Checked and Compiled of objects; Linked of circuits; Sim of simulate; Built of build; Demo of demo; Tidy and Gates
--- of netlists; Verified of explained; Lines of gos_command. `old` and `new` are the files of the store before and after, `written` and
+-- of netlists; Found and Verified of explained; Lines of gos_command. `old` and `new` are the files of the store before and after, `written` and
 -- `printed` the bytes of the sink.
 use Rattle.std.specs.Prelude.{◌≡◌, ◌⊎◌, ℕ, List, [], ◌∷◌, Option, None, IfSome}
 use Rattle.gos_outside.specs.Files.{Files, SameBut}
@@ -14,7 +14,7 @@ use Rattle.gos_command.specs.Lines.{report_line}
 use Rattle.gos_command.specs.Ends.{IsTold}
 use Rattle.gos_command.specs.declared.report.Report.{Report}
 use Rattle.gos_command.specs.declared.status.Fault.{Fault}
-use Rattle.gos_tool.specs.Calls.{read_source, compile_calls, link_calls, sim_calls, build_calls, rewrite_calls, verify_calls, GoesByBuild}
+use Rattle.gos_tool.specs.Calls.{read_source, compile_calls, link_calls, sim_calls, build_calls, rewrite_calls, explain_calls, verify_calls, GoesByBuild}
 use Rattle.gos_tool.specs.Causes.{Kind, OfSource, OfObject, OfBuild, OfSize, OfNetlist, OfPulses, OfMoves, IsOneOf, TellsWeight, TellsRun, TellsBoth, TellsCells, TellsGates, TellsExplained}
 use Rattle.gos_tool.specs.objects.Checked.{IsChecked, IsSourceFault}
 use Rattle.gos_tool.specs.objects.Compiled.{IsCompiled, IsCompileCall}
@@ -28,8 +28,9 @@ use Rattle.gos_tool.specs.build.Built as building
 use Rattle.gos_tool.specs.build.Built.{IsBuilt, RejectsBuild, IsBuildCall, IsBuildCutShort}
 use Rattle.gos_tool.specs.demo.Demo as showing
 use Rattle.gos_tool.specs.demo.Demo.{IsDemoDone, IsDemoCall, IsDemoCutShort, CallsOfDemo}
+use Rattle.gos_tool.specs.explained.Found.{IsExplained, RejectsExplain, IsExplainCall}
 use Rattle.gos_tool.specs.explained.Verified.{IsVerified, RejectsVerify, IsVerifyCall}
-use Rattle.gos_tool.specs.Command.{Command, Check, Compile, Link, Sim, Build, Demo, Tidy, Gates, Verify, Means}
+use Rattle.gos_tool.specs.Command.{Command, Check, Compile, Link, Sim, Build, Demo, Tidy, Gates, Explain, Verify, Means}
 
 -- what the command's line tells, where it is done
 abbrev pub Tells : Command → Report → Type 0
@@ -41,6 +42,7 @@ Tells (Build own) report = TellsBoth report
 Tells (Demo levels) report = TellsBoth report
 Tells (Tidy net out) report = TellsCells report
 Tells (Gates net out) report = TellsGates report
+Tells (Explain own moves) report = TellsExplained report
 Tells (Verify own moves) report = TellsExplained report
 
 -- The kinds of causes for which it may reject a file. `build` and `demo` read no object and no netlist, and what they compile is never
@@ -54,6 +56,7 @@ kinds_of (Build own) = OfSource ∷ OfBuild ∷ OfPulses ∷ []
 kinds_of (Demo levels) = OfSource ∷ OfBuild ∷ OfPulses ∷ []
 kinds_of (Tidy net out) = OfNetlist ∷ []
 kinds_of (Gates net out) = OfNetlist ∷ []
+kinds_of (Explain own moves) = OfSource ∷ OfBuild ∷ OfMoves ∷ []
 kinds_of (Verify own moves) = OfSource ∷ OfBuild ∷ OfMoves ∷ []
 
 -- all that the command is to do is done, with this report
@@ -66,6 +69,7 @@ IsDone (Build own) old new report = IfSome old (λ files. IsBuilt files new own 
 IsDone (Demo levels) old new report = IfSome old (λ files. IsDemoDone files new levels report)
 IsDone (Tidy net out) old new report = IsTidyDone old new net out report
 IsDone (Gates net out) old new report = AreGatesDone old new net out report
+IsDone (Explain own moves) old new report = IfSome old (λ files. IsExplained files new own moves report)
 IsDone (Verify own moves) old new report = (new ≡ old) × IfSome old (λ files. IsVerified files own moves report)
 
 -- The command rejects a file for this fault, with this line: the first that it finds. `demo` rejects none where the store tells its
@@ -83,6 +87,7 @@ IsRejected (Tidy net out) old new fault line =
     (new ≡ old) × (fault.file ≡ net) × IfSome old (λ files. IsNetFault files net fault line)
 IsRejected (Gates net out) old new fault line =
     (new ≡ old) × (fault.file ≡ net) × IfSome old (λ files. IsGatesFault files net fault line)
+IsRejected (Explain own moves) old new fault line = (new ≡ old) × IfSome old (λ files. RejectsExplain files own moves fault line)
 IsRejected (Verify own moves) old new fault line = (new ≡ old) × IfSome old (λ files. RejectsVerify files own moves fault line)
 
 -- The command makes this call of the store, after all that is judged before it was right, and this is what it wrote before.
@@ -95,6 +100,7 @@ IsCall (Build own) old new fault = IfSome old (λ files. IsBuildCall files new o
 IsCall (Demo levels) old new fault = IfSome old (λ files. IsDemoCall files new levels fault)
 IsCall (Tidy net out) old new fault = IsTidyCall old new net out fault
 IsCall (Gates net out) old new fault = IsGatesCall old new net out fault
+IsCall (Explain own moves) old new fault = IfSome old (λ files. IsExplainCall files new own moves fault)
 IsCall (Verify own moves) old new fault = (new ≡ old) × IfSome old (λ files. IsVerifyCall files own moves fault)
 
 -- What the command leaves where memory runs out before its end: the first of its files, each as where all is done.
@@ -107,6 +113,7 @@ IsCutShort (Build own) old new = IfSome old (λ files. IsBuildCutShort files new
 IsCutShort (Demo levels) old new = IfSome old (λ files. IsDemoCutShort files new levels)
 IsCutShort (Tidy net out) old new = new ≡ old
 IsCutShort (Gates net out) old new = new ≡ old
+IsCutShort (Explain own moves) old new = new ≡ old
 IsCutShort (Verify own moves) old new = new ≡ old
 
 -- all files but those that the command writes are as they were
@@ -119,6 +126,7 @@ KeepsOthers (Build own) old new = building.KeepsUnnamed own old new
 KeepsOthers (Demo levels) old new = OthersSame (showing.written_by levels) old new
 KeepsOthers (Tidy net out) old new = SameBut out old new
 KeepsOthers (Gates net out) old new = SameBut out old new
+KeepsOthers (Explain own moves) old new = SameBut moves old new
 KeepsOthers (Verify own moves) old new = new ≡ old
 
 -- The calls of the store that the command makes, up to where it ends.
@@ -131,6 +139,7 @@ CallsOf (Build own) ending files old new = GoesByBuild ending [] files own build
 CallsOf (Demo levels) ending files old new = CallsOfDemo ending files levels old new
 CallsOf (Tidy net out) ending files old new = AreMade ending (rewrite_calls net out) old new
 CallsOf (Gates net out) ending files old new = AreMade ending (rewrite_calls net out) old new
+CallsOf (Explain own moves) ending files old new = GoesByBuild ending [] files own (explain_calls moves) old new
 CallsOf (Verify own moves) ending files old new = GoesByBuild ending [] files own (verify_calls moves) old new
 
 -- the words are a command, which is done, and the line that tells so was printed

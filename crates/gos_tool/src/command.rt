@@ -11,7 +11,7 @@ ghost use Rattle.gos_tool.specs.Run.{IsDone, IsRejected, IsCall, IsCutShort, Kee
 use crate::build::build;
 use crate::circuits::link_build;
 use crate::demo::{demo, levels_of};
-use crate::explained::verify_moves;
+use crate::explained::{explain_moves, verify_moves};
 use crate::netlists::{gates_of, tidy_net};
 use crate::objects::{check_source, compile_source};
 use crate::simulate::sim;
@@ -58,6 +58,11 @@ pub enum Command<'a> {
     Gates {
         net: &'a [u8],
         out: &'a [u8],
+    },
+    /// `explain BUILD MOVES`.
+    Explain {
+        own: &'a [u8],
+        moves: &'a [u8],
     },
     /// `verify BUILD MOVES`.
     Verify {
@@ -123,7 +128,7 @@ fn verify_of<'a>(own: &'a [u8], moves: &'a [u8]) -> Option<Command<'a>>
     Some(Command::Verify { own, moves })
 }
 
-// A command that reads one file and writes another.
+// A command that reads one file, or the files of a build file, and writes another.
 fn two_files_of<'a>(verb: &[u8], read: &'a [u8], written: &'a [u8]) -> Option<Command<'a>>
     requires { verb.now ≢ codes "verify" }
     ensures { MatchOption result (MeanNothing (verb.now ∷ read.now ∷ written.now ∷ [])) (λ command.
@@ -148,6 +153,12 @@ fn two_files_of<'a>(verb: &[u8], read: &'a [u8], written: &'a [u8]) -> Option<Co
         return Some(Command::Gates {
             net: read,
             out: written,
+        });
+    }
+    if verb == b"explain".as_slice() {
+        return Some(Command::Explain {
+            own: read,
+            moves: written,
         });
     }
     None
@@ -218,6 +229,7 @@ pub fn run_command<S: Store>(
         Command::Demo { levels } => demo(alloc, levels, store),
         Command::Tidy { net, out } => tidy_net(alloc, net, out, store),
         Command::Gates { net, out } => gates_of(alloc, net, out, store),
+        Command::Explain { own, moves } => explain_moves(alloc, own, moves, store),
         Command::Verify { own, moves } => verify_moves(alloc, own, moves, store),
     }
 }

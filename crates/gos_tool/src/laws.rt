@@ -25,8 +25,8 @@ pub fn right_commands()
     right_moves();
 }
 
-/// Where a command but `tidy` or `gates` is done twice, and the files that it reads are the same, it writes the same texts into the
-/// same files, and tells the same.
+/// Where a command but `tidy`, `gates` or `explain` is done twice, and the files that it reads are the same, it writes the same texts into
+/// the same files, and tells the same.
 pub fn same_files()
     ensures { CommandMakesOne }
 {

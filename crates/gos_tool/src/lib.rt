@@ -3,7 +3,7 @@
 // `run` is the top call. It knows the outside only as a store of files and a sink of bytes. What it promises is said in
 // specs/: Command (the words), Run (how each command ends), Complete (which files are right for it). Each command has a
 // folder: `check` and `compile` objects, `link` circuits, `sim` simulate, `build` build, `demo` demo, `tidy` and `gates` netlists,
-// `verify` explained.
+// `explain` and `verify` explained.
 #![tactic(auto)]
 
 ghost use Rattle.std.specs.Prelude.{◌≡◌, ◌≢◌, ◌⊎◌, ℕ, Some, IfSome};
@@ -47,8 +47,9 @@ use std::alloc::Global;
 /// pulse file, runs the netlist and writes the trace. `build BUILD` reads the build file, compiles the source of each instance
 /// as `compile` does, links their plans and writes the circuit as `link` does, and runs it as `sim` does. `demo N` writes the
 /// files of a demo of N levels, and then does what `build demo.txt` does. `tidy NET OUT` reads a netlist and writes a smaller one that
-/// does the same, and `gates NET OUT` writes it as two-input gates and latches. `verify BUILD MOVES` reads the build file and the
-/// source of each instance, the trace file and a list of moves, and makes these again by the linked sources: that they explain the trace.
+/// does the same, and `gates NET OUT` writes it as two-input gates and latches. `explain BUILD MOVES` reads the build file,
+/// the source of each instance and the trace file, and writes a list of moves of the linked sources that explains the trace. `verify BUILD
+/// MOVES` reads the same and a list of moves, and makes these again by the linked sources: that they explain the trace.
 /// Each status but `NoMemory` has its cause; want of memory may end a command anywhere.
 pub fn run<S: Store, O: Sink>(alloc: Global, words: &[String], store: &mut S, out: &mut O) -> Status
     // Other words are answered with the usage line, and no file is touched.
@@ -122,7 +123,7 @@ pub fn run<S: Store, O: Sink>(alloc: Global, words: &[String], store: &mut S, ou
         }
         None => say(
             alloc,
-            b"usage: gos check SRC | compile SRC OBJ | link BUILD | sim NET PULSES TRACE | build BUILD | demo N | tidy NET OUT | gates NET OUT | verify BUILD MOVES\n",
+            b"usage: gos check SRC | compile SRC OBJ | link BUILD | sim NET PULSES TRACE | build BUILD | demo N | tidy NET OUT | gates NET OUT | explain BUILD MOVES | verify BUILD MOVES\n",
             Status::Usage,
             out,
         ),

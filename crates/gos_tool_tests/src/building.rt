@@ -97,7 +97,7 @@ fn sequence_is_built_and_traced(rt: HostRuntime) -> Result<(), Fail> {
 
 // Sources and pulses, and of each build the line and the pulses in their order. A local variable is 0 at each entry; a
 // branch runs beside one that never ends, and beside one that waits.
-const GROUND: [(&str, &str, &str, &str); 7] = [
+const GROUND: [(&str, &str, &str, &str); 8] = [
     (
         "export skip : com",
         "cycles 1000\nnext 0 main.run\n",
@@ -121,6 +121,12 @@ const GROUND: [(&str, &str, &str, &str); 7] = [
         "cycles 1000\nnext 0 main.ask\n",
         "ok weight 15 cycles 1000 pulses 2 unused 0\n",
         "main.ask\nmain.ans 0\ncycles 1000\n",
+    ),
+    (
+        "export 18446744073709551615:64 + 2:64 : exp 64",
+        "cycles 1000\nnext 0 main.ask\n",
+        "ok weight 15 cycles 1000 pulses 2 unused 0\n",
+        "main.ask\nmain.ans 1\ncycles 1000\n",
     ),
     (
         "export while 1:1 do skip : com",
@@ -317,7 +323,7 @@ fn build_file_is_told_by_its_line(rt: HostRuntime) -> Result<(), Fail> {
 fn no_words_are_answered_with_the_usage(rt: HostRuntime) -> Result<(), Fail> {
     let left = ran(rt.alloc(), &[], &[])?;
     let usage =
-        b"usage: gos check SRC | compile SRC OBJ | link BUILD | sim NET PULSES TRACE | build BUILD | demo N | tidy NET OUT | gates NET OUT | verify BUILD MOVES\n";
+        b"usage: gos check SRC | compile SRC OBJ | link BUILD | sim NET PULSES TRACE | build BUILD | demo N | tidy NET OUT | gates NET OUT | explain BUILD MOVES | verify BUILD MOVES\n";
     assert!(rt; left.ended(1, usage));
     Ok(())
 }

@@ -1,4 +1,4 @@
-// Worked rows of the command `verify`: build files, sources, traces and moves, and what is printed.
+// Worked rows of the commands `explain` and `verify`: build files, sources, traces and moves, and what is printed.
 use crate::running::{Left, ran};
 use crate::texts::{ONE, TWO};
 use std::alloc::{AllocError, Global};
@@ -125,6 +125,37 @@ fn first_fault_is_told(rt: HostRuntime) -> Result<(), Fail> {
     assert!(rt; same.ended(2, b"b.txt: M1 at 3\n"));
     let none = ran(rt.alloc(), &["verify", "b.txt", "m.txt"], &[])?;
     assert!(rt; none.ended(2, b"b.txt: B1 line 1\n"));
+    Ok(())
+}
+
+// Files of a build, the file for the moves, and the line that `explain` tells, with its status. The moves that it finds for `skip` are
+// the only ones, and it refuses to write over the netlist of the build, also where there is no trace.
+const FOUND: [(&str, &str, &str, u8, &str); 4] = [
+    (SKIP, RUN, "m.txt", 0, "ok lines 2 labels 2\n"),
+    (
+        SKIP,
+        "0 main.done\ncycles 1000\n",
+        "m.txt",
+        2,
+        "out.trc: M5 label 0\n",
+    ),
+    (SKIP, "", "m.txt", 2, "out.trc: M1 at 0\n"),
+    (SKIP, "", "out.net", 2, "b.txt: M7\n"),
+];
+
+#[test]
+fn moves_are_found(rt: HostRuntime) -> Result<(), Fail> {
+    for (source, trace, moves, status, line) in FOUND.iter() {
+        let files: [(&[u8], &[u8]); 3] = [
+            (b"b.txt", ONE),
+            (b"main.gos", source.as_bytes()),
+            (b"out.trc", trace.as_bytes()),
+        ];
+        let left = ran(rt.alloc(), &["explain", "b.txt", moves], &files)?;
+        assert!(rt; left.ended(*status, line.as_bytes()));
+        assert!(rt; *status != 0 || left.holds(b"m.txt", MOVES.as_bytes()));
+        assert!(rt; *status == 0 || !left.has(moves.as_bytes()));
+    }
     Ok(())
 }
 

@@ -13,7 +13,7 @@ struct Command {
     calls: &'static [(Call, &'static [u8])],
 }
 
-const COMMANDS: [Command; 7] = [
+const COMMANDS: [Command; 8] = [
     Command {
         words: &["build", "b.txt"],
         files: &[
@@ -80,6 +80,20 @@ const COMMANDS: [Command; 7] = [
             b"gosnet 1\ncells 2\ninput 1\nreg 1 0\nports 1\ngive main com 0 1\nend\n",
         )],
         calls: &[(Call::Read, b"a.net"), (Call::Write, b"b.net")],
+    },
+    Command {
+        words: &["explain", "b.txt", "m.txt"],
+        files: &[
+            (b"b.txt", ONE),
+            (b"main.gos", b"export skip : com"),
+            (b"out.trc", b"0 main.run\n1 main.done\ncycles 2\n"),
+        ],
+        calls: &[
+            (Call::Read, b"b.txt"),
+            (Call::Read, b"main.gos"),
+            (Call::Read, b"out.trc"),
+            (Call::Write, b"m.txt"),
+        ],
     },
     Command {
         words: &["verify", "b.txt", "m.txt"],

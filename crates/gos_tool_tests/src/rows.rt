@@ -76,7 +76,7 @@ fn sources_have_these_weights(rt: HostRuntime) -> Result<(), Fail> {
 }
 
 // Sources that are rejected, and the line that each is told.
-const REJECTED: [(&str, &str); 9] = [
+const REJECTED: [(&str, &str); 10] = [
     (
         "import c : com export c || c : com",
         "main.gos: C5 c at 22..23 and 27..28\n",
@@ -88,6 +88,10 @@ const REJECTED: [(&str, &str); 9] = [
     (
         "export 32:5 : exp 5",
         "main.gos: C6 at 7..11 width 5 value 32\n",
+    ),
+    (
+        "export 1:65 : exp 1",
+        "main.gos: C6 at 7..11 width 65 value 0\n",
     ),
     (
         "export skip : exp 5",
@@ -195,7 +199,7 @@ fn netlists_are_run(rt: HostRuntime) -> Result<(), Fail> {
 }
 
 // Netlists that are rejected, and the line that each is told.
-const NETLISTS: [(&str, &str); 12] = [
+const NETLISTS: [(&str, &str); 13] = [
     (
         "gosnet 1\ncells 4\ninput 1\nor 1 0 2\nand 1 1 0\nreg 1 1\nports 1\ngive main com 0 3\nend\n",
         "a.net: K1 cycle 1 2\n",
@@ -211,6 +215,10 @@ const NETLISTS: [(&str, &str); 12] = [
     (
         "gosnet 1\ncells 4\ninput 1\nconst 1 2\nreg 1 1\nreg 1 1\nports 1\ngive main com 0 3\nend\n",
         "a.net: N1 at 33\n",
+    ),
+    (
+        "gosnet 1\ncells 4\ninput 65\nor 1 0 2\nreg 1 1\nreg 1 1\nports 1\ngive main com 0 3\nend\n",
+        "a.net: N1 at 24\n",
     ),
     (
         "gosnet 1\ncells 4\ninput 1\nor 1 0 4\nreg 1 1\nreg 1 1\nports 1\ngive main com 0 3\nend\n",
@@ -314,17 +322,16 @@ fn words_that_are_no_command(rt: HostRuntime) -> Result<(), Fail> {
     Ok(())
 }
 
-// The object of `new a[2] : 8 in (a 1:1 := 7:8 ; !(a 1:1))`: both accesses share the array.
-const ARRAY: &[u8] =
-    b"gosobj 2\nweight 80\nimports 0\nresult exp 8\nparts 8\narray 8 2 exp 8\nshare fun exp 1 var 8\nseqexp 8\nassign 8\nlit 8 7\nlit 1 1\nderef 8\nlit 1 1\njoints 12\nr.0 p0.4\np0.0 p2.2\np0.1 p1.0\np1.1 p0.2\np1.2 p0.3\np2.0 p3.2\np2.1 p6.1\np3.0 p4.0\np3.1 p1.5\np1.3 p5.0\np6.0 p1.7\np1.6 p7.0\nend\n";
-
-// An object with an array is linked, and its netlist answers what was written.
+// A source with an array, whose two accesses share it, is compiled and linked, and its netlist answers what was written.
 #[test]
-fn an_array_of_an_object_is_linked_and_run(rt: HostRuntime) -> Result<(), Fail> {
+fn an_array_is_compiled_linked_and_run(rt: HostRuntime) -> Result<(), Fail> {
     let alloc = rt.alloc();
-    let files: [(&[u8], &[u8]); 2] = [(b"b.txt", ONE), (b"main.obj", ARRAY)];
+    let source = b"export new a[2] : 8 in (a 1:1 := 7:8 ; !(a 1:1)) : exp 8";
+    let object = compiled(alloc, source)?;
+    let read = object.file(b"main.obj").unwrap_or(b"");
+    let files: [(&[u8], &[u8]); 2] = [(b"b.txt", ONE), (b"main.obj", read)];
     let linked = ran(alloc, &["link", "b.txt"], &files)?;
-    assert!(rt; linked.ended(0, b"ok weight 80\n"));
+    assert!(rt; linked.ended(0, b"ok weight 63\n"));
     let net = linked.file(b"out.net").unwrap_or(b"");
     let left = simulated(alloc, net, b"cycles 100\nnext 0 main.ask\n")?;
     assert!(rt; left.is_traced(alloc, b"main.ask\nmain.ans 7\ncycles 100\n")?);

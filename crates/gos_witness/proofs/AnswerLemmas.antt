@@ -186,8 +186,14 @@ one_fault p labels lines (faults.Nodes n) (faults.Labels k) h j =
     absurd (stop_whole p labels lines h.before h.line h.after h.stand j.stand (stop_large p labels lines n h) j.lead j.whole)
 one_fault p labels lines (faults.Nodes n) (faults.Nodes k) h j = ap faults.Nodes (large_once p labels lines n k h j)
 one_fault p labels lines (faults.Form n) g h j = absurd h
+one_fault p labels lines (faults.NotTrace n) g h j = absurd h
+one_fault p labels lines (faults.Spent n) g h j = absurd h
+one_fault p labels lines faults.Taken g h j = absurd h
 one_fault p labels lines faults.NoMemory g h j = absurd h
 one_fault p labels lines f (faults.Form n) h j = absurd j
+one_fault p labels lines f (faults.NotTrace n) h j = absurd j
+one_fault p labels lines f (faults.Spent n) h j = absurd j
+one_fault p labels lines f faults.Taken h j = absurd j
 one_fault p labels lines f faults.NoMemory h j = absurd j
 
 no_fault : (p : Program) (labels : List Shown) (lines : List Line) → Explains p labels lines → (f : ExplainFault) → IsFaultOf p labels lines f → ⊥
@@ -198,6 +204,9 @@ no_fault p labels lines e (faults.Nodes n) h =
 no_fault p labels lines e (faults.Labels n) h =
     h.some (ap (λ (x : Stand). x.left) (lead_one p lines (start labels) h.stand (record { config = e.config; left = [] }) h.lead e.lead))
 no_fault p labels lines e (faults.Form n) h = h
+no_fault p labels lines e (faults.NotTrace n) h = h
+no_fault p labels lines e (faults.Spent n) h = h
+no_fault p labels lines e faults.Taken h = h
 no_fault p labels lines e faults.NoMemory h = h
 
 pub always_one_answer : AlwaysOneAnswer

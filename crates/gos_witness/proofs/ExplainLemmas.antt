@@ -15,7 +15,7 @@ use Rattle.gos_swaps.proofs.doings.HeadLemmas.{head_of}
 
 -- what a path leads to is reached, also by less
 mutual
-  reached_more : (R S : Rel) → ((a b : Term) → R a b → S a b) → (path : List ℕ) (m t : Term) → ReachedAt path R m t → Reached S m t
+  pub reached_more : (R S : Rel) → ((a b : Term) → R a b → S a b) → (path : List ℕ) (m t : Term) → ReachedAt path R m t → Reached S m t
   reached_more R S f [] m t h = inl (f m t h)
   reached_more R S f (zero ∷ path) (Seq m n) t (m', e, h) = inr ((m', e, reached_more R S f path m m' h))
   reached_more R S f (zero ∷ path) (Par m n) t (m', e, h) = inr (inl (m', e, reached_more R S f path m m' h))
@@ -37,12 +37,12 @@ mutual
   index_more R S f path m t h = absurd h
 
 -- one unfolding more
-unfold_more : (n : ℕ) (m u t : Term) → Unfoldings n m u → Unfolds u t → Unfoldings (suc n) m t
+pub unfold_more : (n : ℕ) (m u t : Term) → Unfoldings n m u → Unfolds u t → Unfoldings (suc n) m t
 unfold_more zero m u t e h = (t, subst (λ x. Unfolds x t) (sym e) h, refl)
 unfold_more (suc n) m u t (v, first, rest) h = (v, first, unfold_more n v u t rest h)
 
 -- from b some unfoldings have led to c, and no act yet
-abbrev Held' : ℕ → Config → Config → Type 0
+abbrev pub Held' : ℕ → Config → Config → Type 0
 Held' n Idle Idle = n ≡ 0
 Held' n (Running m s) (Running u r) = Unfoldings n m u × (s ≡ r)
 Held' n b c = ⊥

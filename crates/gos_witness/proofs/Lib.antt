@@ -34,6 +34,10 @@ pub mod AnswerLemmas
 pub mod SmallLineLemmas
 pub mod SmallStepLemmas
 pub mod ExplainLemmas
+pub mod LeadLemmas
 pub mod VerifyLemmas
 pub mod StageLemmas
 pub mod PassLemmas
+pub mod FindLemmas
+pub mod FoundLemmas
+pub mod SmallFindLemmas

@@ -103,6 +103,9 @@ no_path verb old mid (faults.Form place) other passed misses =
 no_path verb old mid faults.NoMemory other passed any = tt
 no_path verb old mid (faults.Wrong n) other passed none = absurd none
 no_path verb old mid (faults.Labels n) other passed none = absurd none
+no_path verb old mid (faults.NotTrace n) other passed none = absurd none
+no_path verb old mid (faults.Spent n) other passed none = absurd none
+no_path verb old mid faults.Taken other passed none = absurd none
 no_path verb old mid (faults.Nodes n) other passed none = absurd none
 
 -- a line with a path is passed

@@ -164,6 +164,9 @@ no_line old mid count before left done (faults.Form place) fewer far misses =
 no_line old mid count before left done faults.NoMemory fewer far any = tt
 no_line old mid count before left done (faults.Wrong n) fewer far none = absurd none
 no_line old mid count before left done (faults.Labels n) fewer far none = absurd none
+no_line old mid count before left done (faults.NotTrace n) fewer far none = absurd none
+no_line old mid count before left done (faults.Spent n) fewer far none = absurd none
+no_line old mid count before left done faults.Taken fewer far none = absurd none
 no_line old mid count before left done (faults.Nodes n) fewer far none = absurd none
 
 -- all lines are passed
@@ -196,6 +199,9 @@ moves_fault text old mid count (faults.Form place) same none far breaks =
 moves_fault text old mid count faults.NoMemory same none far any = tt
 moves_fault text old mid count (faults.Wrong n) same none far absent = absent
 moves_fault text old mid count (faults.Labels n) same none far absent = absent
+moves_fault text old mid count (faults.NotTrace n) same none far absent = absent
+moves_fault text old mid count (faults.Spent n) same none far absent = absent
+moves_fault text old mid count faults.Taken same none far absent = absent
 moves_fault text old mid count (faults.Nodes n) same none far absent = absent
 
 pub moves_over : (text : List ℕ) (old new : TextAt) (lines : List Line) (place : ℕ) → old.text ≡ text → old.at ≡ 0 → Leads (List Line) WholeLeft (End (List Line) lines) old new → (new.at ≡ length new.text → ⊥) → place ≡ new.at

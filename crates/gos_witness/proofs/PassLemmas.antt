@@ -133,7 +133,7 @@ labels_length : (ports : List ProgramPort) (labels : List Label) → length (lab
 labels_length ports [] = refl
 labels_length ports (o ∷ labels) = ap suc (labels_length ports labels)
 
-rest_length : (ports : List ProgramPort) (labels : List Label) (n : ℕ) → n ≤ length labels → n + length (labels_of ports (drop n labels)) ≡ length labels
+pub rest_length : (ports : List ProgramPort) (labels : List Label) (n : ℕ) → n ≤ length labels → n + length (labels_of ports (drop n labels)) ≡ length labels
 rest_length ports labels zero h = let all = labels_length ports labels in omega (arith, all)
 rest_length ports [] (suc n) h = absurd (omega (arith, h))
 rest_length ports (o ∷ labels) (suc n) h = let rest = rest_length ports labels n (omega (arith, h)) in omega (arith, rest)
@@ -151,7 +151,7 @@ passed_left p labels lines g passed some =
       used = omega (arith, rest, all);
     }
 
-none_left : (ports : List ProgramPort) (labels : List Label) (n : ℕ) → length labels ≤ n → labels_of ports (drop n labels) ≡ []
+pub none_left : (ports : List ProgramPort) (labels : List Label) (n : ℕ) → length labels ≤ n → labels_of ports (drop n labels) ≡ []
 none_left ports [] zero h = refl
 none_left ports [] (suc n) h = refl
 none_left ports (o ∷ labels) zero h = absurd (omega (arith, h))

@@ -22,6 +22,9 @@ pub has_no_fault : (IsText : List ℕ → Type 0) (text : List ℕ) → HasNoFau
 has_no_fault IsText text (faults.Form at) is fault = absurd (fault.1 is)
 has_no_fault IsText text (faults.Wrong n) is none = absurd none
 has_no_fault IsText text (faults.Labels n) is none = absurd none
+has_no_fault IsText text (faults.NotTrace n) is none = absurd none
+has_no_fault IsText text (faults.Spent n) is none = absurd none
+has_no_fault IsText text faults.Taken is none = absurd none
 has_no_fault IsText text (faults.Nodes n) is none = absurd none
 has_no_fault IsText text faults.NoMemory is fault = refl
 
@@ -29,6 +32,9 @@ form_at : (IsText : List ℕ → Type 0) (text : List ℕ) (fault : ExplainFault
 form_at IsText text (faults.Form at) is other = (at, refl, is)
 form_at IsText text (faults.Wrong n) none other = absurd none
 form_at IsText text (faults.Labels n) none other = absurd none
+form_at IsText text (faults.NotTrace n) none other = absurd none
+form_at IsText text (faults.Spent n) none other = absurd none
+form_at IsText text faults.Taken none other = absurd none
 form_at IsText text (faults.Nodes n) none other = absurd none
 form_at IsText text faults.NoMemory is other = absurd (other refl)
 

@@ -406,6 +406,9 @@ trace_break ports text old (faults.Form place) same none breaks =
 trace_break ports text old faults.NoMemory same none any = tt
 trace_break ports text old (faults.Wrong n) same none absent = absent
 trace_break ports text old (faults.Labels n) same none absent = absent
+trace_break ports text old (faults.NotTrace n) same none absent = absent
+trace_break ports text old (faults.Spent n) same none absent = absent
+trace_break ports text old faults.Taken same none absent = absent
 trace_break ports text old (faults.Nodes n) same none absent = absent
 
 pub trace_over : (ports : List ProgramPort) (text : List ℕ) (old new : TextAt) (labels : List Label) (place : ℕ) → old.text ≡ text → old.at ≡ 0 → Leads (List Label) (TraceLeft ports 0 []) (End (List Label) labels) old new

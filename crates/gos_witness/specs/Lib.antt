@@ -13,6 +13,8 @@ pub mod Lines
 pub mod Verify
 pub mod SmallLines
 pub mod SmallSteps
+pub mod Find
+pub mod SmallFinds
 pub mod Substituted
 pub mod SmallLinks
 pub mod inner

@@ -14,3 +14,4 @@ pub mod Rows
 pub mod Changes
 pub mod Whole
 pub mod Stages
+pub mod Finds

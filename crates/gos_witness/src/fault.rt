@@ -18,6 +18,15 @@ pub enum ExplainFault {
     /// A term has so many nodes: more than 1,000,000.
     #[error("a term has {nodes} nodes")]
     Nodes { nodes: u64 },
+    /// No list of moves has the labels up to number `label`, and one has those before it.
+    #[error("label {label} can't come")]
+    NotTrace { label: u64 },
+    /// Label number `label` takes as many computation steps as its budget, or more.
+    #[error("label {label} takes too many steps")]
+    Spent { label: u64 },
+    /// The file for the moves is one that the build file names.
+    #[error("the file for the moves is taken")]
+    Taken,
     /// There was no memory left.
     #[error("out of memory")]
     NoMemory,

@@ -1,4 +1,6 @@
 // Laws of the definitions. Each is the contract of a function that does nothing.
+ghost use Rattle.gos_witness.specs.Find.{ExplainedIsNotRefused, OneIsNotTrace};
+ghost use Rattle.gos_witness.specs.SmallFinds.{DoneIsNotFirst, FirstIsRight, RunIsNotSecond, SkipIsNotLarge, SkipIsNotRefused, SkipIsNotSpent, SkipTakesNoSteps};
 ghost use Rattle.gos_witness.specs.SmallLines.{OneIsLeft, SharedCountsTwice, SharedIsSeen, SkipIsExplained, SkipMakesNoStep};
 ghost use Rattle.gos_witness.specs.SmallSteps.{FirstIsRead, FirstIsWritten, IndexIsReached, IndexIsRead, IndexIsWritten, LeastIsTaken};
 ghost use Rattle.gos_witness.specs.Verify.{AlwaysOneAnswer, ExplainedIsTrace};
@@ -33,4 +35,22 @@ pub fn small_steps()
     ensures index_reached { IndexIsReached }
     ensures index_read { IndexIsRead }
     ensures index_written { IndexIsWritten }
+{}
+
+/// Of any labels one at most is the first that can't come behind those before it; and where lines explain the labels there is none.
+pub fn one_is_not_trace()
+    ensures one { OneIsNotTrace }
+    ensures explained { ExplainedIsNotRefused }
+{}
+
+/// Small lists of labels of `export skip : com`. An answer is no first label, and a second request is none behind the first; but the
+/// first request is right. No label of the trace is refused: none takes a step, and no term is too large.
+pub fn small_finds()
+    ensures first { DoneIsNotFirst }
+    ensures second { RunIsNotSecond }
+    ensures right { FirstIsRight }
+    ensures refused { SkipIsNotRefused }
+    ensures steps { SkipTakesNoSteps }
+    ensures spent { SkipIsNotSpent }
+    ensures large { SkipIsNotLarge }
 {}

@@ -18,13 +18,16 @@ mod changing;
 mod compacting;
 mod entry;
 mod fault;
+mod finding;
 mod item;
 mod labels;
 mod laws;
 mod link_laws;
 mod linking;
+mod masks;
 mod move_line;
 mod moves;
+mod needed;
 mod nodes;
 mod opening;
 mod path_text;
@@ -46,8 +49,12 @@ mod walking;
 
 pub use binding::Bound;
 pub use fault::ExplainFault;
+pub use finding::find;
 pub use labels::Label;
-pub use laws::{explained_is_trace, one_answer_of_lines, small_lines, small_steps};
+pub use laws::{
+    explained_is_trace, one_answer_of_lines, one_is_not_trace, small_finds, small_lines,
+    small_steps,
+};
 pub use link_laws::{small_links, typed_is_narrow};
 pub use linking::substitute;
 pub use moves::{Line, Path};

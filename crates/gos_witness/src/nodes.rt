@@ -218,6 +218,13 @@ impl NodeList {
         self.nodes[number].form
     }
 
+    /// The names.
+    pub fn names(&self) -> &[Name]
+        ensures { result.now ≡ self.now.tables.names }
+    {
+        self.names.as_slice()
+    }
+
     /// A name by its number.
     pub fn name(&self, number: u32) -> &Name
         requires { number < length self.now.tables.names }

@@ -98,8 +98,8 @@ fn names_of(alloc: Global, ports: &[ProgramPort]) -> Result<Vec<PortName>, NoMem
     Ok(names)
 }
 
-// The numbers of ports by their names.
-fn numbers_of(alloc: Global, ports: &[ProgramPort]) -> Result<NameTable, NoMemory> {
+/// The numbers of ports by their names.
+pub fn numbers_of(alloc: Global, ports: &[ProgramPort]) -> Result<NameTable, NoMemory> {
     let mut numbers = NameTable::new(alloc);
     for (number, port) in ports.iter().enumerate() {
         let name = port.name.bytes().to_vec(alloc)?;

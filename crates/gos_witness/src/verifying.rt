@@ -26,13 +26,13 @@ pub const LARGEST_TERM: u64 = 1_000_000;
 
 // Where the lines so far lead: nowhere yet, or to a running term with its store; and how many labels they have.
 #[derive(Drop)]
-struct Stage {
-    list: NodeList,
-    running: Option<u32>,
-    store: Vec<Entry>,
-    matched: usize,
+pub struct Stage {
+    pub list: NodeList,
+    pub running: Option<u32>,
+    pub store: Vec<Entry>,
+    pub matched: usize,
     // With so many nodes the list is compacted.
-    limit: usize,
+    pub limit: usize,
 }
 
 /// Whether the lines explain the labels: they can all be made, the last is no unfolding, they have just these labels, and no term on
@@ -110,7 +110,7 @@ fn value_of(list: &NodeList, node: u32) -> Option<u64>
 
 impl Stage {
     // How many nodes the running term has, if there is one. No memory holds those of which the count ends.
-    fn size(&self) -> Result<u64, NoMemory>
+    pub fn size(&self) -> Result<u64, NoMemory>
         requires { IfSome self.now.running (λ i. i < length self.now.list.nodes) }
         ensures { IfOk result (λ nodes. nodes ≡ size_of (config_of self.now.list self.now.running self.now.store.items)) }
     {
@@ -161,7 +161,7 @@ impl Stage {
     }
 
     // Drops the nodes that neither the program nor the running term has, once the list has grown to its limit.
-    fn compact(&mut self, alloc: Global, program: &Program) -> Result<(), NoMemory>
+    pub fn compact(&mut self, alloc: Global, program: &Program) -> Result<(), NoMemory>
         requires keeps { Keeps program.now.list self.old.list }
         requires running { IfSome self.old.running (λ i. i < length self.old.list.nodes) }
         ensures keeps { IfOk result (λ _. Keeps program.now.list self.new.list) }
@@ -188,7 +188,7 @@ impl Stage {
     }
 
     // Makes a line, if it can be made.
-    fn make(
+    pub fn make(
         &mut self,
         alloc: Global,
         program: &Program,

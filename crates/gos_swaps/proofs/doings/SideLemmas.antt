@@ -20,7 +20,7 @@ use Rattle.gos_swaps.proofs.doings.HeadLemmas.{lower_of}
 use Rattle.gos_swaps.proofs.doings.PlaceLemmas.{HeadHere, Here, Found, found, does_here, does_through}
 
 -- the contexts of a term, one level deep
-abbrev Inside : Term → Context → Term → Type 0
+abbrev pub Inside : Term → Context → Term → Type 0
 Inside (Seq m n) c x = (c ≡ SeqFirst n) × (x ≡ m)
 Inside (Par m n) c x = ((c ≡ ParLeft n) × (x ≡ m)) ⊎ ((c ≡ ParRight m) × (x ≡ n))
 Inside (If m n p) c x = (c ≡ IfTest n p) × (x ≡ m)
@@ -35,7 +35,7 @@ Inside (Deref (App (Arr l) m)) c x = (c ≡ ReadAt l) × (x ≡ m)
 Inside (Put (App (Arr l) m) k) c x = (c ≡ WriteAt l k) × (x ≡ m)
 Inside m c x = ⊥
 
-inside : (c : Context) (x : Term) → Inside (plug c x) c x
+pub inside : (c : Context) (x : Term) → Inside (plug c x) c x
 inside (SeqFirst n) x = (refl, refl)
 inside (ParLeft n) x = inl (refl, refl)
 inside (ParRight n) x = inr (refl, refl)
@@ -51,11 +51,11 @@ inside (ReadAt l) x = (refl, refl)
 inside (WriteAt l k) x = (refl, refl)
 
 -- x stands on the left of y
-abbrev IsLeftOf : Context → Context → Term → Term → Type 0
+abbrev pub IsLeftOf : Context → Context → Term → Term → Type 0
 IsLeftOf c d x y = (c ≡ ParLeft y) × (d ≡ ParRight x)
 
 -- One term has one context, or it is a `||`.
-abbrev Ways : Context → Context → Term → Term → Type 0
+abbrev pub Ways : Context → Context → Term → Term → Type 0
 Ways c d x y = ((c ≡ d) × (x ≡ y)) ⊎ (IsLeftOf c d x y ⊎ IsLeftOf d c y x)
 
 ways_of : (c d : Context) (x y : Term) → Inside (plug d y) c x → Ways c d x y
@@ -75,15 +75,15 @@ ways_of c (WriteIndex z n k) x y h = inl h
 ways_of c (ReadAt l) x y h = inl h
 ways_of c (WriteAt l k) x y h = inl h
 
-ways : (c d : Context) (x y : Term) → plug c x ≡ plug d y → Ways c d x y
+pub ways : (c d : Context) (x y : Term) → plug c x ≡ plug d y → Ways c d x y
 ways c d x y e = ways_of c d x y (subst (λ (z : Term). Inside z c x) e (inside c x))
 
 -- a value is no context, and nothing happens to it
-value_alone : (v : Term) (c : Context) (x : Term) → IsValue v → v ≡ plug c x → ⊥
+pub value_alone : (v : Term) (c : Context) (x : Term) → IsValue v → v ≡ plug c x → ⊥
 value_alone v c x (inl e) f = subst (λ (z : Term). Inside z c x) (sym f ∙ e) (inside c x)
 value_alone v c x (inr (k, w, e)) f = subst (λ (z : Term). Inside z c x) (sym f ∙ e) (inside c x)
 
-one_of : (rest : List ℕ) (m t : Term) → HeadHere Rewrites rest m t → OneHead m t
+pub one_of : (rest : List ℕ) (m t : Term) → HeadHere Rewrites rest m t → OneHead m t
 one_of [] m t h = inl (inl h)
 one_of (zero ∷ rest) (App m n) t (m', e, h) = inl (inr (m', e, lower_of Rewrites rest m m' h))
 one_of (zero ∷ rest) (Fst m) t (m', e, h) = inl (inr (m', e, lower_of Rewrites rest m m' h))
@@ -93,11 +93,11 @@ one_of (zero ∷ rest) (Deref m) t (m', e, h) = inr (m', e, lower_of Rewrites re
 one_of (i ∷ rest) m t h = absurd h
 
 -- two relations of which nothing holds
-neither : ⊥ ⊎ ⊥ → ⊥
+pub neither : ⊥ ⊎ ⊥ → ⊥
 neither (inl h) = h
 neither (inr h) = h
 
-none_of_three : (⊥ ⊎ ⊥) ⊎ ⊥ → ⊥
+pub none_of_three : (⊥ ⊎ ⊥) ⊎ ⊥ → ⊥
 none_of_three (inl h) = neither h
 none_of_three (inr h) = h
 
@@ -162,7 +162,7 @@ shown_write i o m t k (inl (inr (x, port, h))) =
 shown_write i o m t k (inr (x, port, h)) =
     (x, port, inr (takes_access i (λ (u : Term). Put u k) WriteEnds x o.event o.value m t h, array_not_ground i x h.0 h.1 h.4))
 
-no_head : (c : Context) (m v : Term) → OneHead (plug c m) v → ⊥
+pub no_head : (c : Context) (m v : Term) → OneHead (plug c m) v → ⊥
 no_head (SeqFirst n) m v h = none_of_three h
 no_head (ParLeft n) m v h = none_of_three h
 no_head (ParRight n) m v h = none_of_three h
@@ -199,7 +199,7 @@ index_write i o x n z v k (inl (inr (y, port, h))) = index_puts i (λ (u : Term)
 index_write i o x n z v k (inr (y, port, (c, w, b, j, array, em, h))) = absurd (waits_once x y n z b j em)
 
 -- an array of the program's own shows none
-array_not_shown : (i : Imports) (o : Label) (l : ℕ) (n : Term) → IsShown i o (App (Arr l) n) → ⊥
+pub array_not_shown : (i : Imports) (o : Label) (l : ℕ) (n : Term) → IsShown i o (App (Arr l) n) → ⊥
 array_not_shown i o l n (x, port, inl em) = cc em
 array_not_shown i o l n (x, port, inr ((h, m, em, inl is), array)) = let same : Arr l ≡ h = cc em in cc (same ∙ is)
 array_not_shown i o l n (x, port, inr ((h, m, em, inr (s, is)), array)) = let same : Arr l ≡ h = cc em in cc (same ∙ is)
@@ -220,7 +220,7 @@ label_value i o (ReadAt l) m v h = absurd (array_not_shown i o l m (shown_read i
 label_value i o (WriteAt l k) m v h = absurd (array_not_shown i o l m (shown_write i o (App (Arr l) m) v k h))
 
 -- a port stands for no number of the store
-port_not_located : (x : Name) (n : Term) (l i : ℕ) → Locates (App (Wait x 0) n) l i → ⊥
+pub port_not_located : (x : Name) (n : Term) (l i : ℕ) → Locates (App (Wait x 0) n) l i → ⊥
 port_not_located x n l i (inl (e, first)) = cc e
 port_not_located x n l i (inr (w, e)) = let bad : Wait x 0 ≡ Arr l = cc e in cc bad
 
@@ -241,7 +241,7 @@ row_value s s' (WriteIndex x n k) z t (e, j, old, em, here, has, et, es) = absur
 row_value s s' (ReadAt l) z t (e, j, old, em, here, has, et, es) = index_value l z e.place j em
 row_value s s' (WriteAt l k) z t (e, j, old, em, here, has, et, es) = index_value l z e.place j em
 
-context_value : (i : Imports) (a : Doing) (s s' : Store) (rest : List ℕ) (c : Context) (z t : Term) → Here i a s s' rest (plug c z) t → IsValue z
+pub context_value : (i : Imports) (a : Doing) (s s' : Store) (rest : List ℕ) (c : Context) (z t : Term) → Here i a s s' rest (plug c z) t → IsValue z
 context_value i Unfolding s s' rest c z t (h, e) = absurd (no_head c z t (one_of rest (plug c z) t h))
 context_value i Computing s s' [] c z t h = row_value s s' c z t h
 context_value i Computing s s' (k ∷ rest) c z t h = absurd h
@@ -302,7 +302,7 @@ head_one (i ∷ p) q m t r h g = absurd h
 no_lower_loc : (m : Term) (l : ℕ) (v : Term) → m ≡ Loc l → Lower m v → ⊥
 no_lower_loc m l v e h = neither (subst (λ (z : Term). Lower z v) e h)
 
-no_lower_import : (m : Term) (x : Name) (v : Term) → m ≡ Import x → Lower m v → ⊥
+pub no_lower_import : (m : Term) (x : Name) (v : Term) → m ≡ Import x → Lower m v → ⊥
 no_lower_import m x v e h = neither (subst (λ (z : Term). Lower z v) e h)
 
 no_lower_located : (m : Term) (l i : ℕ) (v : Term) → Locates m l i → Lower m v → ⊥
@@ -331,7 +331,7 @@ no_function : (x : Name) (h : Term) (a : Type') (b : Term) → IsPort x h → h 
 no_function x h a b (inl e) f = let bad : Import x ≡ Lam a b = sym e ∙ f in absurd (cc bad)
 no_function x h a b (inr (s, e)) f = let bad : Wait x s ≡ Lam a b = sym e ∙ f in absurd (cc bad)
 
-no_lower_access : (x : Name) (m v : Term) → IsAccess x m → Lower m v → ⊥
+pub no_lower_access : (x : Name) (m v : Term) → IsAccess x m → Lower m v → ⊥
 no_lower_access x m v (h, n, em, port) lower = of_parts (subst (λ (z : Term). Lower z v) em lower)
   where
     of_parts : Lower (App h n) v → ⊥

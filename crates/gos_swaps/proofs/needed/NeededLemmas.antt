@@ -12,7 +12,7 @@ use Rattle.gos_programs.proofs.contexts.BackwardLemmas.{OneLabel}
 use Rattle.gos_swaps.specs.doings.Doings.{Doing, Unfolding, Computing, Showing, DoesAt}
 use Rattle.gos_swaps.specs.doings.Sides.{way, path_through, OnSides}
 use Rattle.gos_swaps.specs.proper.Proper.{IsClosed, IsNew}
-use Rattle.gos_swaps.specs.needed.Needed.{HasPort, IsNeeded}
+use Rattle.gos_swaps.specs.needed.Needed.{HasPort, IsNeeded, IsOut}
 use Rattle.gos_swaps.proofs.doings.HeadLemmas.{head_of}
 use Rattle.gos_swaps.proofs.doings.PlaceLemmas.{acts_have_paths, reached_lifted_at}
 use Rattle.gos_swaps.proofs.doings.SideLemmas.{IsPort, IsShown, shown_read, shown_write}
@@ -77,12 +77,7 @@ no_new_port i p (Showing o) s u m t (Taken x) closed h k =
     named (inr g) = absurd g
 
 -- the place in a context is needed in the whole where it is needed in its term, and no side of the context has the port
-abbrev IsOut : Port → Context → Type 0
-IsOut o (ParLeft n) = HasPort o n → ⊥
-IsOut o (ParRight m) = HasPort o m → ⊥
-IsOut o c = Unit {0}
-
-needed_in : (o : Port) (c : Context) (path : List ℕ) (m : Term) → IsOut o c → IsNeeded o path m → IsNeeded o (way c ++ path) (plug c m)
+pub needed_in : (o : Port) (c : Context) (path : List ℕ) (m : Term) → IsOut o c → IsNeeded o path m → IsNeeded o (way c ++ path) (plug c m)
 needed_in o (SeqFirst n) path m out h = h
 needed_in o (ParLeft n) path m out h = (out, h)
 needed_in o (ParRight n) path m out h = (out, h)
@@ -97,7 +92,7 @@ needed_in o (WriteIndex x n k) path m out h = h
 needed_in o (ReadAt l) path m out h = h
 needed_in o (WriteAt l k) path m out h = h
 
-needed_of : (o : Port) (c : Context) (path : List ℕ) (m : Term) → IsNeeded o (way c ++ path) (plug c m) → IsOut o c × IsNeeded o path m
+pub needed_of : (o : Port) (c : Context) (path : List ℕ) (m : Term) → IsNeeded o (way c ++ path) (plug c m) → IsOut o c × IsNeeded o path m
 needed_of o (SeqFirst n) path m h = (tt, h)
 needed_of o (ParLeft n) path m h = h
 needed_of o (ParRight n) path m h = h

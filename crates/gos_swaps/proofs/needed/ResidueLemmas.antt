@@ -76,10 +76,10 @@ abbrev first_of : Label → List Label → Label
 first_of o [] = o
 first_of o (k ∷ ls) = k
 
-first_label : (o k : Label) (ls ms : List Label) → k ∷ ls ≡ o ∷ ms → k ≡ o
+pub first_label : (o k : Label) (ls ms : List Label) → k ∷ ls ≡ o ∷ ms → k ≡ o
 first_label o k ls ms e = ap (first_of o) e
 
-none_and_some : (o : Label) (ls : List Label) → [] ≡ o ∷ ls → ⊥
+pub none_and_some : (o : Label) (ls : List Label) → [] ≡ o ∷ ls → ⊥
 none_and_some o ls e = subst (λ (z : List Label). IsNone z) e tt
   where
     IsNone : List Label → Type 0

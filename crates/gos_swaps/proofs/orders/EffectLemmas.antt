@@ -26,7 +26,7 @@ StepEffect s u path a b =
     → ReachedAt path (Computes s' (applied (renamed_effect r e) s')) (renamed r a) (renamed r b))
 
 -- what stands for a number has its location
-located_thing : (m : Term) (l i : ℕ) → Locates m l i → Contains (things 0 m) (Place l)
+pub located_thing : (m : Term) (l i : ℕ) → Locates m l i → Contains (things 0 m) (Place l)
 located_thing m l i (inl (e, first)) = subst (λ (z : Term). Contains (things 0 z) (Place l)) (sym e) (there (Place l))
 located_thing m l i (inr (w, e)) = subst (λ (z : Term). Contains (things 0 z) (Place l)) (sym e) (there (Place l))
 

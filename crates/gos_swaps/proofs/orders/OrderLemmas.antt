@@ -27,7 +27,7 @@ use Rattle.gos_swaps.proofs.orders.EffectLemmas.{doings_have_effects, again_ther
 use Rattle.gos_swaps.proofs.orders.AlikeLemmas.{Corresponds, alike_by, alike_same, alike_back}
 
 -- a term at a reached place of one whose parts are apart, and that stands in a store
-apart_in : (c : Context) (m : Term) → PartsApart (plug c m) → PartsApart m
+pub apart_in : (c : Context) (m : Term) → PartsApart (plug c m) → PartsApart m
 apart_in (SeqFirst n) m h = h.0
 apart_in (ParLeft n) m h = h.1
 apart_in (ParRight n) m h = h.2
@@ -42,7 +42,7 @@ apart_in (WriteIndex x n k) m h = h.2.1
 apart_in (ReadAt l) m h = h.2
 apart_in (WriteAt l k) m h = h.2
 
-stands_in : (s : Store) (c : Context) (m : Term) → StandsIn s (plug c m) → StandsIn s m
+pub stands_in : (s : Store) (c : Context) (m : Term) → StandsIn s (plug c m) → StandsIn s m
 stands_in s (SeqFirst n) m h = h.0
 stands_in s (ParLeft n) m h = h.0
 stands_in s (ParRight n) m h = h.1
@@ -57,7 +57,7 @@ stands_in s (WriteIndex x n k) m h = h.1.1
 stands_in s (ReadAt l) m h = h.1
 stands_in s (WriteAt l k) m h = h.1
 
-apart_through : (cs : List Context) (m : Term) → PartsApart (plug_all cs m) → PartsApart m
+pub apart_through : (cs : List Context) (m : Term) → PartsApart (plug_all cs m) → PartsApart m
 apart_through [] m h = h
 apart_through (c ∷ cs) m h = apart_through cs m (apart_in c (plug_all cs m) h)
 
@@ -85,7 +85,7 @@ opened_touched (Opens l w) x h = h
 opened_touched e x h = absurd h
 
 -- a side's effect touches no location of the other side
-other_side :
+pub other_side :
     (s : Store) (e : Effect) (m n : Term) (x : ℕ) → IsOwn e m → IsFree e s → Apart m n → StandsIn s n → Contains (things 0 n) (Place x)
     → Touches e x → ⊥
 other_side s e m n x own free apart stands h touched = by_origin (origin e m x own touched)

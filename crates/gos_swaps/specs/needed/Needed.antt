@@ -9,6 +9,7 @@ use Rattle.gos_model.specs.Typing.{Imports, Named, things}
 use Rattle.gos_model.specs.Stores.{Store}
 use Rattle.gos_model.specs.Labels.{Port, Given, Taken, Label}
 use Rattle.gos_model.specs.Moves.{Running}
+use Rattle.gos_programs.specs.contexts.Contexts.{Context, ParLeft, ParRight}
 use Rattle.gos_swaps.specs.doings.Doings.{Doing, Unfolding, Computing, Showing, DoesAt}
 use Rattle.gos_swaps.specs.proper.Proper.{IsProper}
 use Rattle.gos_swaps.specs.orders.Alike.{Alike}
@@ -35,6 +36,12 @@ IsNeeded o (zero ∷ suc zero ∷ path) (Put (App (Arr l) m) k) = IsNeeded o pat
 IsNeeded o (zero ∷ suc zero ∷ suc zero ∷ path) (Deref (App (Wait x s) (Both n m))) = IsNeeded o path m
 IsNeeded o (zero ∷ suc zero ∷ suc zero ∷ path) (Put (App (Wait x s) (Both n m)) k) = IsNeeded o path m
 IsNeeded o path m = Unit {0}
+
+-- a context leaves no side aside that has the port
+abbrev pub IsOut : Port → Context → Type 0
+IsOut o (ParLeft n) = HasPort o n → ⊥
+IsOut o (ParRight m) = HasPort o m → ⊥
+IsOut o c = Unit {0}
 
 -- an unfolding, a step, or the label itself
 abbrev pub IsToward : Goal → Doing → Type 0

@@ -1,6 +1,6 @@
 -- Small terms with the places that an aim needs, and small lists.
 --
--- Read first: Needed.
+-- Read first: Blocked.
 use Rattle.std.specs.Prelude.{◌≡◌, [], ◌∷◌}
 use Rattle.gos_model.specs.Terms.{Term, Skip, Import, App, Both, Seq, Par, Deref, Arr, Wait}
 use Rattle.gos_model.specs.Labels.{Given, Taken, taken}
@@ -8,6 +8,7 @@ use Rattle.gos_model.specs.SmallPrograms.{c, d, two_commands}
 use Rattle.gos_swaps.specs.doings.Doings.{Unfolding, Computing, Showing}
 use Rattle.gos_swaps.specs.needed.Lists.{Runs, steps_among, labels_among, ToShow, ToEnd, Meets}
 use Rattle.gos_swaps.specs.needed.Needed.{HasPort, IsNeeded, IsToward, TakesOff}
+use Rattle.gos_swaps.specs.needed.Blocked.{IsStuck}
 
 -- `c || d`: the port c needs the left side and not the right one, and the end needs both
 abbrev pub SideOfPortIsNeeded : Type 0
@@ -49,3 +50,8 @@ abbrev pub StepsAreToward : Type 0
 StepsAreToward =
     IsToward ToEnd Computing × IsToward (ToShow (taken c 0 0)) (Showing (taken c 0 0)) × (IsToward ToEnd (Showing (taken c 0 0)) → ⊥)
     × TakesOff Computing [] 2 [] 1 × (TakesOff Computing [] 2 [] 2 → ⊥)
+
+-- a wait for c is stuck where d is aimed at, and not where its own answer is
+abbrev pub WaitIsStuck : Type 0
+WaitIsStuck =
+    IsStuck two_commands (ToShow (taken d 0 0)) [] (Wait c 1) × (IsStuck two_commands (ToShow (taken c 1 0)) [] (Wait c 1) → ⊥)

@@ -1,8 +1,8 @@
 -- The program of a build's linked modules, as its sources say it.
 --
--- Read first: Linked and Faces of gos_link; Substituted of gos_witness. No module is compiled: what the bind lines are judged
+-- Read first: Taken; Linked and Faces of gos_link; Substituted of gos_witness. No module is compiled: what the bind lines are judged
 -- by hangs on imports and results alone, so any plans that have those of the modules do.
-use Rattle.std.specs.Prelude.{◌≡◌, ◌≢◌, List, map}
+use Rattle.std.specs.Prelude.{◌≡◌, ◌≢◌, ◌⊎◌, false, IsTrue, List, map, Option}
 use Rattle.gos_types.specs.Types.{type_of}
 use Rattle.gos_syntax.specs.Modules.{SeenModule}
 use Rattle.gos_model.specs.Moves.{Program}
@@ -12,6 +12,7 @@ use Rattle.gos_link.specs.Faces.{Face, faces_of}
 use Rattle.gos_link.specs.Linked.{SeenLinks, AreLinks, IsOfLinks, IsUnlinked}
 use Rattle.gos_link.specs.declared.build.Build.{Build}
 use Rattle.gos_link.specs.declared.fault.LinkFault.TheVariants as faults
+use Rattle.gos_lex.specs.Lines.{Word}
 use Rattle.gos_link.specs.declared.services.Service.{Service}
 use Rattle.gos_witness.specs.declared.binding.Bound.{Bound}
 use Rattle.gos_witness.specs.declared.fault.ExplainFault.TheVariants as explain
@@ -19,6 +20,7 @@ use Rattle.gos_witness.specs.Programs.{SeenProgram}
 use Rattle.gos_witness.specs.Substituted.{IsLinked, IsTooLargeFault, linked_program}
 use Rattle.gos_command.specs.declared.status.Cause.{Cause}
 use Rattle.gos_command.specs.declared.status.Cause.TheVariants as causes
+use Rattle.gos_tool.specs.explained.Taken.{is_taken}
 
 -- the imports of a module, and the type of its result
 abbrev pub module_face : SeenModule → Face
@@ -49,7 +51,8 @@ pub record IsLinkedAs (b : Build) (ms : List SeenModule) (ls : SeenLinks) (p : S
   pub program : IsLinked ms (binds_along ls) ls.root b.root p
 
 -- Why the build file is rejected for its modules: the first reason for which they can't be linked, but for their weight and their size
--- as a circuit; or that their program has more than 1,000,000 nodes.
+-- as a circuit; or, where they can, that a file is to be written which the build names; or else that their program has more than
+-- 1,000,000 nodes.
 abbrev pub IsLinksCause : Build → List SeenModule → Cause → Type 0
 IsLinksCause b ms (causes.Link fault) =
     (fault ≢ faults.NoMemory) × IsOfLinks fault × (ps : List SeenPlan) × StandFor ms ps × IsUnlinked b ps fault
@@ -60,6 +63,13 @@ IsSizeCause b ms (causes.Explain fault) =
     (fault ≢ explain.NoMemory) × (links : SeenLinks) × AreLinksOf b ms links × IsTooLargeFault (program_along ms links) fault
 IsSizeCause b ms cause = ⊥
 
-abbrev pub IsModulesCause : Build → List SeenModule → Cause → Type 0
-IsModulesCause b ms (causes.Link fault) = IsLinksCause b ms (causes.Link fault)
-IsModulesCause b ms cause = IsSizeCause b ms cause
+abbrev pub IsTakenCause : Build → Option Word → List SeenModule → Cause → Type 0
+IsTakenCause b written ms cause =
+    (cause ≡ causes.Explain explain.Taken) × IsTrue (is_taken b written) × (links : SeenLinks) × AreLinksOf b ms links
+
+abbrev pub IsProgramCause : Build → Option Word → List SeenModule → Cause → Type 0
+IsProgramCause b written ms cause = IsTakenCause b written ms cause ⊎ ((is_taken b written ≡ false) × IsSizeCause b ms cause)
+
+abbrev pub IsModulesCause : Build → Option Word → List SeenModule → Cause → Type 0
+IsModulesCause b written ms (causes.Link fault) = IsLinksCause b ms (causes.Link fault)
+IsModulesCause b written ms cause = IsProgramCause b written ms cause

@@ -2,7 +2,7 @@
 --
 -- Read first: Sources, LinkedModules, Explained; Headline of build (`SayModules`). Nothing is written. A file that the store doesn't hold
 -- counts as empty.
-use Rattle.std.specs.Prelude.{◌≡◌, ◌⊎◌, ℕ, List, Some}
+use Rattle.std.specs.Prelude.{◌≡◌, ◌⊎◌, ℕ, List, Option, Some, None}
 use Rattle.gos_outside.specs.Files.{Files, bytes_at}
 use Rattle.gos_outside.specs.Faults.{LastFault, ReadFault}
 use Rattle.gos_lex.specs.Lines.{Word}
@@ -35,12 +35,12 @@ pub record IsVerified (files : Files) (own moves : Word) (report : Report) : Typ
   pub sources : SayProgram files build whole
   pub explained : AreExplained files whole.ports (program_along sources.modules sources.links) build.trace moves report
 
--- The first file that is rejected, from each place on: of the build, a source, or the build file for what it links; of the program, the trace
--- file or MOVES; before all the build file for its form.
-abbrev pub RejectsSources : Files → Word → Build → Fault → List ℕ → Type 0
-RejectsSources files own b fault line =
+-- The first file that is rejected, from each place on: of the build, a source, or the build file for what it links, where a file is to be
+-- written or none; of the program, the trace file or MOVES; before all the build file for its form.
+abbrev pub RejectsSources : Files → Word → Build → Option Word → Fault → List ℕ → Type 0
+RejectsSources files own b written fault line =
     RejectsSource files b.instances.items fault line
-    ⊎ ((ms : List SeenModule) × SayModules files b.instances.items ms × IsFileFault own (IsModulesCause b ms) fault line)
+    ⊎ ((ms : List SeenModule) × SayModules files b.instances.items ms × IsFileFault own (IsModulesCause b written ms) fault line)
 
 abbrev pub RejectsProgram : Files → Build → Word → Fault → List ℕ → Type 0
 RejectsProgram files b moves fault line =
@@ -49,7 +49,7 @@ RejectsProgram files b moves fault line =
 abbrev pub RejectsVerify : Files → Word → Word → Fault → List ℕ → Type 0
 RejectsVerify files own moves fault line =
     IsFileFault own (IsFormCause (bytes_at files own) own) fault line
-    ⊎ ((b : Build) × SaysBuild files own b × (RejectsSources files own b fault line ⊎ RejectsProgram files b moves fault line))
+    ⊎ ((b : Build) × SaysBuild files own b × (RejectsSources files own b None fault line ⊎ RejectsProgram files b moves fault line))
 
 -- The calls of the store, each where what is judged before it is right: the build file is read, the sources, the trace file, MOVES.
 abbrev pub IsProgramCall : Files → Build → Word → LastFault → Type 0

@@ -1,7 +1,7 @@
 -- A command as its words mean it.
 use Rattle.gos_outside.specs.FileName.{IsFileName}
 use Rattle.gos_tool.specs.demo.DemoFiles.{IsLevelCount}
-use Rattle.gos_tool.specs.Command.{Command, Check, Compile, Link, Sim, Build, Demo, Tidy, Gates, Verify}
+use Rattle.gos_tool.specs.Command.{Command, Check, Compile, Link, Sim, Build, Demo, Tidy, Gates, Explain, Verify}
 use Rattle.gos_tool.specs.declared.command.Command as declared
 use Rattle.gos_tool.specs.declared.command.Command.TheVariants as words
 
@@ -14,6 +14,7 @@ meant (words.Build own) = Build own.now
 meant (words.Demo levels) = Demo levels
 meant (words.Tidy net out) = Tidy net.now out.now
 meant (words.Gates net out) = Gates net.now out.now
+meant (words.Explain own moves) = Explain own.now moves.now
 meant (words.Verify own moves) = Verify own.now moves.now
 
 -- the files of a command have file names, and the number of levels is in its range
@@ -26,4 +27,5 @@ HasFileNames (Build own) = IsFileName own
 HasFileNames (Demo levels) = IsLevelCount levels
 HasFileNames (Tidy net out) = IsFileName net × IsFileName out
 HasFileNames (Gates net out) = IsFileName net × IsFileName out
+HasFileNames (Explain own moves) = IsFileName own × IsFileName moves
 HasFileNames (Verify own moves) = IsFileName own × IsFileName moves

@@ -1,9 +1,9 @@
 // What the definitions give for all files. Each theorem is the contract of a function that does nothing.
 
-ghost use Rattle.gos_tool.specs.explained.Complete.{EmptyIsNotRight, VerifiedIsNotRejected};
+ghost use Rattle.gos_tool.specs.explained.Complete.{EmptyIsNotExplained, EmptyIsNotRight, ExplainedIsNotRejected, ExplainedIsRight, VerifiedIsNotRejected};
 ghost use Rattle.gos_tool.specs.explained.Headlines.{VerifiesTheHeadline};
 ghost use Rattle.gos_tool.specs.explained.Repeated.{VerifyMakesOne};
-ghost use Rattle.gos_tool.specs.explained.SmallLinked.{OneIsLinked, UnboundIsNotLinked};
+ghost use Rattle.gos_tool.specs.explained.SmallLinked.{NamesItsFiles, OneIsLinked, OtherIsFree, UnboundIsNotLinked};
 ghost use Rattle.gos_tool.specs.explained.SmallRuns.{CallHasLabels, InputIsNotFirst};
 ghost use Rattle.gos_tool.specs.explained.Traces.{BuiltTraceIsRead, VerifiesTheRun};
 
@@ -12,10 +12,14 @@ use crate::objects::accepted_sources;
 use gos_link::{one_build, one_face};
 use gos_witness::{one_answer, one_answer_of_lines};
 
-/// Files that are right for `verify` are not rejected. Where the build file or the moves are empty they are not right.
+/// Files that are right for `verify` are not rejected, nor are those that are right for `explain`. Where the build file or the moves are
+/// empty they are not right. What `explain` leaves is right for `verify`, which tells the same.
 pub fn right_moves()
     ensures rejected { VerifiedIsNotRejected }
+    ensures explained { ExplainedIsNotRejected }
+    ensures left { ExplainedIsRight }
     ensures empty { EmptyIsNotRight }
+    ensures empty_too { EmptyIsNotExplained }
 {
     right_links();
     one_build();
@@ -55,10 +59,12 @@ pub fn built_trace()
     one_answer();
 }
 
-/// A small build whose modules are linked, and one that leaves an instance out.
+/// A small build whose modules are linked, and one that leaves an instance out; and the files that one names.
 pub fn small_modules()
     ensures linked { OneIsLinked }
     ensures unbound { UnboundIsNotLinked }
+    ensures named { NamesItsFiles }
+    ensures free { OtherIsFree }
 {
     gos_link::small_links();
     gos_witness::small_links();

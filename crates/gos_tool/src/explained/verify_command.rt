@@ -1,23 +1,18 @@
 // The command `verify BUILD MOVES`.
 
-ghost use Rattle.std.specs.Prelude.{◌≡◌, ◌≤◌, ◌∷◌, [], length, IfOk, IfErr, IfSome, IsErrOf};
+ghost use Rattle.std.specs.Prelude.{◌≡◌, ◌∷◌, [], IfOk, IfErr, IfSome, IsErrOf};
 ghost use Rattle.gos_outside.specs.FileName.{IsFileName};
 ghost use Rattle.gos_outside.specs.Faults.{CountsFaults};
-ghost use Rattle.gos_outside.specs.Calls.{AreMade};
 ghost use Rattle.gos_command.specs.Ends.{IfStopped, IsTold, ending};
 ghost use Rattle.gos_tool.specs.Causes.{OfSource, OfBuild, OfMoves, StopsFor, TellsExplained};
-ghost use Rattle.gos_tool.specs.Calls.{source_calls, verify_calls, GoesByBuild};
-ghost use Rattle.gos_tool.specs.explained.Sources.{IsSourceCall};
-ghost use Rattle.gos_tool.specs.explained.Verified.{SayProgram, IsVerified, RejectsSources, RejectsVerify, IsVerifyCall};
+ghost use Rattle.gos_tool.specs.Calls.{verify_calls, GoesByBuild};
+ghost use Rattle.gos_tool.specs.explained.Verified.{IsVerified, RejectsVerify, IsVerifyCall};
 
 use crate::circuits::build_in;
 use crate::explained::explaining::explain_files;
-use crate::explained::linking::program_in;
-use crate::explained::sources::sources_in;
+use crate::explained::linking::linked_in;
 use gos_command::{Report, Stop};
-use gos_link::Build;
 use gos_outside::Store;
-use gos_witness::Program;
 use std::alloc::Global;
 
 /// Reads the build file `own`, the sources of its instances, its trace file and the file of moves, and makes the moves again by the terms
@@ -48,31 +43,6 @@ pub fn verify_moves<S: Store>(
     ensures same_files { S.contents store.new ≡ S.contents store.old }
 {
     let build = build_in(alloc, own, store)?;
-    let program = linked_in(alloc, own, &build, store)?;
+    let program = linked_in(alloc, own, &build, None, store)?;
     explain_files(alloc, build.trace.bytes(), moves, &program, store)
-}
-
-// Reads the sources of a build and links their modules.
-fn linked_in<S: Store>(
-    alloc: Global,
-    own: &[u8],
-    build: &Build,
-    store: &mut S,
-) -> Result<Program, Stop>
-    requires own { IsFileName own.now }
-    requires few_instances { length build.now.instances.items ≤ 65536 }
-    requires few_binds { length build.now.binds.items ≤ 65536 }
-    ensures say { IfOk result (λ program. IfSome (S.contents store.old) (λ files. SayProgram files build.now program)) }
-    ensures rejected { IfErr result (λ stop. IfStopped stop (λ fault line.
-        IfSome (S.contents store.old) (λ files. RejectsSources files own.now build.now fault line))) }
-    ensures told { IfErr result (λ stop. IfStopped stop IsTold) }
-    ensures kind { IfErr result (StopsFor (OfSource ∷ OfBuild ∷ OfMoves ∷ [])) }
-    ensures calls { AreMade (ending result) (source_calls build.now.instances.items) (S.calls store.old) (S.calls store.new) }
-    ensures counts { CountsFaults (IsErrOf result Stop.StoreFailed) (S.faults store.old) (S.faults store.new) }
-    ensures failed_call { IsErrOf result Stop.StoreFailed →
-        IsSourceCall (S.contents store.old) build.now.instances.items (S.last_fault store.new) }
-    ensures same_files { S.contents store.new ≡ S.contents store.old }
-{
-    let sources = sources_in(alloc, build.instances.as_slice(), store)?;
-    program_in(alloc, own, build, &sources)
 }

@@ -3,7 +3,7 @@ use Rattle.std.specs.Prelude.{IfErr}
 use Rattle.gos_command.specs.Ends.{IfStopped, ending}
 use Rattle.gos_tool.specs.Run.{IsRejected, IsCall, CallsOf}
 use Rattle.gos_tool.specs.inner.CommandSeen.{meant}
-use Rattle.gos_tool.proofs.EndLemmas.{sim_rejected, compile_rejected, link_rejected, tidy_rejected, gates_rejected, verify_rejected}
+use Rattle.gos_tool.proofs.EndLemmas.{sim_rejected, compile_rejected, link_rejected, tidy_rejected, gates_rejected, explain_rejected, verify_rejected}
 use Rattle.gos_tool.proofs.command.run_command.Goals as goal
 
 pub returns-in-Sim-clause-failed_call : goal.returns-in-Sim-clause-failed_call
@@ -60,6 +60,23 @@ returns-in-Gates-clause-rejected g c =
     let new = g.S.Store.contents c.gates_of.new.store in
     subst (λ command. IfErr c.gates_of.result (λ stop. IfStopped stop (IsRejected (meant command) old new))) (sym c.in-Gates.is)
     (gates_rejected c.in-Gates.net.now c.in-Gates.out.now old new c.gates_of.result c.gates_of.ensures.rejected_files c.gates_of.ensures.file c.gates_of.ensures.rejected)
+
+pub returns-in-Explain-clause-failed_call : goal.returns-in-Explain-clause-failed_call
+returns-in-Explain-clause-failed_call g c = λ failed.
+    subst (λ command. IsCall (meant command) (g.S.Store.contents c.args.store.now) (g.S.Store.contents c.explain_moves.new.store) (g.S.Store.last_fault c.explain_moves.new.store)) (sym c.in-Explain.is)
+    (c.explain_moves.ensures.failed_call failed)
+
+pub returns-in-Explain-clause-calls : goal.returns-in-Explain-clause-calls
+returns-in-Explain-clause-calls g c =
+    subst (λ command. CallsOf (meant command) (ending c.explain_moves.result) (g.S.Store.contents c.args.store.now) (g.S.Store.calls c.args.store.now) (g.S.Store.calls c.explain_moves.new.store))
+    (sym c.in-Explain.is) c.explain_moves.ensures.calls
+
+pub returns-in-Explain-clause-rejected : goal.returns-in-Explain-clause-rejected
+returns-in-Explain-clause-rejected g c =
+    let old = g.S.Store.contents c.args.store.now in
+    let new = g.S.Store.contents c.explain_moves.new.store in
+    subst (λ command. IfErr c.explain_moves.result (λ stop. IfStopped stop (IsRejected (meant command) old new))) (sym c.in-Explain.is)
+    (explain_rejected c.in-Explain.own.now c.in-Explain.moves.now old new c.explain_moves.result c.explain_moves.ensures.rejected_files c.explain_moves.ensures.rejected)
 
 pub returns-in-Verify-clause-failed_call : goal.returns-in-Verify-clause-failed_call
 returns-in-Verify-clause-failed_call g c = λ failed.

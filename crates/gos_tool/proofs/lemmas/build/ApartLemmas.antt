@@ -42,14 +42,14 @@ IsNoSource file [] = Unit {0}
 IsNoSource file (i ∷ is) = (i.source ≢ file) × IsNoSource file is
 
 -- tests that are false
-differ : (a b : Word) → bytes_eq a b ≡ false → a ≢ b
+pub differ : (a b : Word) → bytes_eq a b ≡ false → a ≢ b
 differ a b e same = true≢false (sym ((bytes_eq-Decides a b).1 same) ∙ e)
 
-left_false : (a b : Bool) → (a || b) ≡ false → a ≡ false
+pub left_false : (a b : Bool) → (a || b) ≡ false → a ≡ false
 left_false false b e = refl
 left_false true b e = e
 
-right_false : (a b : Bool) → (a || b) ≡ false → b ≡ false
+pub right_false : (a b : Bool) → (a || b) ≡ false → b ≡ false
 right_false false b e = e
 right_false true b e = absurd (true≢false e)
 

@@ -42,6 +42,9 @@ module _ (b c : Build) (same : whole b ≡ whole c) where
   pub net_same : b.net ≡ c.net
   net_same = ap (λ (s : Sum). file_in s.net) same
 
+  pub verilog_same : b.verilog ≡ c.verilog
+  verilog_same = ap (λ (s : Sum). file_in s.verilog) same
+
   pub pulses_same : b.pulses ≡ c.pulses
   pulses_same = ap (λ (s : Sum). file_in s.pulses) same
 

@@ -1,4 +1,4 @@
--- The imports of a plan that has a circuit have widths: a port's nets have the bits of its type, and each cell has 1 to 32.
+-- The imports of a plan that has a circuit have widths: a port's nets have the bits of its type, and each cell has 1 to 64.
 use Rattle.std.specs.Prelude.{◌≡◌, ℕ, zero, suc, ◌<◌, List, [], ◌∷◌, map, length, Some, slice_get}
 use Rattle.std.proofs.Common.{refl, sym, ◌∙◌, ap, subst, arith}
 use Rattle.gos_types.specs.Types.{Type', Com, Exp, Var, Pair, Fun, IsGround}

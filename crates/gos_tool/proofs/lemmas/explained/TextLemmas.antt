@@ -1,12 +1,11 @@
 -- A trace file or a file of moves is read whole, or it is rejected.
-use Rattle.std.proofs.Common.{◌≡◌, ◌≤◌, ◌<◌, ◌∙◌, inl, inr, ℕ, List, None, Option, ap, arith, length, refl, subst, sym}
+use Rattle.std.proofs.Common.{◌≡◌, ◌≤◌, ◌∙◌, inl, inr, ℕ, List, None, Option, ap, length, refl, subst, sym}
 use Rattle.std.specs.Prelude.{IfSome}
 use Rattle.gos_outside.specs.Files.{Files, bytes_at}
 use Rattle.gos_lex.specs.Lines.{Word}
 use Rattle.gos_witness.specs.declared.fault.ExplainFault.{ExplainFault}
 use Rattle.gos_witness.specs.TextFaults.{IsFormFault}
 use Rattle.gos_command.specs.Ends.{IsRealCause}
-use Rattle.gos_command.specs.Files.{IsReadWhole}
 use Rattle.gos_command.specs.Lines.{fault_line}
 use Rattle.gos_command.specs.declared.status.Cause.{Cause}
 use Rattle.gos_command.specs.declared.status.Cause.TheVariants.{Explain}
@@ -21,23 +20,6 @@ pub file_fault : (Why : Cause → Type 0) (name : Word) (cause : Cause) (fault :
     → fault ≡ record { file = name; cause = cause } → line ≡ fault_line None fault → IsFileFault name Why fault line
 file_fault Why name cause fault line why is says =
     record { file = ap (λ (f : Fault). f.file) is; cause = subst Why (sym (ap (λ (f : Fault). f.cause) is)) why; says = says }
-
--- where more than the limit was read, the file is longer; else it is the whole file
-longer : (file text : List ℕ) → IsReadWhole 268435456 text file → 268435456 < length text → 268435456 < length file
-longer file text read long =
-    let not : length file ≤ 268435456 → ⊥ = (λ short. let same = ap length (read.short short) in omega (arith, same, short, long)) in omega (arith, not)
-
-pub long_file : (told : Option Files) (name : Word) (text : List ℕ) (fault : Fault) (line : List ℕ)
-    → IfSome told (λ files. IsReadWhole 268435456 text (bytes_at files name)) → 268435456 < length text → fault ≡ record { file = name; cause = Explain too_long }
-    → line ≡ fault_line None fault → IfSome told (λ files. IsLongFile files name fault line)
-long_file told name text fault line read long is says =
-    of_some (λ files. IsReadWhole 268435456 text (bytes_at files name)) (λ files. IsLongFile files name fault line) told
-    (λ files h. record { long = longer (bytes_at files name) text h long; is = is; says = says }) read
-
-pub whole_file : (told : Option Files) (name : Word) (text : List ℕ) → IfSome told (λ files. IsReadWhole 268435456 text (bytes_at files name))
-    → length text ≤ 268435456 → IfSome told (λ files. bytes_at files name ≡ text)
-whole_file told name text read short =
-    of_some (λ files. IsReadWhole 268435456 text (bytes_at files name)) (λ files. bytes_at files name ≡ text) told (λ files h. sym (h.whole short)) read
 
 -- what is so of the text is so of the file
 pub of_file : (Q : List ℕ → Type 0) (told : Option Files) (name : Word) (text given : List ℕ) → IfSome told (λ files. bytes_at files name ≡ text) → given ≡ text

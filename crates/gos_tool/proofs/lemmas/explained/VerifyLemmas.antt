@@ -127,17 +127,17 @@ module _ {old told : Option Files} {ports : List ProgramPort} {trace : Word} {la
 
 -- the sources of a build are read, and then linked
 module _ (old : Option Files) (own : Word) (b : Build) (is : List Instance) (same : is ≡ b.instances.items) where
-  pub source_rejected : (fault : Fault) (line : List ℕ) → IfSome old (λ files. RejectsSource files is fault line)
-      → IfSome old (λ files. RejectsSources files own b fault line)
-  source_rejected fault line wrong =
-      of_some (λ files. RejectsSource files is fault line) (λ files. RejectsSources files own b fault line) old
+  pub source_rejected : (written : Option Word) (fault : Fault) (line : List ℕ) → IfSome old (λ files. RejectsSource files is fault line)
+      → IfSome old (λ files. RejectsSources files own b written fault line)
+  source_rejected written fault line wrong =
+      of_some (λ files. RejectsSource files is fault line) (λ files. RejectsSources files own b written fault line) old
       (λ files h. inl (subst (λ (js : List Instance). RejectsSource files js fault line) same h)) wrong
 
   module _ (ms : List SeenModule) (say : IfSome old (λ files. SayModules files is ms)) where
-    pub modules_rejected : (fault : Fault) (line : List ℕ) → IsFileFault own (IsModulesCause b ms) fault line
-        → IfSome old (λ files. RejectsSources files own b fault line)
-    modules_rejected fault line wrong =
-        of_some (λ files. SayModules files is ms) (λ files. RejectsSources files own b fault line) old
+    pub modules_rejected : (written : Option Word) (fault : Fault) (line : List ℕ) → IsFileFault own (IsModulesCause b written ms) fault line
+        → IfSome old (λ files. RejectsSources files own b written fault line)
+    modules_rejected written fault line wrong =
+        of_some (λ files. SayModules files is ms) (λ files. RejectsSources files own b written fault line) old
         (λ files h. inr (ms, subst (λ (js : List Instance). SayModules files js ms) same h, wrong)) say
 
     pub say_program : (whole : SeenProgram) → ((links : SeenLinks) × IsLinkedAs b ms links whole) → IfSome old (λ files. SayProgram files b whole)
@@ -147,13 +147,13 @@ module _ (old : Option Files) (own : Word) (b : Build) (is : List Instance) (sam
 
 -- the build file was read
 module _ {old told : Option Files} {own : Word} {b : Build} (has : HasRead old told own b) (moves : Word) where
-  after_build : (P Q : Files → Type 0) → ((files : Files) → SaysBuild files own b → P files → Q files) → IfSome told P → IfSome old Q
+  pub after_build : (P Q : Files → Type 0) → ((files : Files) → SaysBuild files own b → P files → Q files) → IfSome told P → IfSome old Q
   after_build P Q f h = of_some_both (λ files. SaysBuild files own b) P Q old f has.says (subst (λ (o : Option Files). IfSome o P) has.kept h)
 
-  pub sources_rejected : (fault : Fault) (line : List ℕ) → IfSome told (λ files. RejectsSources files own b fault line)
+  pub sources_rejected : (fault : Fault) (line : List ℕ) → IfSome told (λ files. RejectsSources files own b None fault line)
       → IfSome old (λ files. RejectsVerify files own moves fault line)
   sources_rejected fault line =
-      after_build (λ files. RejectsSources files own b fault line) (λ files. RejectsVerify files own moves fault line) (λ files says h. inr (b, says, inl h))
+      after_build (λ files. RejectsSources files own b None fault line) (λ files. RejectsVerify files own moves fault line) (λ files says h. inr (b, says, inl h))
 
   pub sources_call : (fault : LastFault) → IsSourceCall told b.instances.items fault → IfSome old (λ files. IsVerifyCall files own moves fault)
   sources_call fault call = by old has.says (subst (λ (o : Option Files). IsSourceCall o b.instances.items fault) has.kept call)
@@ -180,7 +180,7 @@ has_program {old} {told} {own} {b} has new whole kept say =
 
 module _ {old told : Option Files} {own : Word} {b : Build} {whole : SeenProgram} (has : HasProgram old told own b whole) (moves trace : Word)
     (named : trace ≡ b.trace) where
-  after_program : (P : Word → Files → Type 0) (Q : Files → Type 0)
+  pub after_program : (P : Word → Files → Type 0) (Q : Files → Type 0)
       → ((files : Files) → SaysBuild files own b → SayProgram files b whole → P b.trace files → Q files) → IfSome told (P trace) → IfSome old Q
   after_program P Q f h =
       of_some_both (λ files. SaysBuild files own b) (λ files. P b.trace files × SayProgram files b whole) Q old

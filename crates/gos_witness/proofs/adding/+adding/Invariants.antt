@@ -12,6 +12,9 @@ decreases-add_function l = 3 * size (tree l.body.now) + 2
 abbrev pub decreases-add_block : goal.decreases-add_block
 decreases-add_block l = 3 * size (tree l.body.now) + 2
 
+abbrev pub decreases-add_array : goal.decreases-add_array
+decreases-add_array l = 3 * size (tree l.body.now) + 2
+
 abbrev pub decreases-add_one : goal.decreases-add_one
 decreases-add_one l = 3 * size (tree l.m.now) + 2
 
@@ -20,6 +23,3 @@ decreases-add_two l = 3 * (size (tree l.m.now) + size (tree l.n.now)) + 2
 
 abbrev pub decreases-add_choice : goal.decreases-add_choice
 decreases-add_choice l = 3 * (size (tree l.m.now) + size (tree l.n.now) + size (tree l.p.now)) + 2
-
-abbrev pub decreases-add_array : goal.decreases-add_array
-decreases-add_array l = 3 * size (tree l.body.now) + 2

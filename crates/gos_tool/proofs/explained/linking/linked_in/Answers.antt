@@ -4,12 +4,12 @@ use Rattle.gos_outside.specs.Calls.{Whole}
 use Rattle.gos_command.proofs.EndLemmas.{made_of, of_result, of_stop}
 use Rattle.gos_tool.specs.Causes.{OfSource, OfBuild, OfMoves}
 use Rattle.gos_tool.specs.Calls.{source_calls}
-use Rattle.gos_tool.specs.explained.Verified.{RejectsSources, SayProgram}
+use Rattle.gos_tool.specs.explained.Verified.{SayProgram}
 use Rattle.gos_tool.proofs.lemmas.StopLemmas.{behind_all, stops_before}
 use Rattle.gos_tool.proofs.lemmas.circuits.ExitLemmas.{err_is, stopped_as}
 use Rattle.gos_tool.proofs.lemmas.circuits.LinkLemmas.{linkable}
 use Rattle.gos_tool.proofs.lemmas.explained.VerifyLemmas.{modules_rejected, none_more, say_program, source_rejected}
-use Rattle.gos_tool.proofs.explained.verify_command.linked_in.Goals as goal
+use Rattle.gos_tool.proofs.explained.linking.linked_in.Goals as goal
 
 pub program_in-requires-clause-linkable : goal.program_in-requires-clause-linkable
 program_in-requires-clause-linkable g c =
@@ -18,8 +18,8 @@ program_in-requires-clause-linkable g c =
 pub returns-in_err-sources-clause-rejected : goal.returns-in_err-sources-clause-rejected
 returns-in_err-sources-clause-rejected g c =
     let old = g.S.Store.contents c.args.store.now in
-    stopped_as _ (λ fault line. IfSome old (λ files. RejectsSources files c.args.own.now c.args.build.now fault line)) _ c.in_err-sources.field-0.0 c.from_residual.ensures.1
-    (source_rejected old c.args.own.now c.args.build.now c.as_slice.result.now c.as_slice.ensures.value) c.in_err-sources.ensures.rejected
+    stopped_as _ _ _ c.in_err-sources.field-0.0 c.from_residual.ensures.1
+    (source_rejected old c.args.own.now c.args.build.now c.as_slice.result.now c.as_slice.ensures.value _) c.in_err-sources.ensures.rejected
 
 pub returns-in_err-sources-clause-kind : goal.returns-in_err-sources-clause-kind
 returns-in_err-sources-clause-kind g c =
@@ -35,8 +35,8 @@ returns-clause-say g c =
 pub returns-clause-rejected : goal.returns-clause-rejected
 returns-clause-rejected g c =
     let old = g.S.Store.contents c.args.store.now in
-    of_stop _ (λ fault line. IfSome old (λ files. RejectsSources files c.args.own.now c.args.build.now fault line)) c.program_in.result
-    (modules_rejected old c.args.own.now c.args.build.now c.as_slice.result.now c.as_slice.ensures.value c.in_ok-sources.sources.modules.items c.in_ok-sources.ensures.say)
+    of_stop _ _ c.program_in.result
+    (modules_rejected old c.args.own.now c.args.build.now c.as_slice.result.now c.as_slice.ensures.value c.in_ok-sources.sources.modules.items c.in_ok-sources.ensures.say _)
     c.program_in.ensures.rejected
 
 pub returns-clause-kind : goal.returns-clause-kind
