@@ -10,12 +10,14 @@ OUTWARDS = re.compile(rb'(?:(?<=\s)|^)/|\.\.')
 
 @dataclass
 class Case:
-    """The words of a command, files by their names, and the names of folders and of links to a device that is full."""
+    """The words of a command, files by their names, and the names of folders and of links to a device that is full; and the pattern of the
+    line that is wanted, where it is known: of a build that is linked otherwise than it seems a fault B may come in its place."""
 
     words: list
     files: dict
     folders: list = field(default_factory=list)
     full: list = field(default_factory=list)
+    wanted: str = ''
 
     def kept_inside(self):
         """The case without words that lead out of its folder, so that no run of it can write elsewhere."""

@@ -13,20 +13,22 @@ PARTS = {
     'WANT': rf'(?:any exp|any var|com or exp|{TYPE})', 'PORT.EVENT': rf'{NAME}\.[a-z]+', '..': rf'{N}(?: {N})*',
 }
 # The faults that a command may tell, by their letters.
-LETTERS = {b'check': 'LSC', b'compile': 'LSC', b'link': 'OB', b'sim': 'NKP', b'build': 'LSCBP', b'demo': '', b'tidy': 'NK', b'gates': 'NKG'}
+LETTERS = {b'check': 'LSC', b'compile': 'LSC', b'link': 'OB', b'sim': 'NKP', b'build': 'LSCBP', b'demo': '', b'tidy': 'NK', b'gates': 'NKG',
+           b'verify': 'LSCBM', b'explain': 'LSCBM'}
 OK = {
     b'check': rf'ok weight {N}', b'compile': rf'ok weight {N}', b'link': rf'ok weight {N}', b'sim': rf'ok cycles {N} pulses {N} unused {N}',
     b'build': rf'ok weight {N} cycles {N} pulses {N} unused {N}', b'demo': rf'ok weight {N} cycles {N} pulses {N} unused {N}',
     b'tidy': rf'ok cells {N} to {N}', b'gates': rf'ok inputs {N} latches {N} outputs {N} ands {N}',
+    b'verify': rf'ok lines {N} labels {N}', b'explain': rf'ok lines {N} labels {N}',
 }
 
 
 def faults():
     """The form of each fault's line, by its name."""
-    rows = re.findall(r'^\| `([LSCOBNKPG][0-9]+) ([^`]*)` \| `\w+::', FORMATS.read_text(), re.M)
+    rows = re.findall(r'^\| `([LSCOBNKPGM][0-9]+)(?: ([^`]*))?` \| `\w+::', FORMATS.read_text(), re.M)
     forms = {}
     for name, words in rows:
-        words = words.replace('NET NET ..', '..').split(' ')
+        words = words.replace('NET NET ..', '..').split()
         forms[name] = re.compile(' '.join([name, *(PARTS.get(word, re.escape(word)) for word in words)]))
     return forms
 

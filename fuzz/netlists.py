@@ -4,7 +4,7 @@ import changes
 import pulses
 from case import command, lines
 
-WIDTHS = (1, 1, 1, 2, 8, 31, 32)
+WIDTHS = (1, 1, 1, 2, 8, 32, 33, 63, 64)
 # The nets of a port of each side and type in order: the cells that show them, and whether they have the type's width.
 NETS = {
     ('give', 'com'): [('input', False), ('reg', False)],

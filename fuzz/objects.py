@@ -7,7 +7,7 @@ import builds
 import changes
 from case import BUILD, command, lines
 
-WIDTHS = (1, 1, 8, 8, 32)
+WIDTHS = (1, 1, 8, 8, 32, 64)
 RUN = (0, 0)
 
 
@@ -99,7 +99,7 @@ def plan(choose, many, result, imports, weight=None):
 def extreme(choose):
     """A plan of very many parts or of very large ones, or a type that is as deep as can be."""
     many = choose.choice((63, 64, 65, 1_000))
-    kinds = choose.choice((['skip'], ['share ' + 'fun com ' * (many % 70) + 'com'], ['share ' + 'pair com ' * 63 + 'com'], ['seq', 'not 32']))
+    kinds = choose.choice((['skip'], ['share ' + 'fun com ' * (many % 70) + 'com'], ['share ' + 'pair com ' * 63 + 'com'], ['seq', 'not 64']))
     parts = kinds * (many // len(kinds))
     kind = choose.choice(('com', 'fun com ' * many + 'com', 'pair com ' * many + 'com', 'fun ' * many + 'com ' * (many + 1)))
     return lines('gosobj 2', 'weight 8192', 'imports 0', f'result {kind.strip()}', f'parts {len(parts)}', *parts, 'joints 0', 'end')

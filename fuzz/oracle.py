@@ -10,13 +10,15 @@ from dataclasses import dataclass, field
 
 import forms
 
-COMMANDS = {b'check': 1, b'compile': 2, b'link': 1, b'sim': 3, b'build': 1, b'demo': 1, b'tidy': 2, b'gates': 2}
+COMMANDS = {b'check': 1, b'compile': 2, b'link': 1, b'sim': 3, b'build': 1, b'demo': 1, b'tidy': 2, b'gates': 2, b'verify': 2, b'explain': 2}
 FILE = re.compile(rb'[A-Za-z0-9_./-]{1,255}')
 PULSE = re.compile(rf'({forms.N}) {forms.NAME}\.[a-z]+(?: {forms.N})?'.encode())
 FIRST_NUMBER = re.compile(r'[0-9]+')
 # Of these faults the place is the first wrong byte, so a file that is cut there is refused there too.
-CUT = ('O1', 'O3', 'N1', 'N2')
-LIMITS = {'O': 4_194_304, 'N': 268_435_456}
+CUT = ('O1', 'O3', 'N1', 'N2', 'M1')
+LIMITS = {'O': 4_194_304, 'N': 268_435_456, 'M': 268_435_456}
+# The last line of a text that is whole.
+LAST = re.compile(rb'\n(?:end|cycles [0-9]+)\n\Z')
 
 
 @dataclass
@@ -58,7 +60,7 @@ def is_command(words):
         return False
     if words[0] == b'demo':
         return re.fullmatch(rb'[1-9]|1[012]', words[1]) is not None
-    written = words[-1:] if words[0] in (b'compile', b'sim', b'tidy', b'gates') else []
+    written = words[-1:] if words[0] in (b'compile', b'sim', b'tidy', b'gates', b'explain') else []
     return all(FILE.fullmatch(word) for word in words[1:]) and not any(word in words[1:-1] for word in written)
 
 
@@ -86,6 +88,10 @@ def plan_of(words, files):
     sources, objects = [plain(line[2]) for line in instances], [plain(line[3]) for line in instances]
     if command == 'link':
         return Plan([names[0], *objects], [net, verilog], [], [])
+    if command == 'verify':
+        return Plan([names[0], *sources, trace, names[1]])
+    if command == 'explain':
+        return Plan([names[0], *sources, trace], [names[1]])
     return Plan([names[0], *sources, pulses], [*objects, net, verilog, trace], objects, sources)
 
 
@@ -103,7 +109,7 @@ def written_before(command, plan, file, fault):
 def place_is_there(fault, said, text):
     """Whether the place that a fault tells lies in the text of its file."""
     numbers = [int(n) for n in FIRST_NUMBER.findall(re.sub(r'^\w+ ', '', said))]
-    if fault in ('L2', 'L3', 'L4', 'S1', 'S2', 'S3', 'O1', 'O3', 'N1', 'N2'):
+    if fault in ('L2', 'L3', 'L4', 'S1', 'S2', 'S3', 'O1', 'O3', 'N1', 'N2', 'M1'):
         return numbers[-1] <= len(text)
     if fault == 'L1':
         return numbers[0] == 65_537 <= len(text)
@@ -119,7 +125,7 @@ def place_is_there(fault, said, text):
 def wrong_line_of_fault(command, run, files, full):
     """What is wrong with the line of a rejected file; and the file and the fault. A full device is read as zeros without end."""
     file, _, said = run.line.partition(': ')
-    file, fault = plain(file), said.split(' ')[0]
+    file, fault = plain(file), said[:-1].split(' ')[0]
     if not run.line.endswith('\n') or fault not in forms.FAULTS or not forms.FAULTS[fault].fullmatch(said[:-1]):
         return 'the line has no form', file, fault
     if fault[0] not in forms.LETTERS[command]:
@@ -237,8 +243,10 @@ def judge(words, before, run, folders, full):
 def cut_at_fault(run, files):
     """The files with the rejected one cut where its text goes wrong, and the line that has to be told of it; or nothing."""
     file, _, said = run.line.partition(': ')
-    fault, *_, at = said.split()
-    text = files.get(plain(file), b'')[:int(at)] if fault in CUT else b''
-    if fault not in CUT or int(at) == LIMITS[fault[0]] or text.endswith(b'\nend\n'):
+    fault, at = said.split()[0], said.split()[-1]
+    if fault not in CUT:
+        return None
+    text = files.get(plain(file), b'')[:int(at)]
+    if int(at) == LIMITS[fault[0]] or LAST.search(b'\n' + text):
         return None
     return {**files, plain(file): text}, f'{file}: {fault[0]}1 at {at}\n'

@@ -11,7 +11,9 @@ from case import command, lines
 COM = ('com',)
 # Of so many imports those that are there are used again.
 MANY = 50
-WIDTHS = (1, 1, 2, 8, 8, 16, 31, 32)
+WIDTHS = (1, 1, 2, 8, 8, 16, 32, 63, 64)
+# The widths of indexes: an array has 2, 4, 8 or 16 numbers.
+INDEXES = (1, 1, 2, 3, 4)
 TOKEN = re.compile(rb'[A-Za-z_]\w*|[0-9]+|:=|->|\|\||\S')
 SOME_TOKENS = b'import export fun fst snd if then else while do new in skip not com exp var ( ) [ ] , . : ; := || | & + - = < ! * -> x 1 8'.split()
 
@@ -88,8 +90,10 @@ class Writer:
         if size <= 1:
             return self.leaf(kind, scope)
         ways = [self.applied, self.side]
+        if kind[0] == 'var' and self.arrays(kind, scope):
+            ways += [self.accessed] * 4
         if kind[0] in ('com', 'exp'):
-            ways += [self.sequence, self.branch, self.local] * 2
+            ways += [self.sequence, self.branch, self.local] * 2 + [self.block]
         ways += {'com': [self.beside, self.loop, self.assigned] * 3, 'exp': [self.operated] * 5 + [self.read] * 2}.get(kind[0], [])
         if kind[0] in ('fun', 'pair'):
             ways += [self.of_shape] * 6
@@ -124,6 +128,24 @@ class Writer:
         name, width = self.bound(), self.choose.choice(WIDTHS)
         return f'new {name} : {width} in {self.term(kind, scope + [(name, ("var", width))], size)}'
 
+    def block(self, kind, scope, size):
+        """A block with an array. Most often a number of it is written at first."""
+        name, width, index = self.bound(), self.choose.choice(WIDTHS), self.choose.choice(INDEXES)
+        scope, size = scope + [(name, ('fun', ('exp', index), ('var', width)))], size // 2
+        written = ''
+        if self.choose.randrange(4):
+            written = f'{name} {self.term(("exp", index), scope[:-1], size // 2)} := {self.term(("exp", width), scope, size // 2)} ; '
+        return f'new {name}[{2 ** index}] : {width} in {written}{self.term(kind, scope, size)}'
+
+    def arrays(self, kind, scope):
+        """The names of arrays in a scope whose numbers are variables of this type, and the types of their indexes."""
+        return [(name, its[1]) for name, its in scope if its[0] == 'fun' and its[1][0] == 'exp' and its[2] == kind]
+
+    def accessed(self, kind, scope, size):
+        """A number of an array."""
+        name, index = self.choose.choice(self.arrays(kind, scope))
+        return f'{name} {self.term(index, [it for it in scope if it[0] != name], size // 2)}'
+
     def beside(self, _, scope, size):
         left, right = self.apart(scope)
         return f'{self.term(COM, left, size // 2)} || {self.term(COM, right, size // 2)}'
@@ -136,6 +158,9 @@ class Writer:
         return f'{self.term(("var", width), scope, size // 3)} := {self.term(("exp", width), scope, size // 2)}'
 
     def read(self, kind, scope, size):
+        arrays = self.arrays(('var', kind[1]), scope)
+        if arrays and self.choose.randrange(3):
+            return f'!({self.accessed(("var", kind[1]), scope, size)})'
         return f'!{self.term(("var", kind[1]), scope, size // 2)}'
 
     def operated(self, kind, scope, size):

@@ -28,7 +28,7 @@ class Maker:
         known = self.of_type(names, "com")
         if depth == 0 or self.rng.random() < 0.1:
             return self.rng.choice(known) if known else "skip"
-        forms = [self.sequence, self.sequence, self.parallel, self.choice, self.loop, self.assignment, self.block, self.applied, self.projected]
+        forms = [self.sequence, self.sequence, self.parallel, self.choice, self.loop, self.assignment, self.block, self.applied, self.projected, self.table]
         return self.rng.choice(forms)(names, depth - 1)
 
     def sequence(self, names, depth):
@@ -46,10 +46,21 @@ class Maker:
 
     def assignment(self, names, depth):
         known = [(name, ty[1]) for name, ty in names.items() if ty[0] == "var"]
+        known += [(self.place(names, name, depth), ty[2]) for name, ty in names.items() if ty[0] == "array"]
         if not known:
             return self.command(names, depth)
         name, width = self.rng.choice(known)
         return f"({name} := {self.number(names, depth, width)})"
+
+    def table(self, names, depth):
+        """A block with an array of 2, 4 or 8 numbers."""
+        name, index, width = self.fresh(), self.rng.choice([1, 2, 3]), self.rng.choice([1, 4])
+        return f"(new {name}[{2 ** index}] : {width} in {self.command({**names, name: ('array', index, width)}, depth)})"
+
+    def place(self, names, name, depth):
+        """A number of an array, whose index is any that doesn't use the array itself."""
+        others = {other: ty for other, ty in names.items() if other != name}
+        return f"({name} {self.number(others, depth - 1, names[name][1])})"
 
     def block(self, names, depth):
         name, width = self.fresh(), self.rng.choice([1, 4])
@@ -68,6 +79,7 @@ class Maker:
     def number(self, names, depth, width):
         known = self.of_type(names, ("exp", width))
         known += [f"!{name}" for name in self.of_type(names, ("var", width))]
+        known += [f"!{self.place(names, name, depth)}" for name, ty in names.items() if ty[0] == "array" and ty[2] == width]
         if depth <= 0 or self.rng.random() < 0.2:
             return self.rng.choice(known) if known else f"{self.rng.randrange(2 ** width)}:{width}"
         if width == 1 and self.rng.random() < 0.6:

@@ -284,7 +284,7 @@ class Description:
         line.want("a", "variable")
         if line.may("of"):
             at = line.at
-            if line.number(1, 32, "a number of bits") != bits:
+            if line.number(1, 64, "a number of bits") != bits:
                 raise line.wrong(f"{port.name} has {bits} bits", at)
             line.want_one("bit")
         memory = Memory(port.name, bits, [line.value(bits) if line.may("from") else 0])

@@ -320,9 +320,9 @@ def of_shared(data, values):
 def of_width(data, values):
     """C6: how many bits a number needs."""
     number, bits = int(values["K"]), int(values["W"])
-    if number and 1 <= bits <= 32:
+    if number and 1 <= bits <= 64:
         yield f"{number} needs {number.bit_length()} bits"
-    elif bits > 32:
+    elif bits > 64:
         yield "hold more bits in two numbers"
 
 

@@ -18,7 +18,7 @@ GATES = {
     "assign": "or or gate or", "deref": "or or gate",
 }
 LOCAL = "reg or gate reg not gate mux reg or"
-ARRAY = "reg or reg not and or reg mux reg not and and reg reg gate reg not const or"
+ARRAY = "reg or reg not and or reg mux reg not and and reg reg reg gate not const or"
 ARRAY_NUMBER = "const eq and gate mux reg mux"
 
 

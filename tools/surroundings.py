@@ -15,7 +15,10 @@ NEVER = -1
 
 
 class Dice:
-    """Numbers by chance, one row of them for each port and seed (Marsaglia's xorshift of 32 bits)."""
+    """
+    Numbers by chance, one row of them for each port and seed (Marsaglia's xorshift of 32 bits). One of a wider range is made of two
+    of the row, the first its higher half.
+    """
 
     FUNCTION = [
         "function [31:0] stirred(input [31:0] s);",
@@ -44,17 +47,25 @@ class Dice:
         if low == high:
             return low
         self.stir()
-        return low + self.state % (high - low + 1)
+        number = self.state
+        if high - low >= 2**32:
+            self.stir()
+            number = (number << 32) + self.state
+        return low + number % (high - low + 1)
 
     def thrown(self, low, high):
         """The same in Verilog: statements, and then the number as an expression."""
         if low == high:
-            return [], str(low)
-        number = self.net if high - low + 1 == 2**32 else f"(32'd{low} + {self.net} % 32'd{high - low + 1})"
-        return [f"{self.net} = stirred({self.net});"], number
+            return [], str(low) if low < 2**31 else f"64'd{low}"
+        count, bits = high - low + 1, 64 if high >= 2**32 else 32
+        is_pair = count > 2**32
+        dice = f"{{{self.net}__high, {self.net}}}" if is_pair else self.net
+        number = dice if count == 2**bits else f"({bits}'d{low} + {dice} % {bits}'d{count})"
+        first = [f"{self.net}__high = stirred({self.net});"] if is_pair else []
+        return [*first, f"{self.net} = stirred({self.net}{'__high' if is_pair else ''});"], number
 
     def declared(self):
-        return [f"reg [31:0] {self.net} = 32'd{self.first};"]
+        return [f"reg [31:0] {self.net} = 32'd{self.first};", f"reg [31:0] {self.net}__high = 0;"]
 
 
 @dataclass

@@ -14,7 +14,7 @@ NAME = r"[A-Za-z_][A-Za-z0-9_]*"
 PLACE = re.compile(r"\{([^{}\n]*)\}")
 DECLARATION = re.compile(rf"\{{\s*({NAME})\s*(?:=\s*(\d+|{NAME})\s*)?(?:,\s*(\d+)\s+to\s+(\d+)\s*)?:\s*(.*?)\s*\}}\s*")
 SYMBOL = re.compile(rf"\s*(?:(\d+)|({NAME})|(\S))")
-MOST = 2**32 - 1
+MOST = 2**64 - 1
 HEAD = re.compile(r"# By gos-make, from [^\n]*; sum ([0-9a-f]{8})\.\n")
 
 

@@ -2,9 +2,10 @@
 
 Its crates are `gos` over `gos_top` over `gos_left` and `gos_right` over `gos_low`, and `gos_tests`, which the program doesn't need.
 Each run of this rt is two lines of `journal`. It makes programs that do what the given lines of a shell say; `rt lib` fails where a
-library below the crate isn't there, and where FAILS names the crate. NO_TRY has `rt try` fail, and REFUSED has it refuse the
-sources; MEET has `gos_left` and `gos_right` wait for one another; KIT is what `rt version` prints. While there is a file `hold`
-each `rt lib` waits. No wait is longer than half a minute.
+library below the crate isn't there, and where FAILS names the crate; `rt must-fail` says of each edit over which libraries it is
+tried, and fails with FAILS. NO_TRY has `rt try` fail, and REFUSED has it refuse the sources; MEET has `gos_left` and `gos_right`
+wait for one another; KIT is what `rt version` prints. While there is a file `hold` each `rt lib` waits. No wait is longer than half
+a minute.
 """
 import os
 import re
@@ -64,6 +65,14 @@ lib)
 run)
     [ "$FAILS" != gos ] || exit 1
     cp PROGRAM out/gos
+    ;;
+must-fail)
+    for it in "${@:2}"; do
+        for edit in crates/$it/must-fail/*; do
+            echo "$it/${edit##*/}: refused, over $(echo crates/*/out/rlib/stamp)"
+        done
+    done
+    [ -z "$FAILS" ] || exit 1
     ;;
 ci)
     mkdir -p crates/gos/out

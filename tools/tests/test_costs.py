@@ -28,7 +28,8 @@ FORMS = [
     "skip", "skip ; skip", "skip || skip", "x := 1:8", "x := not 1:8", "x := 1:8 + 2:8", "y := !x", "y := !x + 1:8",
     "x := 1:8 ; y := 2:8", "x := 1:8 || y := 2:8", "x := 1:8 ; x := 2:8", "x := !x + 1:8",
     "if 1:1 then skip else skip", "if !x = 0:8 then y := 1:8 else skip", "x := (if 1:1 then 1:8 else 2:8)", "while 0:1 do skip",
-    "new z : 8 in skip", "(fun c : com . c) (x := 1:8)", "(fun c : com . c ; c) (x := 1:8)", "fst (x := 1:8, y := 1:8)",
+    "new z : 8 in skip", "new z[2] : 8 in skip", "new z[16] : 8 in skip", "new z[4] : 8 in z 1:2 := 1:8", "new z[4] : 8 in y := !(z 1:2)",
+    "(fun c : com . c) (x := 1:8)", "(fun c : com . c ; c) (x := 1:8)", "fst (x := 1:8, y := 1:8)",
 ]
 UP, DOWN = "new i : 8 in while !i < {0}:8 do {1}", "new i : 8 in (i := {0}:8 ; while not (!i = 0:8) do {1})"
 LOOPS = {

@@ -22,7 +22,7 @@ FILES = {
     "main.gos": "import p : com\nimport q : exp 4 -> com\nimport d : com\nexport p ; q 3:4 ; d : com\n",
     "p.gos": "# {no template}\nexport skip : com\n",
     "q.gos.in": "{W = 8: bits}\n{E: what it ends with}\nimport {E} : com\nexport fun x : exp {W} . {E} : exp {W} -> com\n",
-    "bad.gos.in": "{W = 8, 1 to 32: bits}\nexport {V}:{W} : exp {W}\n",
+    "bad.gos.in": "{W = 8, 1 to 64: bits}\nexport {V}:{W} : exp {W}\n",
     "broken.gos.in": "{W = 8: bits}\nexport {2*(W}:{W} : exp {W}\n",
     "twice.gos.in": "{W: bits}\n{W: bits}\nexport skip : com\n",
     "a.gos": "import b : com\nexport b : com\n",
@@ -172,7 +172,8 @@ class Values(built.Case):
             self.assertEqual(self.value(text, W=8, E="e"), value, text)
 
     def test_faults(self):
-        for text, said in {"1-2": "this is -1, and numbers are 0 to 4294967295", "2^32": "this is 4294967296, and numbers are 0 to 4294967295",
+        for text, said in {"1-2": "this is -1, and numbers are 0 to 18446744073709551615",
+                           "2^64": "this is 18446744073709551616, and numbers are 0 to 18446744073709551615",
                            "2^99": "this power is too great", "1/0": "0 stands behind `/`", "(W": "a bracket isn't closed", "": "the expression ends too early",
                            "W W": "`W` can't stand here", "W?": "`?` can't stand here", "E+1": "`E` is the name e, and a number is wanted",
                            "1+": "the expression ends too early", "bits": "`bits` can't stand here"}.items():
@@ -191,7 +192,7 @@ class Library(built.Case):
     def test_each_is_a_module_at_other_values(self):
         for template in TEMPLATES:
             declared = templates.read(template).declared
-            for value in (1, 7, 32):
+            for value in (1, 7, 64):
                 name = template.name.removesuffix(".gos.in")
                 (self.room.path / "m.gos").write_text(made(name, *(f"{it}={value}" for it in declared)))
                 ran = self.room.run(self.room.gos, "check", "m.gos")
@@ -207,11 +208,11 @@ class Library(built.Case):
         main += f"export {name} {' '.join(it for it, _ in arguments[0])}{rest} : {type.rsplit('-> ', 1)[1]}\n"
         answers = [[f"{it}.ans {number}" for (it, _), number in zip(arguments[0], numbers)] + ["rest.done"] * bool(rest) for numbers in arguments[1]]
         pulses = "".join(f"next 0 main.ask\n{''.join(f'next 0 {it}{chr(10)}' for it in some)}" for some in answers)
-        found = self.room.build({"main": main, name: text}, f"cycles {3000 * len(answers)}\n{pulses}", [f"main {name} {name}"])
+        found = self.room.build({"main": main, name: text}, f"cycles {6000 * len(answers)}\n{pulses}", [f"main {name} {name}"])
         self.assertEqual((found.values("main.ans"), found.unused), (wanted, 0), (name, value))
 
     def test_numbers_of_other_widths(self):
-        for width in (5, 32):
+        for width in (5, 64):
             most = 2**width - 1
             pairs = [(x & most, y & most) for x, y in ((0, 1), (most, most), (most, 3), (0xABCDEF01, 0x1234567))]
             both = [("x", width), ("y", width)]

@@ -164,6 +164,13 @@ class Playing(unittest.TestCase):
         self.assertEqual(once, again)
         self.assertNotEqual(once, other)
 
+    def test_chance_of_64_bits(self):
+        dice = surroundings.Dice("e", 1, 0)
+        numbers = [dice.throw(2**63, 2**64 - 1) for _ in range(99)]
+        self.assertTrue(all(2**63 <= number < 2**64 for number in numbers) and any(number >> 32 != 2**31 for number in numbers))
+        self.assertEqual(dice.thrown(0, 2**64 - 1)[1], "{e__dice__high, e__dice}")
+        self.assertEqual(dice.thrown(2**63, 2**63)[1], f"64'd{2**63}")
+
     def test_long_waits_cost_nothing(self):
         lines, _, _ = played(SEQUENCE, "main runs once\nc answers after 900000 cycles\nd answers\n", 1_000_000)
         self.assertEqual(lines[-1], "900003 main.done")

@@ -25,7 +25,7 @@ TOP = Path(__file__).resolve().parent.parent.parent
 TOOLS, LATCH = TOP / "tools", TOP / "examples" / "latch"
 # What tools/quick and the gate run.
 TRIED = ("tools/house", "examples/run", "fuzz/run", "fuzz/test_oracle.py", "tools/tests/test_tools.py", "tools/tests/tutorial",
-         *(f"tools/tests/test_{it}.py" for it in "play where lsp costs cookbook lib make examples language".split()))
+         *(f"tools/tests/test_{it}.py" for it in "play where lsp costs cookbook lib make moves examples language".split()))
 WORDS = re.search(r"The words are `([^`]+)`", (TOP / "docs" / "LANGUAGE.md").read_text().replace("\n  ", " "))[1].split()
 
 
@@ -556,6 +556,7 @@ class Script(Standin):
         self.refused("gos build b.txt", "main.gos and ./main.gos " + read.format("build"))
         self.build_file(trace="x/../in.pls")
         self.refused("mkdir x; gos build b.txt", "in.pls and x/../in.pls " + read.format("build"))
+        self.refused("gos explain b.txt ./main.gos", "./main.gos and main.gos " + read.format("explain"))
         self.refused("touch demo.v; ln demo.v demo_l2.obj; gos demo 2", "demo.v and demo_l2.obj " + twice.format("demo"))
         self.assertEqual(self.repository.runs("try"), [])
 
@@ -593,7 +594,7 @@ class Script(Standin):
         formats = (TOP / "docs/FORMATS.md").read_text()
         self.assertEqual(ran.stdout.split("\n")[0], re.search(r"^    (usage: gos .*)$", formats, re.M)[1])
         commands = re.findall(r"^\| `([a-z]+ [A-Z ]+)` \|", formats.split("\n## ")[1], re.M)
-        self.assertEqual(len(commands), 9)
+        self.assertEqual(len(commands), 10)
         for command in commands:
             self.assertRegex(ran.stdout, rf"(?m)^  {command}  ")
         for status in (*range(6), 70, 127):
@@ -732,6 +733,39 @@ class Prove(Standin):
         ran = self.do("prove", KIT=f"{kit} logic 0")
         self.assertIn(": the proof decides\n", ran.stderr)
         self.assertEqual(ran.returncode, 0)
+
+
+class Edits(Standin):
+    """tools/edits."""
+
+    def setUp(self):
+        super().setUp()
+        for name in ("gos_low/must-fail/one", "gos_low/edits/two", "gos_left/edits/three", "gos_right/edits/none"):
+            path = self.top / "crates" / f"{name}.edit"
+            path.parent.mkdir()
+            path.write_text("file: src/lib.rt\n")
+        self.do("prove")
+
+    def test_each_is_tried_over_what_is_proved(self):
+        over, over_all = "crates/gos_low/out/rlib/stamp", "crates/gos_left/out/rlib/stamp crates/gos_low/out/rlib/stamp"
+        ran = self.do("edits gos_low")
+        lines = [f"gos_low/{name}.edit: refused, over {over}" for name in ("one", "two")]
+        self.assertEqual(ran.stdout.split("\n")[1:], [*lines, "edits: 2 tried, each is refused", ""])
+        ran = self.do("edits gos_left")
+        self.assertIn(f"\ngos_left/three.edit: refused, over {over_all}\n", ran.stdout)
+        self.assertEqual((ran.stderr, ran.returncode), ("gos: 1 edits of 1 crates are tried\n", 0))
+        self.assertEqual((self.repository.runs("lib").count("gos_low"), list(self.out.glob("gos-edits*"))), (1, []))
+
+    def test_one_that_passes(self):
+        ran = self.do("edits", FAILS="yes")
+        self.assertEqual((ran.stdout.split("\n")[-2], ran.returncode), ("edits: 4 tried, NOT all are refused", 1))
+
+    def test_what_cannot_be_tried(self):
+        for name, why in (("gos_top", "these crates have no edits"), ("gos_none", "gos_none: no crate of crates.txt")):
+            ran = self.do(f"edits {name}")
+            self.assertEqual((ran.stderr, ran.returncode), (f"gos: {why}\n", 70))
+        shutil.rmtree(self.top / "crates/gos_low/out")
+        self.assertIn("gos: gos_low: not proved here yet", self.do("edits gos_left").stderr)
 
 
 if __name__ == "__main__":

@@ -66,7 +66,7 @@ TERMS = {
     "if true then c else d": "a truth is a number of 1 bit: `1:1`",
     "new count : 8 in cuont := 1:8": "is `count` meant?",
     "v := 300:8": "300 needs 9 bits",
-    "v := 1:40": "hold more bits in two numbers",
+    "v := 1:70": "hold more bits in two numbers",
     "g e (v := e)": "put it into a local before, for one of them: `new t : 8 in (t := e ; ..)`, and `!t` in its place",
     "g (!v) (v := e)": "put it into a local before, for one of them: `new t : 8 in (t := !v ; ..)`, and `!t` in its place",
     "new x in c": "a local has its bits: `new x : 8 in ..`",
