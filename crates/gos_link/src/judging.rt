@@ -2,7 +2,8 @@
 //
 // Of a plan this reads the imports and the result alone, so that a plan of no part and no joint says enough: specs/Faces.
 
-ghost use Rattle.std.specs.Prelude.{◌≡◌, ◌≢◌, IfOk, IfErr};
+ghost use Rattle.std.specs.Prelude.{◌≡◌, ◌≢◌, [], None, length, IfOk, IfErr};
+ghost use Rattle.gos_link.specs.Services.{BindsOn};
 ghost use Rattle.gos_link.specs.Linked.{AreLinks, IsGrounded, IsLinkable, IsOfLinks, IsUnlinked, IsWrongWhole};
 ghost use Rattle.gos_link.specs.inner.Judged.{IsJudged};
 
@@ -78,6 +79,44 @@ fn check_ports(
     check_imports(alloc, &opens)
 }
 
+// The root of a build whose bind lines are right and mean these services, if the rest is right too.
+fn root_on(
+    alloc: Global,
+    build: &Build,
+    plans: &[Plan],
+    instances: &Instances,
+    services: &Services,
+) -> Result<usize, LinkFault>
+    requires instances { instances.now ≡ build.now.instances.items }
+    requires each { length plans.now ≡ length build.now.instances.items }
+    requires binds { BindsOn build.now.instances.items plans.now [] build.now.binds.items services.now None }
+    ensures grounded { IfOk result (IsGrounded build.now plans.now services.now) }
+    ensures fault { IfErr result (λ fault. fault ≢ LinkFault.NoMemory → IsWrongWhole build.now plans.now services.now fault) }
+    ensures light { IfErr result IsOfLinks }
+{
+    let root = root_of(alloc, build, instances, services)?;
+    check_ports(alloc, build, plans, services, root)?;
+    Ok(root)
+}
+
+// The links of a build of these instances.
+fn links_on(
+    alloc: Global,
+    build: &Build,
+    plans: &[Plan],
+    instances: &Instances,
+) -> Result<Links, LinkFault>
+    requires instances { instances.now ≡ build.now.instances.items }
+    requires each { length plans.now ≡ length build.now.instances.items }
+    ensures links { IfOk result (AreLinks build.now plans.now) }
+    ensures fault { IfErr result (λ fault. fault ≢ LinkFault.NoMemory → IsUnlinked build.now plans.now fault) }
+    ensures light { IfErr result IsOfLinks }
+{
+    let services = services_of(alloc, instances, plans, &build.binds)?;
+    let root = root_on(alloc, build, plans, instances, &services)?;
+    Ok(Links { services, root })
+}
+
 /// Judges a build before its weight, over plans for its instances, which are given in their order and within the limits of
 /// object files. What it answers hangs on their imports and results alone (`one_face`).
 ///
@@ -91,8 +130,5 @@ pub fn judge_links(alloc: Global, build: &Build, plans: &[Plan]) -> Result<Links
     ensures light { IfErr result IsOfLinks }
 {
     let instances = Instances::new(alloc, &build.instances)?;
-    let services = services_of(alloc, &instances, plans, &build.binds)?;
-    let root = root_of(alloc, build, &instances, &services)?;
-    check_ports(alloc, build, plans, &services, root)?;
-    Ok(Links { services, root })
+    links_on(alloc, build, plans, &instances)
 }

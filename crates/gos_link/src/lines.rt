@@ -65,6 +65,21 @@ fn add_given(alloc: Global, given: &mut Given, said: &Said) -> Result<(), NoMemo
     }
 }
 
+// Adds a line to a list, and to sets the names that it gives.
+fn add_item(
+    alloc: Global,
+    items: &mut Vec<Item>,
+    given: &mut Given,
+    item: Item,
+) -> Result<(), NoMemory>
+    ensures items { OnOk result (items.new.items ≡ items.old.items ++ item ∷ []) }
+    ensures given { OnOk result (AreGiven items.old.items given.old → AreGiven items.new.items given.new) }
+{
+    add_given(alloc, given, &item.said)?;
+    items.push(item)?;
+    Ok(())
+}
+
 /// The lines of a build file so far, with sets of the names that they give. A contract sees the lines.
 #[derive(Drop)]
 pub(crate) struct Lines {
@@ -107,8 +122,7 @@ impl Lines {
             mut items,
             mut given,
         } = self;
-        add_given(alloc, &mut given, &item.said)?;
-        items.push(item)?;
+        add_item(alloc, &mut items, &mut given, item)?;
         Ok(Lines { items, given })
     }
 

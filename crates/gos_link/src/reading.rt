@@ -1,6 +1,6 @@
 // The reader of build files.
 
-ghost use Rattle.std.specs.Prelude.{◌≡◌, ◌≢◌, ◌<◌, ◌≤◌, ◌+◌, ◌&&◌, ◌^◌, [], ℕ, Some, None, map, length, IfOk, IfErr, MatchOption};
+ghost use Rattle.std.specs.Prelude.{◌≡◌, ◌≢◌, ◌<◌, ◌≤◌, ◌+◌, ◌&&◌, ◌^◌, ◌∷◌, ◌++◌, [], ℕ, Some, None, map, length, IfOk, IfErr, MatchOption};
 ghost use Rattle.std.specs.Str.Lines.{lines};
 ghost use Rattle.gos_lex.specs.Lines.{statements_from};
 ghost use Rattle.gos_link.specs.BuildFile.{
@@ -67,14 +67,30 @@ fn read_items(alloc: Global, text: &[u8], own: &[u8]) -> Result<Vec<Item>, LinkF
             None => return Ok(lines.into_items()),
             Some(next) => {
                 line += next.skipped;
-                match read_item(alloc, next.words.as_slice(), own, &lines)? {
-                    Some(said) => lines = lines.with(alloc, Item { line, said })?,
-                    None => return Err(LinkFault::Form { line }),
-                }
+                lines = lines_with(alloc, line, next.words.as_slice(), own, lines)?;
                 line += 1;
                 rest = next.rest;
             }
         }
+    }
+}
+
+// The lines before, and then what the line of these words and of this number says, if it is right after them.
+fn lines_with(
+    alloc: Global,
+    line: u64,
+    words: &[&[u8]],
+    own: &[u8],
+    before: Lines,
+) -> Result<Lines, LinkFault>
+    ensures right { IfOk result (λ lines. (said : Said) × IsRightAfter own.now before (map (λ word. word.now) words.now) said
+        × (lines ≡ before ++ (record { line = line; said = said }) ∷ [])) }
+    ensures fault { IfErr result (λ fault. fault ≢ LinkFault.NoMemory → (fault ≡ LinkFault.Form line)
+        × ((said : Said) → IsRightAfter own.now before (map (λ word. word.now) words.now) said → ⊥)) }
+{
+    match read_item(alloc, words, own, &before)? {
+        Some(said) => Ok(before.with(alloc, Item { line, said })?),
+        None => Err(LinkFault::Form { line }),
     }
 }
 

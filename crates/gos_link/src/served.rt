@@ -62,6 +62,24 @@ fn add_used(used: &mut IndexMap<usize, usize>, giver: usize, number: usize) -> R
     Ok(())
 }
 
+// Adds a service to a list, and to tables what it is the first of.
+fn add_service(
+    all: &mut Vec<Service>,
+    bound: &mut IndexMap<(usize, usize), usize>,
+    used: &mut IndexMap<usize, usize>,
+    service: Service,
+) -> Result<(), NoMemory>
+    ensures all { OnOk result (all.new.items ≡ all.old.items ++ service ∷ []) }
+    ensures served { OnOk result (AreServed all.old.items bound.old.entries used.old.entries
+        → AreServed all.new.items bound.new.entries used.new.entries) }
+{
+    let number = all.len();
+    add_bound(bound, (service.user, service.import), number)?;
+    add_used(used, service.giver, number)?;
+    all.push(service)?;
+    Ok(())
+}
+
 impl Services {
     /// No services.
     pub fn new(alloc: Global) -> Services
@@ -83,10 +101,7 @@ impl Services {
             mut bound,
             mut used,
         } = self;
-        let number = all.len();
-        add_bound(&mut bound, (service.user, service.import), number)?;
-        add_used(&mut used, service.giver, number)?;
-        all.push(service)?;
+        add_service(&mut all, &mut bound, &mut used, service)?;
         Ok(Services { all, bound, used })
     }
 
