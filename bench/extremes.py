@@ -23,6 +23,7 @@ Nth part of it:
     netlist     `sim` of a netlist file of 268,435,457 bytes, one too many, which is refused before all else
     pulses      `sim` under a pulse file of 16,777,216 bytes, all but the first line comments
     labels      `verify` of a trace of 1,000,000 labels of a loop, by five lines of moves for each two
+    found       `explain` of that trace
     steps       `verify` of a file of moves that is as long as one may be, of steps of a loop
 
 Each is run with a half of that too. Times are of the processor, and each is the least of three runs, or of one that takes ten
@@ -139,6 +140,11 @@ def labels(folder, many):
     return ['verify', 'b.txt', 'm.txt'], 'm.txt'
 
 
+def found(folder, many):
+    labels(folder, many)
+    return ['explain', 'b.txt', 'f.txt'], 'o.trc'
+
+
 def steps(folder, many):
     """A file of moves of so many bytes at most, of lines that take the most memory for a byte."""
     labels(folder, 3)
@@ -203,7 +209,8 @@ EXTREMES = {
     'names': (names, 42, 'modules', 0), 'open': (open_brackets, 1_024, 'brackets', 2), 'heavy': (heavy, 819, 'commands', 0),
     'instances': (instances, 3_000, 'instances', 2), 'linked': (in_a_chain, 2_400, 'instances', 0),
     'netlist': (long_netlist, 268_435_457, 'bytes', 2), 'pulses': (long_pulses, 16_777_216, 'bytes', 0),
-    'labels': (labels, 1_000_000, 'labels', 0), 'steps': (steps, 268_435_456, 'bytes', 0),
+    'labels': (labels, 1_000_000, 'labels', 0), 'found': (found, 1_000_000, 'labels', 0),
+    'steps': (steps, 268_435_456, 'bytes', 0),
 }
 WITH_GOS = (instances, in_a_chain)
 
