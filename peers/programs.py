@@ -1,8 +1,10 @@
 """Random programs of the language, typed by its rules: each name is free in at most one part of a `||` or an application."""
 
 COMMANDS = ["c0", "c1", "c2"]
-NUMBERS = {"e0": 4, "e1": 4, "t0": 1, "t1": 1}
-VARIABLES = {"v0": 4, "v1": 1}
+# Numbers have one bit, or as many as a program's wide ones.
+NUMBERS = {"e0": True, "e1": True, "t0": False, "t1": False}
+VARIABLES = {"v0": True, "v1": False}
+WIDE = [4, 4, 4, 31, 32, 33, 63, 64]
 
 
 class Maker:
@@ -10,6 +12,7 @@ class Maker:
 
     def __init__(self, rng):
         self.rng = rng
+        self.wide = rng.choice(WIDE)
         self.bound = 0
 
     def fresh(self):
@@ -54,7 +57,7 @@ class Maker:
 
     def table(self, names, depth):
         """A block with an array of 2, 4 or 8 numbers."""
-        name, index, width = self.fresh(), self.rng.choice([1, 2, 3]), self.rng.choice([1, 4])
+        name, index, width = self.fresh(), self.rng.choice([1, 2, 3]), self.rng.choice([1, self.wide])
         return f"(new {name}[{2 ** index}] : {width} in {self.command({**names, name: ('array', index, width)}, depth)})"
 
     def place(self, names, name, depth):
@@ -63,15 +66,15 @@ class Maker:
         return f"({name} {self.number(others, depth - 1, names[name][1])})"
 
     def block(self, names, depth):
-        name, width = self.fresh(), self.rng.choice([1, 4])
+        name, width = self.fresh(), self.rng.choice([1, self.wide])
         return f"(new {name} : {width} in {self.command({**names, name: ('var', width)}, depth)})"
 
     def applied(self, names, depth):
         name, (left, right) = self.fresh(), self.parted(names)
         if self.rng.random() < 0.5:
             return f"((fun {name} : com . {self.command({**left, name: 'com'}, depth)}) {self.command(right, depth)})"
-        body = self.command({**left, name: ("exp", 4)}, depth)
-        return f"((fun {name} : exp 4 . {body}) {self.number(right, depth, 4)})"
+        body = self.command({**left, name: ("exp", self.wide)}, depth)
+        return f"((fun {name} : exp {self.wide} . {body}) {self.number(right, depth, self.wide)})"
 
     def projected(self, names, depth):
         return f"({self.rng.choice(['fst', 'snd'])} ({self.command(names, depth)}, {self.command(names, depth)}))"
@@ -84,7 +87,7 @@ class Maker:
             return self.rng.choice(known) if known else f"{self.rng.randrange(2 ** width)}:{width}"
         if width == 1 and self.rng.random() < 0.6:
             sign = self.rng.choice(["=", "<"])
-            return f"({self.number(names, depth - 1, 4)} {sign} {self.number(names, depth - 1, 4)})"
+            return f"({self.number(names, depth - 1, self.wide)} {sign} {self.number(names, depth - 1, self.wide)})"
         if self.rng.random() < 0.2:
             return f"(not {self.number(names, depth - 1, width)})"
         if self.rng.random() < 0.2:
@@ -95,10 +98,10 @@ class Maker:
 
 def random_build(rng, folder):
     """Writes a program with a library, a build file, and a pulse file that begins the run."""
-    imports = {name: "com" for name in COMMANDS}
-    imports |= {name: ("exp", width) for name, width in NUMBERS.items()}
-    imports |= {name: ("var", width) for name, width in VARIABLES.items()}
     maker = Maker(rng)
+    imports = {name: "com" for name in COMMANDS}
+    imports |= {name: ("exp", maker.wide if is_wide else 1) for name, is_wide in NUMBERS.items()}
+    imports |= {name: ("var", maker.wide if is_wide else 1) for name, is_wide in VARIABLES.items()}
     lines = [f"import {name} : {ty if ty == 'com' else ' '.join(map(str, ty))}" for name, ty in imports.items()]
     left, right = maker.parted(imports)
     body = f"(f {maker.command(right, 2)} ; {maker.command(left, 4)})"
