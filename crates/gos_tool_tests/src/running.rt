@@ -1,5 +1,4 @@
 // A command over files in memory, and what it leaves and tells.
-use gos_command::{Report, Stop};
 use gos_outside::{SureSink, SureStore};
 use gos_tool::run;
 use std::alloc::{AllocError, Global};
@@ -83,24 +82,6 @@ pub fn ran(alloc: Global, words: &[&str], files: &[(&[u8], &[u8])]) -> Result<Le
     let mut out = SureSink::new(alloc);
     let code = run(alloc, words.as_slice(), &mut store, &mut out).code();
     Ok(Left { code, out, store })
-}
-
-/// The weight that is told, or none.
-pub fn told_weight(ended: Result<Report, Stop>) -> Option<u64> {
-    match ended {
-        Ok(Report::Weight(weight)) => Some(weight),
-        _ => None,
-    }
-}
-
-/// The line of a file that is rejected, or nothing.
-pub fn told_line(alloc: Global, ended: Result<Report, Stop>) -> Vec<u8> {
-    match ended {
-        Err(Stop::Rejected(rejection)) => rejection.line,
-        Err(Stop::StoreFailed) => Vec::new(alloc),
-        Err(Stop::NoMemory) => Vec::new(alloc),
-        Ok(_) => Vec::new(alloc),
-    }
 }
 
 /// The lines of a trace without the numbers of their cycles.
