@@ -6,8 +6,10 @@ pub mod GrowLemmas
 pub mod WholeLemmas
 pub mod RewiredLemmas
 pub mod BodyLemmas
-pub mod TypedLemmas
 pub mod OpenLemmas
+pub mod NameLemmas
+pub mod OriginLemmas
+pub mod TypedLemmas
 pub mod LinkedLemmas
 pub mod ModuleLemmas
 pub mod SmallLemmas

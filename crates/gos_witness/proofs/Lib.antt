@@ -35,6 +35,13 @@ pub mod SmallLineLemmas
 pub mod SmallStepLemmas
 pub mod ExplainLemmas
 pub mod LeadLemmas
+pub mod SearchLemmas
+pub mod RefusedLemmas
+pub mod EndLemmas
+pub mod TurnLemmas
+pub mod WayLemmas
+pub mod CandidateLemmas
+pub mod MaskLemmas
 pub mod VerifyLemmas
 pub mod StageLemmas
 pub mod PassLemmas

@@ -129,7 +129,7 @@ whole_lead : (p : SeenProgram) (labels : List Label) (lines : List Line) (g : St
 whole_lead p labels lines g passed =
     subst (λ (ls : List Line). Lead (program_of p) ls (start (labels_of p.ports labels)) (stand_of p.ports labels g)) (take_all (length lines) lines (omega arith)) passed.lead
 
-labels_length : (ports : List ProgramPort) (labels : List Label) → length (labels_of ports labels) ≡ length labels
+pub labels_length : (ports : List ProgramPort) (labels : List Label) → length (labels_of ports labels) ≡ length labels
 labels_length ports [] = refl
 labels_length ports (o ∷ labels) = ap suc (labels_length ports labels)
 

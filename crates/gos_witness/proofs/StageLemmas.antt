@@ -39,7 +39,7 @@ drop_none [] (suc n) e = refl
 drop_none (l ∷ labels) zero e = absurd (none-some l (sym e))
 drop_none (l ∷ labels) (suc n) e = drop_none labels n e
 
-left_some : (ports : List ProgramPort) (labels : List Label) (n : ℕ) (o : Label) → slice_get labels n ≡ Some o
+pub left_some : (ports : List ProgramPort) (labels : List Label) (n : ℕ) (o : Label) → slice_get labels n ≡ Some o
     → labels_of ports (drop n labels) ≡ label_of ports o ∷ labels_of ports (drop (suc n) labels)
 left_some ports labels n o e = ap (labels_of ports) (drop_some labels n o e)
 
@@ -98,6 +98,7 @@ begin_made p labels g h o stage there none at ep es ek keeps er empty em =
           (label_of p.ports o ∷ labels_of p.ports (drop (suc g.matched) labels)) (stand_of p.ports labels h) (idles g.list g.running g.store.items none)
           (left_some p.ports labels g.matched o at)
           (given_of p.ports o 0 0 ep es ek, stands p labels h (Running (seen p.list p.root) []) (suc g.matched) (config known) em),
+      keeps,
     )
   where
     next : h.matched ≤ length labels
@@ -151,6 +152,7 @@ answer_made p labels g h root o stage some at answers keeps er narrow em = (
       (labels_of p.ports (drop g.matched labels)) (label_of p.ports o ∷ labels_of p.ports (drop (suc g.matched) labels)) (stand_of p.ports labels h)
       (runs g.list g.running root g.store.items some) (left_some p.ports labels g.matched o at)
       (answers, stands p labels h Idle (suc g.matched) (idles h.list h.running h.store.items er) em),
+  keeps,
 )
   where
     next : h.matched ≤ length labels
@@ -212,6 +214,7 @@ unfold_made p labels g h root next path stage some (there, does) keeps er es em 
       (labels_of p.ports (drop g.matched labels)) (labels_of p.ports (drop g.matched labels)) (stand_of p.ports labels h)
       (runs g.list g.running root g.store.items some) refl
       (seen h.list next, does, stands p labels h (Running (seen h.list next) (entries_of g.store.items)) g.matched config em),
+  keeps,
 )
   where
     config : config_of h.list h.running h.store.items ≡ Running (seen h.list next) (entries_of g.store.items)
@@ -240,6 +243,7 @@ step_made p labels g h root next path stage some (there, does) keeps er narrow e
         does,
         stands p labels h (Running (seen h.list next) (entries_of h.store.items)) g.matched (runs h.list h.running next h.store.items er) em,
       ),
+  keeps,
 )
 
 pub step_wrong : (p : SeenProgram) (labels : List Label) (g h : Stage) (l : Listed) (s : List Entry) (root : ℕ) (path : List ℕ) → g.running ≡ Some root
@@ -261,6 +265,7 @@ show_made p labels g h root next path o stage some at (there, does) keeps er es 
       (labels_of p.ports (drop g.matched labels)) (label_of p.ports o ∷ labels_of p.ports (drop (suc g.matched) labels)) (stand_of p.ports labels h)
       (runs g.list g.running root g.store.items some) (left_some p.ports labels g.matched o at)
       (seen h.list next, does, stands p labels h (Running (seen h.list next) (entries_of g.store.items)) (suc g.matched) config em),
+  keeps,
 )
   where
     used : h.matched ≤ length labels

@@ -59,14 +59,6 @@ IsFaultOfFind p ls (faults.Spent k) = IsSpent p ls k
 IsFaultOfFind p ls (faults.Nodes n) = HasLarge p ls n
 IsFaultOfFind p ls f = ⊥
 
--- what is promised of the fault that is given: a term that is too large is there
-abbrev pub IsLargeFault : Program → List Label → ExplainFault → Type 0
-IsLargeFault p ls (faults.Nodes n) = HasLarge p ls n
-IsLargeFault p ls (faults.NotTrace k) = Unit {0}
-IsLargeFault p ls (faults.Spent k) = Unit {0}
-IsLargeFault p ls faults.NoMemory = Unit {0}
-IsLargeFault p ls f = ⊥
-
 -- one label at most is the first that can't come, and there is none in a trace
 abbrev pub OneIsNotTrace : Type 0
 OneIsNotTrace = (p : Program) (ls : List Label) (j k : ℕ) → IsNotTrace p ls j → IsNotTrace p ls k → j ≡ k

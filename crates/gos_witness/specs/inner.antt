@@ -14,4 +14,7 @@ pub mod Rows
 pub mod Changes
 pub mod Whole
 pub mod Stages
+pub mod Searches
 pub mod Finds
+pub mod PortMasks
+pub mod Ends

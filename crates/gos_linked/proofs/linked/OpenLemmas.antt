@@ -18,7 +18,7 @@ use Rattle.gos_link.specs.declared.build.Build.{Build}
 use Rattle.gos_link.specs.declared.build.Instance.{Instance}
 use Rattle.gos_link.specs.declared.services.Service.{Service}
 use Rattle.gos_link.specs.Services.{HasService}
-use Rattle.gos_link.specs.Linked.{Port, port_of, AreDifferent, AreGround, imports_of, shakes_at, link_at, links_from, links_of, whole_of, IsLinked}
+use Rattle.gos_link.specs.Linked.{Port, port_of, AreDifferent, AreGround, imports_of, shakes_at, link_at, links_from, links_of, whole_of, SeenLinks, AreLinks, IsLinked}
 use Rattle.gos_linked.specs.linked.Linked.{binds_of, AreRealised, LinkedIsGround}
 use Rattle.gos_linked.proofs.linked.ChainLemmas.{IsSound}
 use Rattle.gos_linked.proofs.linked.GrowLemmas.{plan_at, service_at}
@@ -63,10 +63,15 @@ ports_differ is root ls differ =
     let low = slice_get_within (map (port_of is) ls) j (port_of is y) second in
     differ (suc i) (suc j) (port_of is x) (port_of is y) (omega (arith, less)) (omega (arith, low)) first second)
 
+pub links_differ : (b : Build) (ps : List SeenPlan) (links : SeenLinks) → AreLinks b ps links
+    → NamesDiffer (map import_of (all_left (whole_of ps links.services links.root)))
+links_differ b ps links are =
+    ports_differ b.instances.items (record { name = b.root; instance = b.root }) (all_left (whole_of ps links.services links.root)) are.grounded.named.names
+
 pub linked_differ : (b : Build) (ps : List SeenPlan) (p : Plan) → IsLinked b ps p → NamesDiffer p.imports
 linked_differ b ps p l =
     subst NamesDiffer (sym l.joining.imports)
-    (ports_differ b.instances.items (record { name = b.root; instance = b.root }) (all_left (whole_of ps l.services l.root)) l.light.grounded.named.names)
+    (links_differ b ps (record { services = l.services; root = l.root }) (record { binds = l.binds; grounded = l.light.grounded }))
 
 pub ground_in : (ls : List LeftImport) → AreGround (length ls) ls → AllGround (map import_of ls)
 ground_in [] all = tt

@@ -13,7 +13,7 @@ use Rattle.gos_realises.specs.realises.Realises.{AllGround, NamesDiffer}
 use Rattle.gos_realises.specs.realises.Modules.{RealisesOpen}
 use Rattle.gos_link.specs.declared.build.Build.{Build}
 use Rattle.gos_link.specs.declared.services.Service.{Service}
-use Rattle.gos_link.specs.Linked.{imports_of, plans_of, IsLinked}
+use Rattle.gos_link.specs.Linked.{imports_of, outcome_of, plans_of, SeenLinks, AreLinks, IsLinked}
 
 -- what a service binds
 abbrev pub name_if : Option Imported → Name
@@ -55,3 +55,26 @@ LinkedIsRealised =
 -- Its imports are ground.
 abbrev pub LinkedIsGround : Type 0
 LinkedIsGround = (b : Build) (ps : List SeenPlan) (p : Plan) → IsLinked b ps p → AllGround p.imports
+
+-- The program has the imports of the plan, which have different names, and its body the type of the plan's result.
+pub record IsTypedAs (p : Plan) (m : Program) : Type 0 where
+  pub imports : p.imports ≡ m.imports
+  pub names : NamesDiffer p.imports
+  pub typed : Typed p.imports [] m.body p.outcome
+
+abbrev pub AreTypedAs : List Plan → Instances → Type 0
+AreTypedAs [] [] = Unit {0}
+AreTypedAs [] (m ∷ ms) = ⊥
+AreTypedAs (p ∷ ps) [] = ⊥
+AreTypedAs (p ∷ ps) (m ∷ ms) = IsTypedAs p m × AreTypedAs ps ms
+
+-- So the substituted program of right links has the type of the root's result, under the imports that stay. Nothing is asked of the plans but
+-- their imports and results.
+abbrev pub substituted_along : List SeenPlan → SeenLinks → Instances → Program
+substituted_along ps links programs = substituted programs (binds_of (plans_of ps) links.services) links.root
+
+abbrev pub SubstitutedIsTyped : Type 0
+SubstitutedIsTyped =
+    (b : Build) (ps : List SeenPlan) (links : SeenLinks) (programs : Instances)
+    → AreLinks b ps links → length ps ≡ length b.instances.items → AreTypedAs (plans_of ps) programs
+    → Typed (substituted_along ps links programs).imports [] (substituted_along ps links programs).body (outcome_of (slice_get (plans_of ps) links.root))

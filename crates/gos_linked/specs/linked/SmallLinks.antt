@@ -10,7 +10,7 @@ use Rattle.gos_model.specs.Linking.{substituted}
 use Rattle.gos_plan.specs.SmallPlans.{skip_plan, same_plan}
 use Rattle.gos_realises.specs.realises.SmallRealisers.{use_plan}
 use Rattle.gos_link.specs.declared.services.Service.{Service}
-use Rattle.gos_linked.specs.linked.Linked.{binds_of, IsRealised}
+use Rattle.gos_linked.specs.linked.Linked.{binds_of, IsRealised, IsTypedAs}
 
 abbrev pub use_term : Term
 use_term = App (Import (codes "f")) Skip
@@ -47,3 +47,10 @@ UseIsRealised = IsRealised use_plan use_program
 
 abbrev pub SkipRealisesNoUse : Type 0
 SkipRealisesNoUse = IsRealised skip_plan use_program → ⊥
+
+-- The program of the user is typed as its plan, and not as that of `skip`, which has no import.
+abbrev pub UseIsTyped : Type 0
+UseIsTyped = IsTypedAs use_plan use_program
+
+abbrev pub SkipTypesNoUse : Type 0
+SkipTypesNoUse = IsTypedAs skip_plan use_program → ⊥

@@ -2,6 +2,7 @@ pub mod SourceLemmas
 pub mod OrderLemmas
 pub mod FaceLemmas
 pub mod LinkableLemmas
+pub mod TypedLemmas
 pub mod TextLemmas
 pub mod CauseLemmas
 pub mod HeadlineLemmas

@@ -13,7 +13,7 @@ use Rattle.gos_witness.specs.declared.fault.ExplainFault.TheVariants as explain
 use Rattle.gos_witness.specs.declared.labels.Label.{Label}
 use Rattle.gos_witness.specs.declared.moves.Line.{Line}
 use Rattle.gos_witness.specs.declared.program.ProgramPort.{ProgramPort}
-use Rattle.gos_witness.specs.Find.{IsLargeFault}
+use Rattle.gos_witness.specs.Find.{IsFaultOfFind}
 use Rattle.gos_witness.specs.Lines.{Explains}
 use Rattle.gos_witness.specs.MovesText.{AreLines, moves_text}
 use Rattle.gos_witness.specs.Ports.{labels_of}
@@ -53,10 +53,10 @@ pub record IsExplained (files : Files) (new : Option Files) (own moves : Word) (
   pub sources : SayProgram files build whole
   pub found : AreFound files new whole.ports (program_along sources.modules sources.links) build.trace moves report
 
--- Why a trace file is rejected that has these labels: no lines that explain them are found. Where a term is too large, moves with the first
--- of the labels lead to it. When a label can't come, or takes too many steps, isn't said as yet.
+-- Why a trace file is rejected that has these labels: no lines that explain them are found, and the first label that can't come is told,
+-- or the one that takes too many steps, or a term that is too large.
 abbrev pub IsFindCause : Program → List shown.Label → Cause → Type 0
-IsFindCause p labels (causes.Explain fault) = (fault ≢ explain.NoMemory) × IsLargeFault p labels fault
+IsFindCause p labels (causes.Explain fault) = (fault ≢ explain.NoMemory) × IsFaultOfFind p labels fault
 IsFindCause p labels cause = ⊥
 
 -- The first file that is rejected, from each place on: the trace file, for its text or for its labels; before it a source, or the build file

@@ -2,9 +2,10 @@
 --
 -- Read first: Taken; Linked and Faces of gos_link; Substituted of gos_witness. No module is compiled: what the bind lines are judged
 -- by hangs on imports and results alone, so any plans that have those of the modules do.
-use Rattle.std.specs.Prelude.{◌≡◌, ◌≢◌, ◌⊎◌, false, IsTrue, List, map, Option}
-use Rattle.gos_types.specs.Types.{type_of}
+use Rattle.std.specs.Prelude.{◌≡◌, ◌≢◌, ◌⊎◌, false, IsTrue, List, [], map, Option}
+use Rattle.gos_types.specs.Types.{Type', type_of}
 use Rattle.gos_syntax.specs.Modules.{SeenModule}
+use Rattle.gos_model.specs.Typing.{Typed}
 use Rattle.gos_model.specs.Moves.{Program}
 use Rattle.gos_model.specs.Sources.{program_of}
 use Rattle.gos_plan.specs.Seen.{SeenPlan}
@@ -16,6 +17,8 @@ use Rattle.gos_lex.specs.Lines.{Word}
 use Rattle.gos_link.specs.declared.services.Service.{Service}
 use Rattle.gos_witness.specs.declared.binding.Bound.{Bound}
 use Rattle.gos_witness.specs.declared.fault.ExplainFault.TheVariants as explain
+use Rattle.gos_witness.specs.Ports.{imports_of}
+use Rattle.gos_witness.specs.Programs as whole
 use Rattle.gos_witness.specs.Programs.{SeenProgram}
 use Rattle.gos_witness.specs.Substituted.{IsLinked, IsTooLargeFault, linked_program}
 use Rattle.gos_command.specs.declared.status.Cause.{Cause}
@@ -49,6 +52,10 @@ program_along ms links = linked_program ms (binds_along links) links.root
 pub record IsLinkedAs (b : Build) (ms : List SeenModule) (ls : SeenLinks) (p : SeenProgram) : Type 0 where
   pub links : AreLinksOf b ms ls
   pub program : IsLinked ms (binds_along ls) ls.root b.root p
+
+-- A program is typed under the imports that its ports are of. That of linked modules is, since each of them is accepted.
+abbrev pub IsTypedProgram : SeenProgram → Type 0
+IsTypedProgram p = (t : Type') × Typed (imports_of p.ports) [] (whole.program_of p).body t
 
 -- Why the build file is rejected for its modules: the first reason for which they can't be linked, but for their weight and their size
 -- as a circuit; or, where they can, that a file is to be written which the build names; or else that their program has more than

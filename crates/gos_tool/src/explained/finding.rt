@@ -15,6 +15,7 @@ ghost use Rattle.gos_command.specs.declared.report.Report.TheVariants as reports
 ghost use Rattle.gos_command.specs.declared.stop.Stop.TheVariants as stops;
 ghost use Rattle.gos_tool.specs.Causes.{IsFileFault, OfMoves, StopsFor, TellsExplained};
 ghost use Rattle.gos_tool.specs.Calls.{found_calls};
+ghost use Rattle.gos_tool.specs.explained.LinkedModules.{IsTypedProgram};
 ghost use Rattle.gos_tool.specs.explained.Found.{AreFound, IsFindCause, RejectsTrace, IsTraceCall};
 
 use crate::explained::texts::labels_in;
@@ -34,6 +35,7 @@ pub fn find_moves<S: Store>(
 ) -> Result<Report, Stop>
     requires trace { IsFileName trace.now }
     requires moves { IsFileName moves.now }
+    requires typed { IsTypedProgram program.now }
     ensures done { IfOk result (λ report. IfSome (S.contents store.old) (λ files.
         AreFound files (S.contents store.new) program.now.ports (program_of program.now) trace.now moves.now report)) }
     ensures rejected { IfErr result (λ stop. IfStopped stop (λ fault line. IfSome (S.contents store.old) (λ files.
@@ -64,6 +66,7 @@ fn lines_for(
 ) -> Result<Vec<Line>, Stop>
     requires trace { IsFileName trace.now }
     requires labels { AreOfPorts program.now.ports labels.now }
+    requires typed { IsTypedProgram program.now }
     ensures explained { IfOk result (λ lines. Explains (program_of program.now) (labels_of program.now.ports labels.now) lines.items) }
     ensures is_trace { IfOk result (λ _. Trace (program_of program.now) (labels_of program.now.ports labels.now)) }
     ensures rejected { IfErr result (λ stop. IfStopped stop (IsFileFault trace.now

@@ -16,13 +16,14 @@ ghost use Rattle.gos_tool.specs.Calls.{source_calls};
 ghost use Rattle.gos_tool.specs.explained.Sources.{IsSourceCall};
 ghost use Rattle.gos_tool.specs.explained.Taken.{is_taken};
 ghost use Rattle.gos_tool.specs.explained.LinkedModules.{IsLinkedAs, IsModulesCause, IsProgramCause, IsSizeCause, StandFor, binds_along, bound_of};
-ghost use Rattle.gos_tool.specs.explained.LinkedModules.{program_along};
+ghost use Rattle.gos_tool.specs.explained.LinkedModules.{IsTypedProgram, program_along};
 ghost use Rattle.gos_tool.specs.explained.Verified.{SayProgram, RejectsSources};
 
 use crate::explained::sources::{Sources, sources_in};
 use crate::explained::taken::is_taken;
 use gos_command::{Cause, Stop, reject};
 use gos_link::{Build, Links, Service, judge_links};
+use gos_linked::laws::linked::substituted_is_typed;
 use gos_outside::Store;
 use gos_types::NoMemory;
 use gos_witness::{Bound, ExplainFault, Program, substitute, typed_is_narrow};
@@ -43,6 +44,7 @@ pub fn linked_in<S: Store>(
     requires few_instances { length build.now.instances.items ≤ 65536 }
     requires few_binds { length build.now.binds.items ≤ 65536 }
     ensures say { IfOk result (λ program. IfSome (S.contents store.old) (λ files. SayProgram files build.now program)) }
+    ensures typed { IfOk result IsTypedProgram }
     ensures free { IfOk result (λ _. is_taken build.now (option_copied written.entry) ≡ false) }
     ensures rejected { IfErr result (λ stop. IfStopped stop (λ fault line.
         IfSome (S.contents store.old) (λ files. RejectsSources files own.now build.now (option_copied written.entry) fault line))) }
@@ -71,6 +73,7 @@ fn program_in(
     requires stand { StandFor sources.now.modules.items sources.now.shells.items }
     requires accepted { AllByRecursion IsAccepted sources.now.modules.items }
     ensures linked { IfOk result (λ program. (links : SeenLinks) × IsLinkedAs build.now sources.now.modules.items links program) }
+    ensures typed { IfOk result IsTypedProgram }
     ensures free { IfOk result (λ _. is_taken build.now (option_copied written.entry) ≡ false) }
     ensures rejected { IfErr result (λ stop. IfStopped stop (IsFileFault own.now
         (IsModulesCause build.now (option_copied written.entry) sources.now.modules.items))) }
@@ -99,6 +102,7 @@ fn unless_taken(
     requires accepted { AllByRecursion IsAccepted sources.now.modules.items }
     requires links { AreLinks build.now sources.now.shells.items links.now }
     ensures linked { IfOk result (IsLinkedAs build.now sources.now.modules.items links.now) }
+    ensures typed { IfOk result IsTypedProgram }
     ensures free { IfOk result (λ _. is_taken build.now (option_copied written.entry) ≡ false) }
     ensures rejected { IfErr result (λ stop. IfStopped stop (IsFileFault own.now
         (IsProgramCause build.now (option_copied written.entry) sources.now.modules.items))) }
@@ -128,6 +132,7 @@ fn substituted(
     requires accepted { AllByRecursion IsAccepted sources.now.modules.items }
     requires links { AreLinks build.now sources.now.shells.items links.now }
     ensures linked { IfOk result (IsLinkedAs build.now sources.now.modules.items links.now) }
+    ensures typed { IfOk result IsTypedProgram }
     ensures rejected { IfErr result (λ stop. IfStopped stop (IsFileFault own.now (IsSizeCause build.now sources.now.modules.items))) }
     ensures told { IfErr result (λ stop. IfStopped stop IsTold) }
     ensures kind { IfErr result (StopsFor (OfMoves ∷ [])) }
@@ -154,9 +159,11 @@ fn substituted_along(
     requires links { AreLinks build.now sources.now.shells.items links.now }
     requires binds { binds.now ≡ binds_along links.now }
     ensures linked { IfOk result (IsLinkedAs build.now sources.now.modules.items links.now) }
+    ensures typed { IfOk result IsTypedProgram }
     ensures fault { IfErr result (λ fault. fault ≢ ExplainFault.NoMemory → IsTooLargeFault (program_along sources.now.modules.items links.now) fault) }
 {
     typed_is_narrow();
+    substituted_is_typed();
     substitute(
         alloc,
         links.root(),

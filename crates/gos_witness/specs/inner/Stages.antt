@@ -37,9 +37,10 @@ pub record IsStage (p : SeenProgram) (labels : List Label) (g : Stage) : Type 0 
   pub program : Keeps p.list g.list
   pub matched : g.matched ≤ length labels
 
--- the line leads from one stage to another, or it can't be made
+-- the line leads from one stage to another, whose list has the terms of the first, or it can't be made
 abbrev pub IsMade : SeenProgram → List Label → Line → Stage → Stage → Bool → Type 0
-IsMade p labels line g h true = IsStage p labels h × Makes (program_of p) line (stand_of p.ports labels g) (stand_of p.ports labels h)
+IsMade p labels line g h true =
+    IsStage p labels h × Makes (program_of p) line (stand_of p.ports labels g) (stand_of p.ports labels h) × Keeps g.list h.list
 IsMade p labels line g h false = CantMake (program_of p) line (stand_of p.ports labels g)
 
 -- the first n lines have led to a stage, and if those are all, the last is no unfolding

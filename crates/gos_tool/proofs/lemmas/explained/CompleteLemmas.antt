@@ -1,6 +1,6 @@
 -- Files that are right for `verify` or for `explain` have no fault: the build file has one answer, each source says one program, and each
 -- text is read in one way.
-use Rattle.std.specs.Prelude.{◌≡◌, ◌≢◌, ◌≤◌, ◌||◌, ◌∷◌, [], ℕ, false, List, Option, None, Some, length, map}
+use Rattle.std.specs.Prelude.{◌≡◌, ◌≤◌, ◌||◌, ◌∷◌, [], ℕ, false, List, Option, None, Some, length, map}
 use Rattle.std.specs.List.{list_any}
 use Rattle.std.specs.Str.{bytes_eq}
 use Rattle.std.proofs.Common.{inl, inr, refl, sym, ◌∙◌, ap, arith, subst, true≢false}

@@ -5,7 +5,6 @@ use Rattle.std.proofs.lemmas.Option.{slice_get-map}
 use Rattle.std.specs.Fmt.{decimal}
 use Rattle.gos_types.specs.Types.{Type'}
 use Rattle.gos_netlist.specs.NetText.{line}
-use Rattle.gos_netlist.specs.Seen.{ground_type}
 use Rattle.gos_model.specs.Labels as shown
 use Rattle.gos_model.specs.Terms.{Name}
 use Rattle.gos_model.specs.Typing.{Imported}

@@ -1,5 +1,5 @@
 -- Of the same files `verify` tells the same: the build file says one build, each source one program, and each text is read in one way.
-use Rattle.std.specs.Prelude.{◌≡◌, ◌∷◌, ◌++◌, [], ℕ, List, Option, Some, length, map}
+use Rattle.std.specs.Prelude.{◌≡◌, ◌∷◌, ◌++◌, [], ℕ, List, length, map}
 use Rattle.std.proofs.Common.{refl, sym, ◌∙◌, ap, subst}
 use Rattle.gos_outside.specs.Files.{Files, bytes_at}
 use Rattle.gos_outside.specs.Calls.{StoreCall}
@@ -8,8 +8,6 @@ use Rattle.gos_link.specs.Answers.{IsOneBuild}
 use Rattle.gos_link.specs.BuildFile.{IsBuildFile, whole}
 use Rattle.gos_link.specs.Faces.{LinksAreOfFaces, LinksAreOne}
 use Rattle.gos_link.specs.declared.build.Instance.{Instance}
-use Rattle.gos_witness.specs.declared.labels.Label.{Label}
-use Rattle.gos_witness.specs.declared.moves.Line.{Line}
 use Rattle.gos_witness.specs.declared.program.ProgramPort.{ProgramPort}
 use Rattle.gos_witness.specs.MovesText.{IsMovesTextOf}
 use Rattle.gos_witness.specs.Ports.{imported}
@@ -18,7 +16,7 @@ use Rattle.gos_witness.specs.TraceText.{IsTraceTextOf}
 use Rattle.gos_command.specs.declared.report.Report.{Report}
 use Rattle.gos_command.specs.declared.report.Report.TheVariants as reports
 use Rattle.gos_tool.specs.Calls.{explained_calls, source_calls, verify_calls}
-use Rattle.gos_tool.specs.Agreement.{AgreeOn, WriteOneBuild, WriteTheSame, files_of}
+use Rattle.gos_tool.specs.Agreement.{AgreeOn, files_of}
 use Rattle.gos_tool.specs.objects.Complete.{SaysOneProgram}
 use Rattle.gos_tool.specs.build.Headline.{SayModules}
 use Rattle.gos_tool.specs.explained.Verified.{IsVerified}

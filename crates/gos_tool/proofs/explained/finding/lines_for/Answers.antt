@@ -11,5 +11,5 @@ pub returns-in-Err-clause-rejected : goal.returns-in-Err-clause-rejected
 returns-in-Err-clause-rejected c =
     let cause = IsFindCause (program_of c.args.program.now) (labels_of c.args.program.now.ports c.args.labels.now) in
     of_stopped _ (λ fault line. IsFileFault c.args.trace.now cause fault line) c.reject.result
-    (λ fault line h. file_fault cause c.args.trace.now (Explain c.in-Err.fault) fault line (h.1, c.in-Err.ensures.large) h.0 h.2)
+    (λ fault line h. file_fault cause c.args.trace.now (Explain c.in-Err.fault) fault line (h.1, c.in-Err.ensures.fault h.1) h.0 h.2)
     c.reject.ensures.stopped

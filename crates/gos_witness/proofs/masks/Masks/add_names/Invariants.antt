@@ -1,0 +1,8 @@
+use Rattle.std.proofs.Common.{◌≡◌, length}
+use Rattle.gos_witness.specs.inner.PortMasks.{AreMasks}
+use Rattle.gos_witness.proofs.masks.Masks.add_names.Given as goal
+
+-- the ports so far
+abbrev pub invariant-loop-number : goal.invariant-loop-number
+invariant-loop-number l =
+    AreMasks l.fn.ports l.fn.list l.self × (length l.self.ports.items ≡ l.number) × (l.self.block ≡ l.fn.self.block)
