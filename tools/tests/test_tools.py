@@ -445,7 +445,7 @@ class Standin(unittest.TestCase):
 class Script(Standin):
     """The script gos, and which program it runs."""
 
-    UNPROVED = r"^gos: not proved on this machine yet: .*/tools/prove proves it, in 25 to 45 minutes on four processors\n$"
+    UNPROVED = r"^gos: not proved on this machine yet: .*/tools/prove proves it, in half an hour on four processors\n$"
 
     def test_a_preview_is_made_once(self):
         for when in ("made first", "this is a preview"):
