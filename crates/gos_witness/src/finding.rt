@@ -36,7 +36,8 @@ struct Search {
     steps: u64,
 }
 
-/// Lines that explain the labels. The labels are of the program's ports.
+/// Lines that explain the labels. The labels are of the program's ports, and the program's body has a type, as that of linked modules
+/// has, each of which is accepted.
 ///
 /// `Err` has the first label that no list of moves has behind those before it; or the label to which 1,000,000 steps for it and for
 /// each label before it don't lead; or the size of a term that is too large; or it is want of memory.
