@@ -297,7 +297,7 @@ fn turn_at_item(list: &NodeList, item: u32, array: u32, index: u32) -> Turn
     requires array { array < length list.now.nodes }
     requires index { index < item }
     requires term { seen list.now item ≡ App (seen list.now array) (seen list.now index) }
-    ensures below { (n : ℕ) → item < n → LeadsBelow (length list.now.nodes) n result }
+    ensures below { (n : ℕ) → index < n → LeadsBelow (length list.now.nodes) n result }
     ensures turn { IsAccessTurn list.now (App (seen list.now array) (seen list.now index)) result }
 {
     match access_of(list, array) {
