@@ -61,9 +61,6 @@ written_is s a t h =
     let p = after_is (no_bad s (bad_width a)) (λ _. small s a) t h in
     (widths_right a (none_bad s (bad_width a) p.1), (small_is s a t p.2).0)
 
-unit_is : (found : Found (Unit {0})) (u : Unit {0}) → found ≡ Ok u → found ≡ Ok tt
-unit_is found u h = h
-
 pub written_width_is : (s : Span) (w : ℕ) → written_width s w ≡ Ok tt → IsWidth w
 written_width_is s w h = width_is w (if_ok (is_width w) tt tt (Width s w 0) h).0
 

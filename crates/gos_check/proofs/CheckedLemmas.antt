@@ -4,7 +4,7 @@ use Rattle.std.proofs.Common.{refl, sym, ap, subst, ◌∙◌}
 use Rattle.gos_types.specs.Types.{Type', type_of}
 use Rattle.gos_syntax.specs.Modules.{SeenImport, SeenModule}
 use Rattle.gos_model.specs.Terms.{Name}
-use Rattle.gos_model.specs.Typing.{Imports, Imported, Typed}
+use Rattle.gos_model.specs.Typing.{Imports, Typed}
 use Rattle.gos_model.specs.Weight.{weight}
 use Rattle.gos_model.specs.Moves.{Program}
 use Rattle.gos_model.specs.Sources.{import_of, program_of}
@@ -13,10 +13,6 @@ use Rattle.gos_check.specs.Nodes.{meaning, node_seen}
 use Rattle.gos_check.specs.Linearity.{import_at, StandsFor}
 use Rattle.gos_check.specs.Copies.{PlainImport, plain_import}
 use Rattle.gos_check.specs.Checked.{SeenLinear, program_in, IsChecked}
-
--- an import of a program, from what a copy keeps
-plain_imported : PlainImport → Imported
-plain_imported p = record { name = p.name; ty = p.ty }
 
 imports_same : (is js : List SeenImport) → map plain_import is ≡ map plain_import js → map import_of is ≡ map import_of js
 imports_same [] [] h = refl

@@ -1,5 +1,5 @@
 -- What is found of a form is what its rule makes of its parts: a type, or the refusal of a part or of the rule.
-use Rattle.std.specs.Prelude.{◌≡◌, ℕ, ◌+◌, ◌*◌, ◌≤◌, List, ◌∷◌, Option, Some, None, Result, Ok, Err, MatchOption, IfOk}
+use Rattle.std.specs.Prelude.{◌≡◌, ℕ, ◌+◌, ◌*◌, ◌≤◌, List, ◌∷◌, Result, Ok, Err, IfOk}
 use Rattle.std.proofs.Common.{arith, refl, sym, subst, ◌∙◌}
 use Rattle.std.proofs.lemmas.Result.{IfOk-weaker}
 use Rattle.gos_lex.specs.declared.token.Span.{Span}
@@ -16,7 +16,7 @@ use Rattle.gos_check.specs.declared.forms.OnePart.{OnePart}
 use Rattle.gos_check.specs.declared.forms.TwoParts.{TwoParts}
 use Rattle.gos_check.specs.declared.free.Occurrence.{Occurrence}
 use Rattle.gos_check.specs.declared.judged.Judged.{Judged}
-use Rattle.gos_check.specs.Faults.{Fault, Found, after, Refuses, fault_of}
+use Rattle.gos_check.specs.Faults.{Found, after}
 use Rattle.gos_check.specs.Written.{small, written_width, written_length}
 use Rattle.gos_check.specs.Scopes.{Binders}
 use Rattle.gos_check.specs.Free.{free}
@@ -29,16 +29,6 @@ use Rattle.gos_check.proofs.RuleLemmas.{ruled_is}
 use Rattle.gos_check.proofs.PlaceLemmas.{place_is}
 use Rattle.gos_check.proofs.PartLemmas.{size_parts, judged_is}
 use Rattle.gos_check.proofs.WeightLemmas.{judged_weight}
-
-told : {A B : Type 0} (f : Found A) (g : Found B) (o : Option Fault) → ((fault : Fault) → f ≡ Err fault → g ≡ Err fault)
-    → MatchOption o (Unit {0}) (λ fault. f ≡ Err fault) → MatchOption o (Unit {0}) (λ fault. g ≡ Err fault)
-told f g None k h = tt
-told f g (Some fault) k h = k fault h
-
--- a refusal of one question is that of another which has its faults
-refused_by : {A B : Type 0} (f : Found A) (g : Found B) (e : CheckFault) → ((fault : Fault) → f ≡ Err fault → g ≡ Err fault)
-    → Refuses f e → Refuses g e
-refused_by f g e k h = told f g (fault_of e) k h
 
 -- an answer to one question is that to another of which the same is found
 pub finds_same : (answer : Result Judged CheckFault) (f g : Found Type') → f ≡ g → Finds g answer → Finds f answer
@@ -104,11 +94,6 @@ known_there answer os ps w v most h k l known =
 pub sized_there : (i : Imports) (g : Binders) (form : Form) (s : Span) (a : Type') → parts_judged i g (tree_of form s) ≡ Ok a
     → judged i g (tree_of form s) ≡ small s a
 sized_there i g form s a h = judged_is i g (tree_of form s) ∙ (λ k. sized (place_is form s k) (h k))
-
--- its parts are refused
-pub parts_refused : (i : Imports) (g : Binders) (tree : Tree) (e : CheckFault) → Refuses (parts_judged i g tree) e → Refuses (judged i g tree) e
-parts_refused i g tree e h =
-    refused_by (parts_judged i g tree) (judged i g tree) e (λ fault is. judged_is i g tree ∙ (λ k. sized (place_of tree) (is k))) h
 
 -- what is known of a whole term
 pub whole_there : (answer : Result Judged CheckFault) (i : Imports) (g : Binders) (tree : Tree) (names : List Occurrence) (weight : ℕ)

@@ -2,8 +2,6 @@
 
 ghost use Rattle.std.specs.Prelude.{◌≡◌, Ok, IfOk, IfErr};
 ghost use Rattle.gos_types.specs.Types.{type_of, Fun};
-ghost use Rattle.gos_model.specs.Typing.{index_width, array_type};
-ghost use Rattle.gos_check.specs.Sizes.{IsCountable};
 ghost use Rattle.gos_check.specs.Faults.{Refuses};
 ghost use Rattle.gos_check.specs.inner.Rules.{rule_of_one, rule_of_two, names_of_two};
 
@@ -54,28 +52,6 @@ pub(crate) fn function_type(alloc: Global, argument: &Ty, outcome: Ty) -> Result
 {
     let argument = Box::new(alloc, copy(alloc, argument)?)?;
     Ok(Ty::Fun(argument, Box::new(alloc, outcome)?))
-}
-
-// How many bits the index of an array of so many numbers has.
-fn index_width(length: u32) -> u32
-    ensures { result ≡ index_width length }
-{
-    match length {
-        2 => 1,
-        4 => 2,
-        8 => 3,
-        _ => 4,
-    }
-}
-
-// The type of an array of so many numbers.
-pub(crate) fn array_type(alloc: Global, length: u32, width: u32) -> Result<Ty, CheckFault>
-    ensures ok { IfOk result (λ ty. type_of ty ≡ array_type length width) }
-    ensures countable { IfOk result (λ ty. IsCountable (type_of ty)) }
-    ensures err { IfErr result (λ e. e ≡ CheckFault.NoMemory) }
-{
-    let index = Box::new(alloc, Ty::Exp(index_width(length)))?;
-    Ok(Ty::Fun(index, Box::new(alloc, Ty::Var(width))?))
 }
 
 impl OnePart {

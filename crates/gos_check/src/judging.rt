@@ -23,7 +23,7 @@ ghost use Rattle.gos_check.specs.inner.Known.{Finds, IsKnown, IsBounded, IsWhole
 ghost use Rattle.gos_check.specs.inner.Walked.{tree, BindCountable, weight_of, parts_weight, parts_size, parts_judged};
 
 use crate::fault::CheckFault;
-use crate::forms::{OnePart, TwoParts, array_type};
+use crate::forms::{OnePart, TwoParts};
 use crate::judged::{
     Judged, closed, counted, typed_array, typed_block, typed_choice, typed_function, typed_literal,
     typed_name, typed_one, typed_two,
@@ -32,7 +32,7 @@ use crate::scope::Scope;
 use crate::written::{written, written_length, written_width};
 use gos_lex::{Name, Span};
 use gos_syntax::{Form, Import, Term};
-use gos_types::Ty;
+use gos_types::{Ty, array_type};
 use std::alloc::Global;
 
 // The type of a term, or its first fault.

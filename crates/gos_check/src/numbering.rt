@@ -29,7 +29,7 @@ ghost use Rattle.gos_check.specs.Numbering.{
 ghost use Rattle.gos_check.specs.inner.NumberedTerms.{Numbers};
 
 use crate::fault::CheckFault;
-use crate::forms::{OnePart, TwoParts, array_type};
+use crate::forms::{OnePart, TwoParts};
 use crate::joining::{below_array, below_block, below_function, with_one, with_three, with_two};
 use crate::linear::{Node, NodeForm};
 use crate::opens::{Open, merge};
@@ -37,7 +37,7 @@ use crate::renaming::exchange;
 use crate::scope::Scope;
 use gos_lex::Name;
 use gos_syntax::{Form, Import, Module, Term};
-use gos_types::{Ty, copy};
+use gos_types::{Ty, array_type, copy};
 use std::alloc::Global;
 
 // A term that is numbered: its free names with their numbers, and the next number that is not taken.

@@ -11,7 +11,7 @@ use Rattle.gos_link.specs.declared.fault.LinkFault.TheVariants as link
 use Rattle.gos_netlist.specs.declared.fault.NetTextFault.TheVariants as text
 use Rattle.gos_netcheck.specs.declared.fault.NetFault.TheVariants as net
 use Rattle.gos_pulse.specs.declared.fault.PulseFault.TheVariants as pulse
-use Rattle.gos_aiger.specs.declared.fault.GateFault.TheVariants as gates
+use Rattle.gos_gates.specs.declared.fault.GateFault.TheVariants as gates
 use Rattle.gos_witness.specs.declared.fault.ExplainFault.TheVariants as explain
 use Rattle.gos_command.specs.Lines.{IsLineOf}
 use Rattle.gos_command.specs.declared.status.Cause.{Cause}

@@ -30,8 +30,8 @@ use Rattle.gos_lex.specs.Lines.{Word}
 use Rattle.gos_pulse.specs.EventNames.{name_of_number}
 use Rattle.gos_pulse.specs.declared.fault.PulseFault.{PulseFault}
 use Rattle.gos_pulse.specs.declared.fault.PulseFault.TheVariants as pulse
-use Rattle.gos_aiger.specs.declared.fault.GateFault.{GateFault}
-use Rattle.gos_aiger.specs.declared.fault.GateFault.TheVariants as gates
+use Rattle.gos_gates.specs.declared.fault.GateFault.{GateFault}
+use Rattle.gos_gates.specs.declared.fault.GateFault.TheVariants as gates
 use Rattle.gos_witness.specs.declared.fault.ExplainFault.{ExplainFault}
 use Rattle.gos_witness.specs.declared.fault.ExplainFault.TheVariants as explain
 use Rattle.gos_command.specs.declared.status.Cause.{Cause}

@@ -10,7 +10,7 @@ ghost use Rattle.gos_netlist.specs.NetText.{spaced};
 ghost use Rattle.gos_netlist.specs.Seen.{number_of};
 ghost use Rattle.gos_netcheck.specs.declared.fault.NetFault.TheVariants as net;
 ghost use Rattle.gos_pulse.specs.declared.fault.PulseFault.TheVariants as pulse;
-ghost use Rattle.gos_aiger.specs.declared.fault.GateFault.TheVariants as gates;
+ghost use Rattle.gos_gates.specs.declared.fault.GateFault.TheVariants as gates;
 ghost use Rattle.gos_witness.specs.declared.fault.ExplainFault.TheVariants as explain;
 ghost use Rattle.gos_command.specs.Ends.{IsRealCause};
 ghost use Rattle.gos_command.specs.Lines.{counted, lex_text, syntax_text, object_text, net_text, refusal_text, event_name, pulse_text, gates_text, explain_text, cause_text, fault_line};
@@ -18,7 +18,7 @@ ghost use Rattle.gos_command.specs.Lines.{counted, lex_text, syntax_text, object
 use crate::check_text::check_text;
 use crate::link_text::link_text;
 use crate::status::Cause;
-use gos_aiger::GateFault;
+use gos_gates::GateFault;
 use gos_lex::LexFault;
 use gos_netcheck::NetFault;
 use gos_netlist::{NetId, NetTextFault, Netlist};

@@ -3,8 +3,8 @@
 ghost use Rattle.std.specs.Prelude.{◌≡◌};
 ghost use Rattle.gos_command.specs.Ends.{code_of};
 
-use gos_aiger::GateFault;
 use gos_check::CheckFault;
+use gos_gates::GateFault;
 use gos_lex::LexFault;
 use gos_link::{FileName, LinkFault};
 use gos_netcheck::NetFault;

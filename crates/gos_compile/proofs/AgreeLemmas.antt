@@ -40,9 +40,6 @@ type_there n t types = rw (eq-eqb n n refl) refl
 type_elsewhere : (n : ℕ) (t : Type') (types : Types) (k : ℕ) → k ≢ n → with_type n t types k ≡ types k
 type_elsewhere n t types k h = rw (ne_eqb k n h) refl
 
-other_way : (k n : ℕ) → n ≢ k → k ≢ n
-other_way k n h e = h (sym e)
-
 sides_keep : (k : ℕ) (ss : List Split) (types : Types) → times k (sides ss) ≡ 0 → with_sides ss types k ≡ types k
 sides_keep k [] types none = refl
 sides_keep k (s ∷ ss) types none =

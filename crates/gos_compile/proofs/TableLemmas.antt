@@ -7,7 +7,7 @@ use Rattle.gos_types.specs.Types.{Type', Com, type_of}
 use Rattle.gos_syntax.specs.Modules.{SeenImport}
 use Rattle.gos_model.specs.Sources.{import_of}
 use Rattle.gos_compile.specs.inner.Tables.{types_at}
-use Rattle.gos_compile.specs.Wiring.{Types, import_types}
+use Rattle.gos_compile.specs.Wiring.{import_types}
 
 abbrev head_of : List Type' → Type'
 head_of [] = Com
@@ -35,7 +35,3 @@ one_longer [] zero = refl
 one_longer [] (suc k) = refl
 one_longer (t ∷ ts) zero = refl
 one_longer (t ∷ ts) (suc k) = one_longer ts k
-
--- types that are equal by number are equal
-pub types_equal : (f g : Types) → ((k : ℕ) → f k ≡ g k) → f ≡ g
-types_equal f g h = λ i k. h k i

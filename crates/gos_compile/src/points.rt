@@ -7,7 +7,7 @@ ghost use Rattle.gos_compile.specs.Wiring.{led, row, answer_bits};
 ghost use Rattle.gos_compile.specs.inner.Loads.{most};
 
 use gos_ties::{Place, Point, Tie};
-use gos_types::{NoMemory, Ty};
+use gos_types::{NoMemory, Ty, count};
 use std::alloc::Global;
 
 // Adds so many points of a place, from its first on.
@@ -66,17 +66,13 @@ pub(crate) fn lead_row(
     lead(ties, &points, other, from)
 }
 
-// How many handshakes a type has.
-#[tactic(auto, using(gos_realises::proofs::realises::CountLemmas::count_pair, gos_realises::proofs::realises::CountLemmas::count_fun))]
+// How many handshakes a type has, which are few.
+#[tactic(auto, using(crate::proofs::RowLemmas::few_nodes, crate::proofs::RowLemmas::same_length))]
 pub(crate) fn shakes(ty: &Ty) -> u32
     requires { count (type_of ty.now) ≤ most }
     ensures { result ≡ count (type_of ty.now) }
 {
-    match ty {
-        Ty::Com | Ty::Exp(_) => 1,
-        Ty::Var(_) => 2,
-        Ty::Pair(a, b) | Ty::Fun(a, b) => shakes(a) + shakes(b),
-    }
+    count(ty) as u32
 }
 
 // The bits of a command's or an expression's answer.

@@ -3,15 +3,13 @@
 ghost use Rattle.std.specs.Prelude.{◌≡◌, ◌<◌, ℕ, length, IfOk, OnOk, map};
 ghost use Rattle.gos_types.specs.Types.{type_of, Com, Fun};
 ghost use Rattle.gos_model.specs.Sources.{import_of};
-ghost use Rattle.gos_model.specs.Typing.{array_type};
 ghost use Rattle.gos_check.specs.Nodes.{argument_of, node_seen};
 ghost use Rattle.gos_compile.specs.inner.Tables.{types_at};
 ghost use Rattle.gos_compile.specs.Wiring.{with_type, with_sides, with_types, import_types};
 
 use gos_check::{Node, NodeForm, Split};
-use gos_plan::index_bits;
 use gos_syntax::Import;
-use gos_types::{NoMemory, Ty, copy};
+use gos_types::{NoMemory, Ty, array_type, copy};
 use std::alloc::Global;
 
 // The type of a number.
@@ -32,14 +30,6 @@ pub(crate) fn argument(alloc: Global, ty: &Ty) -> Result<Ty, NoMemory>
         Ty::Fun(a, _) => copy(alloc, a),
         ty => copy(alloc, ty),
     }
-}
-
-// The type of an array of so many numbers of so many bits.
-fn array_type(alloc: Global, length: u32, width: u32) -> Result<Ty, NoMemory>
-    ensures { IfOk result (λ ty. type_of ty ≡ array_type length width) }
-{
-    let index = Box::new(alloc, Ty::Exp(index_bits(length)))?;
-    Ok(Ty::Fun(index, Box::new(alloc, Ty::Var(width))?))
 }
 
 // Makes the list longer, by types of commands, until it has this number.

@@ -1,8 +1,9 @@
 // A plan that is laid out in one pool twice.
 use gos_expand::{Policy, expand_into};
 use gos_lex::Name;
-use gos_netlist::{NetPool, Netlist, print_net};
+use gos_netlist::{Netlist, print_net};
 use gos_plan::{End, Joint, Kind, make};
+use gos_pool::NetPool;
 use gos_types::Ty;
 use std::test::Fail;
 

@@ -16,7 +16,7 @@ use Rattle.gos_plan.specs.Plans.{End, PartEnd, ImportEnd, ResultEnd, Plan, conta
 use Rattle.gos_plan.specs.Ranges.{IsInRange}
 use Rattle.gos_types.specs.Widths.{HasWidths}
 use Rattle.gos_plan.specs.Seen.{SeenPlan, part_of, import_of, plan_of}
-use Rattle.gos_gates.specs.Fit.{GatesFit}
+use Rattle.gos_macro.specs.Fit.{GatesFit}
 use Rattle.gos_expand.specs.Gates.{layout, outs_of}
 use Rattle.gos_expand.proofs.KeptLemmas.{all_gates}
 use Rattle.gos_expand.specs.Acceptance.{AreDifferent, CanBeLaid, LaidIsAccepted, AllCutCycles}

@@ -1,6 +1,6 @@
 -- What arrives at an end of a part in a cycle lies there, once all that passes on to it in this cycle has been fired.
 --
--- Read first: Causal of gos_gates; ScheduleLemmas, StandingLemmas. What arrives was in the registers of the joint, or it leaves the other
+-- Read first: Causal of gos_macro; ScheduleLemmas, StandingLemmas. What arrives was in the registers of the joint, or it leaves the other
 -- end in this cycle: then an input put it there, or a part, early in this cycle or late in the one before.
 use Rattle.std.specs.Prelude.{Option, None, ◌&&◌, nat_lt}
 use Rattle.std.proofs.Common.{◌≡◌, ℕ, zero, suc, ◌+◌, ◌^◌, ◌≤◌, ◌<◌, Bool, true, false, List, [], ◌∷◌, ◌++◌, Some, slice_get, length, refl, sym, ◌∙◌, ap, subst, arith, nat_eq, pow_pos, if◌then◌else◌}
@@ -16,19 +16,19 @@ use Rattle.gos_plan.specs.Plans.{End, PartEnd, ImportEnd, ResultEnd, Joint, Plan
 use Rattle.gos_plan.specs.Tokens.{Tokens, Element, IsPortEnd, places_of, shake_of, bits_of, way_taken, way_put}
 use Rattle.gos_plan.specs.TokenBits.{AllFit}
 use Rattle.gos_plan.specs.Orderly.{Open, OrderlyFrom}
-use Rattle.gos_gates.specs.Gates.{Outgoing, Bare, Bearing, bits_out, incoming_bits, slot_in, pulse_in, value_in, NetsShow}
+use Rattle.gos_macro.specs.Gates.{Outgoing, Bare, Bearing, bits_out, incoming_bits, slot_in, pulse_in, value_in, NetsShow}
 use Rattle.gos_plan.specs.Firings.{due, value_due, Fires, times}
-use Rattle.gos_gates.specs.Fit.{GoesOut}
-use Rattle.gos_gates.specs.Law.{Exactly, pulsed, early_slots}
-use Rattle.gos_gates.specs.Kept.{KeepLaws}
+use Rattle.gos_macro.specs.Fit.{GoesOut}
+use Rattle.gos_macro.specs.Law.{Exactly, pulsed, early_slots}
+use Rattle.gos_macro.specs.Kept.{KeepLaws}
 use Rattle.gos_plan.specs.Projection.{firings_of, asked_by, TakesValues}
 use Rattle.gos_plan.specs.Accounts.{count, number, ins_at, ins_sum, put_at, sum_put, taken_at, sum_taken, AddsUp, PartsPut}
 use Rattle.gos_plan.specs.Made.{PartFiring, fires_of}
 use Rattle.gos_plan.proofs.DecidedLemmas.{orderly_is_possible}
 use Rattle.gos_plan.proofs.JointLemmas.{fits}
 use Rattle.gos_plan.proofs.TokenBitsLemmas.{all_stay_fit}
-use Rattle.gos_gates.specs.causal.Causal.{PartlyFired, ComeInRange, AreCausal}
-use Rattle.gos_gates.proofs.causal.CausalLemmas.{are_causal}
+use Rattle.gos_macro.specs.causal.Causal.{PartlyFired, ComeInRange, AreCausal}
+use Rattle.gos_macro.proofs.causal.CausalLemmas.{are_causal}
 use Rattle.gos_expand.specs.Gates.{layout, outs_of, late_of, pending_of, stands_of, passing_of}
 use Rattle.gos_expand.specs.Blocks.{Nets}
 use Rattle.gos_expand.specs.Starts.{Keep, bits_taken}

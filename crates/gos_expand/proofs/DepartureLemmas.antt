@@ -7,10 +7,10 @@ use Rattle.gos_plan.specs.declared.contacts.Contact as held
 use Rattle.gos_plan.specs.Kinds.{Part, Contact, part_contacts}
 use Rattle.gos_plan.specs.Contacts.{held_contact}
 use Rattle.gos_plan.specs.Plans.{Plan, PartEnd, contact_at, contacts_of_part}
-use Rattle.gos_gates.specs.declared.gates.Wire.{Wire}
-use Rattle.gos_gates.specs.Gates.{Outgoing, Bare, Bearing, bits_out}
-use Rattle.gos_gates.specs.Fit.{AllGoOut}
-use Rattle.gos_gates.specs.Wires.{HoldNets}
+use Rattle.gos_macro.specs.declared.gates.Wire.{Wire}
+use Rattle.gos_macro.specs.Gates.{Outgoing, Bare, Bearing, bits_out}
+use Rattle.gos_macro.specs.Fit.{AllGoOut}
+use Rattle.gos_macro.specs.Wires.{HoldNets}
 use Rattle.gos_expand.specs.declared.tokens.Nets as nets
 use Rattle.gos_expand.specs.Blocks.{Nets, total}
 use Rattle.gos_expand.specs.Gates.{outs_of, part_size}

@@ -11,7 +11,7 @@ use Rattle.gos_plan.specs.Plans.{End, PartEnd, ImportEnd, ResultEnd, Joint, Plan
 use Rattle.gos_plan.specs.Tokens.{Tokens, Element, Fire, Out, In, IsPortEnd, places_of, way_taken}
 use Rattle.gos_plan.specs.TokenBits.{AllFit}
 use Rattle.gos_plan.specs.Orderly.{Open, OrderlyFrom}
-use Rattle.gos_gates.specs.Gates.{pulse_in}
+use Rattle.gos_macro.specs.Gates.{pulse_in}
 use Rattle.gos_plan.specs.Projection.{TakesValues}
 use Rattle.gos_expand.specs.Starts.{Keep, bits_taken}
 use Rattle.gos_expand.specs.Laid.{known}

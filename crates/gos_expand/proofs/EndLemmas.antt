@@ -1,6 +1,6 @@
 -- What stands at an end that is there: its part or its import, and where their cells begin.
 use Rattle.std.specs.Prelude.{Option, None, Some, IsSome, All}
-use Rattle.std.proofs.Common.{get_or, ◌≡◌, ℕ, zero, suc, ◌+◌, ◌≤◌, List, [], ◌∷◌, ◌++◌, length, map, slice_index_or, refl, sym, ap, subst, arith, ◌∙◌, take, slice_get}
+use Rattle.std.proofs.Common.{get_or, ◌≡◌, ℕ, zero, suc, ◌+◌, ◌≤◌, List, [], ◌∷◌, ◌++◌, length, map, refl, sym, ap, subst, arith, ◌∙◌, take, slice_get}
 use Rattle.std.proofs.lemmas.Option.{get_or_from_slice_get}
 use Rattle.gos_types.specs.Types.{type_of}
 use Rattle.gos_netlist.specs.Nets.{Take, NetPort}
@@ -52,12 +52,6 @@ pub all_there : {A : Type 0} (P : A → Type 0) (xs : List A) (i : ℕ) (x : A) 
 all_there P [] i x all there = absurd (cc there)
 all_there P (y ∷ ys) zero x all there = let is : y ≡ x = cc there in subst P is (all 0 y (omega arith))
 all_there P (y ∷ ys) (suc i) x all there = all_there P ys i x (λ k d within. all (suc k) d (omega (arith, within))) there
-
--- what stands at a place of a list is found there
-pub index_there : (ns : List ℕ) (i m d : ℕ) → slice_get ns i ≡ Some m → slice_index_or ns i d ≡ m
-index_there [] i m d there = absurd (cc there)
-index_there (n ∷ ns) zero m d there = cc there
-index_there (n ∷ ns) (suc i) m d there = index_there ns i m d there
 
 -- the import that was looked up
 pub import_here : (ps items : List PlanImport) (i h : ℕ) (x : PlanImport) → items ≡ ps → IsSome (slice_get (contacts_of_import (slice_get (map import_of ps) i)) h) → x ≡ get_or items i x

@@ -6,7 +6,7 @@ use Rattle.gos_netlist.specs.Nets.{Cell, pins}
 use Rattle.gos_netlist.specs.Cycles.{HasCycle}
 use Rattle.gos_plan.specs.Kinds.{Part}
 use Rattle.gos_plan.specs.Plans.{End, PartEnd, Plan}
-use Rattle.gos_gates.specs.Paths.{Path}
+use Rattle.gos_macro.specs.Paths.{Path}
 use Rattle.gos_expand.specs.Starts.{Keep}
 use Rattle.gos_expand.specs.Facts.{Places, incoming_at, Rises}
 use Rattle.gos_expand.proofs.DepthLemmas.{depth_of, depths_rise}

@@ -9,9 +9,9 @@ use Rattle.gos_netlist.specs.Nets.{Cell, pins}
 use Rattle.gos_netlist.specs.Cycles.{IsRegister, Feeds, Chain, HasCycle}
 use Rattle.gos_plan.specs.Kinds.{Part, Contact, part_contacts}
 use Rattle.gos_plan.specs.Plans.{End, PartEnd, Plan, contacts_of_part, contact_at}
-use Rattle.gos_gates.specs.Gates.{Outgoing, Bare, Bearing}
-use Rattle.gos_gates.specs.Fit.{AllGoOut}
-use Rattle.gos_gates.specs.Paths.{Drives, Path, IsIn, IsOut, IsPulseOut, with_renamed}
+use Rattle.gos_macro.specs.Gates.{Outgoing, Bare, Bearing}
+use Rattle.gos_macro.specs.Fit.{AllGoOut}
+use Rattle.gos_macro.specs.Paths.{Drives, Path, IsIn, IsOut, IsPulseOut, with_renamed}
 use Rattle.gos_expand.specs.Blocks.{Nets}
 use Rattle.gos_expand.specs.Gates.{layout, outs_of, part_size}
 use Rattle.gos_expand.specs.Starts.{Keep}

@@ -11,7 +11,7 @@ use Rattle.gos_model.specs.Typing.{Imported}
 use Rattle.gos_plan.specs.Plans.{End, PartEnd, Joint, Plan, contact_at, is_free}
 use Rattle.gos_plan.specs.Seen.{plan_of}
 use Rattle.gos_plan.specs.Size.{shakes_of, numbers_in, numbers_of, plan_size}
-use Rattle.gos_gates.proofs.lemmas.values.ArrayLemmas.{array_length}
+use Rattle.gos_data.proofs.ArrayLemmas.{array_length}
 use Rattle.gos_expand.specs.Blocks.{token_size, total}
 use Rattle.gos_expand.specs.Gates.{part_size}
 use Rattle.gos_expand.specs.Kept.{AreFew}

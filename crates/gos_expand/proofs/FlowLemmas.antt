@@ -14,9 +14,9 @@ use Rattle.gos_plan.specs.Kinds.{Part, Contact, contacts_of, part_contacts, turn
 use Rattle.gos_model.specs.Typing.{Imported}
 use Rattle.gos_plan.specs.Plans.{End, PartEnd, ImportEnd, ResultEnd, Joint, Plan, contacts_of_part, contacts_of_import, turned_if, contact_at, IsRight}
 use Rattle.gos_plan.specs.Tokens.{bits_of, way_put, way_taken}
-use Rattle.gos_gates.specs.Gates.{Outgoing, Bare, Bearing, bits_out}
+use Rattle.gos_macro.specs.Gates.{Outgoing, Bare, Bearing, bits_out}
 use Rattle.gos_types.specs.Widths.{HasWidths}
-use Rattle.gos_gates.specs.Fit.{IsOwn, GoesOut, AllGoOut, GatesFit}
+use Rattle.gos_macro.specs.Fit.{IsOwn, GoesOut, AllGoOut, GatesFit}
 use Rattle.gos_expand.specs.Blocks.{Nets, nets_from, token_size, inputs, registers}
 use Rattle.gos_expand.specs.Gates.{layout, outs_of}
 use Rattle.gos_expand.specs.Starts.{Keep, keep_all, Outer, ports_of, taken_ports, shake_size, bits_if, bits_taken, port_start, part_start, loose_start}

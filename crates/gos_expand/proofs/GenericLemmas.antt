@@ -1,11 +1,11 @@
 -- Nets for a part that are all different and lie behind its own, and how they are renamed to those that it has.
 --
--- Read first: Paths of gos_gates.
+-- Read first: Paths of gos_macro.
 use Rattle.std.proofs.Common.{◌≡◌, ◌+◌, ◌-◌, ◌≤◌, ◌<◌, ◌⊎◌, ℕ, zero, suc, Bool, true, false, List, inl, inr, refl, ap, ◌∙◌, arith}
 use Rattle.std.specs.Prelude.{nat_lt, if◌then◌else◌}
 use Rattle.gos_plan.specs.Kinds.{Contact}
-use Rattle.gos_gates.specs.Gates.{Incoming}
-use Rattle.gos_gates.specs.Paths.{IsIn, AreApart, Renames}
+use Rattle.gos_macro.specs.Gates.{Incoming}
+use Rattle.gos_macro.specs.Paths.{IsIn, AreApart, Renames}
 
 -- pulses have even places, values odd ones
 abbrev pub even : ℕ → ℕ

@@ -16,8 +16,8 @@ use Rattle.gos_plan.specs.Kinds.{Part, Contact, part_contacts, turned_contact, a
 use Rattle.gos_model.specs.Typing.{Imported}
 use Rattle.gos_plan.specs.Plans.{End, PartEnd, ImportEnd, ResultEnd, Joint, Plan, contacts_of_part, contacts_of_import, turned_if, contact_at}
 use Rattle.gos_plan.specs.Tokens.{bits_of, way_taken}
-use Rattle.gos_gates.specs.Gates.{Incoming, bits_in, incoming_bits}
-use Rattle.gos_gates.specs.Fit.{IsKnown, reach_of, NameEarlier, BitsComeIn, HaveBits, GatesFit}
+use Rattle.gos_macro.specs.Gates.{Incoming, bits_in, incoming_bits}
+use Rattle.gos_macro.specs.Fit.{IsKnown, reach_of, NameEarlier, BitsComeIn, HaveBits, GatesFit}
 use Rattle.gos_expand.specs.Blocks.{Nets, inputs, registers, nothing}
 use Rattle.gos_expand.specs.Gates.{layout, outs_of}
 use Rattle.gos_expand.specs.Starts.{Keep, Outer, ports_of, taken_ports, shake_size, bits_if, bits_taken, port_start, joint_start, part_start}

@@ -3,10 +3,10 @@
 -- Read first: Laid; StandLemmas.
 use Rattle.std.proofs.Common.{◌≡◌, ◌+◌, ℕ, zero, suc, Bool, true, false, List, ◌++◌, length, take, slice_get, Some, refl, sym, ap₂, subst, ◌∙◌, length-append, arith}
 use Rattle.gos_netlist.specs.Nets.{Function, Cell, Side, Give, Take}
-use Rattle.gos_gates.specs.Gates.{Incoming}
+use Rattle.gos_macro.specs.Gates.{Incoming}
 use Rattle.gos_plan.specs.Kinds.{Part, Skip, Lit, Seq, Par, If, While, Op, Not, Assign, Deref, Local, Array, Share, Contact, contacts_of}
 use Rattle.gos_plan.specs.Plans.{End, Joint, Plan, contact_at}
-use Rattle.gos_gates.proofs.lemmas.values.ArrayLemmas.{array_length}
+use Rattle.gos_data.proofs.ArrayLemmas.{array_length}
 use Rattle.gos_expand.specs.Blocks.{Nets, token_size, token_cells, registers, blocks, total}
 use Rattle.gos_expand.specs.Gates.{layout, part_size}
 use Rattle.gos_expand.specs.Starts.{Keep, Outer, ports_of, shake_size, port_size, bits_taken, kept_size, way_size, joint_size, loose_ends, loose_size, port_start, joints_start, joint_start, loose_ends_start, part_start}

@@ -7,12 +7,12 @@ use Rattle.std.proofs.lemmas.Option.{slice_get-get_or, slice_get_within}
 use Rattle.gos_types.specs.Types.{Type'}
 use Rattle.gos_netlist.specs.declared.nets.NetId.{NetId}
 use Rattle.gos_netlist.specs.Seen.{number_of}
-use Rattle.gos_netlist.specs.Pools.{Pool, KeepsClosed}
+use Rattle.gos_pool.specs.Pools.{Pool, KeepsClosed}
 use Rattle.gos_netlist.specs.Nets.{Function, Input, Const, Not, And, Or, Xor, Mux, Add, Sub, Eq, Less, Gate, Reg, Cell, Side, NetPort, Netlist, pins}
 use Rattle.gos_netcheck.specs.CellRules.{NetsExist}
 use Rattle.gos_netcheck.specs.PortRules.{PortsFit, IsRightPort, FitsAt, places}
 use Rattle.gos_expand.specs.Choices.{IsLaidBy}
-use Rattle.gos_gates.specs.Paths.{renamed}
+use Rattle.gos_macro.specs.Paths.{renamed}
 use Rattle.gos_expand.specs.Into.{raised_cell, raised_nets, raised_port, LaysIntoNone}
 use Rattle.gos_expand.specs.inner.Raised.{raised_net}
 

@@ -1,11 +1,11 @@
--- The gates of each kind in range keep the laws: those of gos_gates, kind by kind.
+-- The gates of each kind in range keep the laws: those of gos_control, gos_data and gos_share, kind by kind.
 use Rattle.gos_plan.specs.declared.kinds.Kind.TheVariants as kinds
-use Rattle.gos_gates.specs.control.laws.Kept.{control_gates}
-use Rattle.gos_gates.specs.values.laws.Kept.{arith_gates}
-use Rattle.gos_gates.specs.share.laws.Kept.{share_gates}
-use Rattle.gos_gates.specs.control.laws.Paths.{control_paths}
-use Rattle.gos_gates.specs.values.laws.Paths.{arith_paths}
-use Rattle.gos_gates.specs.share.laws.Paths.{share_paths}
+use Rattle.gos_control.specs.laws.Kept.{control_gates}
+use Rattle.gos_data.specs.laws.Kept.{arith_gates}
+use Rattle.gos_share.specs.laws.Kept.{share_gates}
+use Rattle.gos_control.specs.laws.Paths.{control_paths}
+use Rattle.gos_data.specs.laws.Paths.{arith_paths}
+use Rattle.gos_share.specs.laws.Paths.{share_paths}
 use Rattle.gos_expand.specs.Kept.{AllKeep, AllKeepPaths}
 
 pub all_gates : AllKeep

@@ -4,8 +4,8 @@ use Rattle.std.proofs.Common.{◌≡◌, ℕ, zero, suc, ◌<◌, List, [], ◌�
 use Rattle.gos_plan.specs.declared.kinds.Kind.{Kind}
 use Rattle.gos_plan.specs.declared.kinds.Kind.TheVariants as kinds
 use Rattle.gos_plan.specs.Kinds.{Part, part_contacts}
-use Rattle.gos_gates.specs.Gates.{Incoming, Outgoing}
-use Rattle.gos_gates.specs.Fit.{AllGoOut}
+use Rattle.gos_macro.specs.Gates.{Incoming, Outgoing}
+use Rattle.gos_macro.specs.Fit.{AllGoOut}
 use Rattle.gos_plan.specs.Seen.{part_of}
 use Rattle.gos_expand.specs.Gates.{outs_of}
 use Rattle.gos_expand.specs.inner.Dispatch.{gates_for, part_in, cells_in, outs_in, IsLaidOut, gates_keep}

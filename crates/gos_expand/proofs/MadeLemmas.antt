@@ -8,8 +8,8 @@ use Rattle.gos_plan.specs.Firing.{Slot, Token}
 use Rattle.gos_plan.specs.Plans.{End, Plan}
 use Rattle.gos_plan.specs.Tokens.{Tokens}
 use Rattle.gos_plan.specs.Orderly.{Open}
-use Rattle.gos_gates.specs.Gates.{value_in, pulse_in, Shows, SameTokens}
-use Rattle.gos_gates.specs.Law.{Fired, pulsed, late_slots}
+use Rattle.gos_macro.specs.Gates.{value_in, pulse_in, Shows, SameTokens}
+use Rattle.gos_macro.specs.Law.{Fired, pulsed, late_slots}
 use Rattle.gos_plan.specs.Firings.{Fires}
 use Rattle.gos_plan.specs.Made.{fires_of}
 use Rattle.gos_plan.specs.Projection.{firings_of, asked_by}

@@ -6,7 +6,7 @@ use Rattle.std.proofs.lemmas.Option.{same_Some, slice_get_within, slice_get-map,
 use Rattle.gos_netlist.specs.Nets.{Function, Cell, pins}
 use Rattle.gos_netlist.specs.Cycles.{IsRegister}
 use Rattle.gos_netcheck.specs.CellRules.{width_at, widths_of}
-use Rattle.gos_gates.specs.Cells.{bit, wide}
+use Rattle.gos_macro.specs.Cells.{bit, wide}
 use Rattle.gos_expand.specs.Blocks.{Nets, nets_from, token_cells}
 use Rattle.gos_expand.proofs.StandLemmas.{Each, StandAt}
 

@@ -9,7 +9,7 @@ use Rattle.gos_plan.specs.Kinds.{Part, Contact, part_contacts}
 use Rattle.gos_plan.specs.Size.{shakes_of}
 use Rattle.gos_plan.specs.Plans.{End, Joint, Plan, contact_at, same_end, is_free}
 use Rattle.gos_plan.specs.Seen.{part_of}
-use Rattle.gos_gates.specs.Gates.{Incoming}
+use Rattle.gos_macro.specs.Gates.{Incoming}
 use Rattle.gos_expand.specs.declared.arrivals.Origin.{Origin}
 use Rattle.gos_expand.specs.declared.arrivals.Origin.TheVariants.{Cells}
 use Rattle.gos_expand.specs.declared.arrivals.Arrivals.{Arrivals}

@@ -1,20 +1,12 @@
 -- Cells are placed one block after another.
 use Rattle.std.specs.Prelude.{None, Some}
-use Rattle.std.proofs.Common.{◌≡◌, ℕ, ◌+◌, ◌-◌, ◌<◌, ◌≤◌, List, [], ◌∷◌, ◌++◌, length, refl, sym, ap, subst, arith, ◌∙◌, take, slice_get, append_assoc}
+use Rattle.std.proofs.Common.{◌≡◌, ℕ, ◌+◌, ◌-◌, ◌<◌, ◌≤◌, List, ◌++◌, length, sym, ap, subst, arith, ◌∙◌, take, slice_get, append_assoc}
 use Rattle.std.proofs.lemmas.List.{length-append}
 use Rattle.gos_netlist.specs.Nets.{Cell}
-use Rattle.gos_netlist.specs.Pools.{Pool, with_closed}
+use Rattle.gos_pool.specs.Pools.{Pool, with_closed}
 use Rattle.gos_expand.specs.Blocks.{blocks}
 use Rattle.gos_expand.specs.inner.Tokens.{Places}
 use Rattle.gos_expand.proofs.BlockLemmas.{blocks_more, blocks_within}
-
-append_nil : (cs : List Cell) → cs ++ [] ≡ cs
-append_nil [] = refl
-append_nil (c ∷ cs) = ap (λ (ds : List Cell). c ∷ ds) (append_nil cs)
-
--- nothing was placed yet
-pub places_none : (pool : Pool) → Places pool pool [] 0
-places_none pool = record { cells = sym (append_nil pool.cells); spare = omega arith; begun = refl }
 
 -- first these cells, and then those
 pub places_then : (a b c : Pool) (xs ys : List Cell) (m n : ℕ) → Places a b xs m → Places b c ys n → Places a c (xs ++ ys) (m + n)

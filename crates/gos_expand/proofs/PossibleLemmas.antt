@@ -12,7 +12,7 @@ use Rattle.gos_plan.specs.Firing.{Slot, Req, Ans, same_slot}
 use Rattle.gos_plan.specs.Plans.{End, PartEnd, ImportEnd, ResultEnd, Plan, IsRight, contact_at, same_end}
 use Rattle.gos_plan.specs.Tokens.{Tokens, Element, Fire, Out, In, IsPortEnd, places_of, same_way, with_place, with_held, held_at, token_at, with_token, bits_of, way_taken, way_put, way_of, end_of, shake_of, fired, Does, Passes, Runs}
 use Rattle.gos_plan.specs.Orderly.{Open, after_taken, ComesInOrder, AllWelcome, OrderlyFrom}
-use Rattle.gos_gates.specs.Gates.{slot_in}
+use Rattle.gos_macro.specs.Gates.{slot_in}
 use Rattle.gos_plan.specs.Firings.{times}
 use Rattle.gos_plan.specs.Projection.{firings_of, TakesValues}
 use Rattle.gos_plan.specs.Made.{PartFiring, fires_of}

@@ -15,7 +15,7 @@ use Rattle.gos_plan.specs.Firing.{Slot, Req, Ans, firing}
 use Rattle.gos_plan.specs.Plans.{End, PartEnd, Joint, Plan, contact_at, contacts_of_part, same_end}
 use Rattle.gos_plan.specs.Tokens.{Tokens, Element, Fire, Out, In, IsPortEnd, IsIdle, places_of, token_at, held_at, shake_of, way_of, way_taken, end_of, firing_of, Passes, Does}
 use Rattle.gos_plan.specs.Orderly.{none_open}
-use Rattle.gos_gates.specs.Gates.{slot_in}
+use Rattle.gos_macro.specs.Gates.{slot_in}
 use Rattle.gos_plan.specs.Firings.{times}
 use Rattle.gos_plan.specs.Projection.{firings_of}
 use Rattle.gos_plan.specs.Accounts.{count, number, taken_at}

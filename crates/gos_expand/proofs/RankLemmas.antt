@@ -12,8 +12,8 @@ use Rattle.gos_plan.specs.Kinds.{Part, Contact, part_contacts}
 use Rattle.gos_plan.specs.Plans.{End, PartEnd, Plan, contact_at}
 use Rattle.gos_plan.specs.Tokens.{Tokens, Element, Runs, shake_of}
 use Rattle.gos_plan.specs.Orderly.{Open, OrderlyFrom}
-use Rattle.gos_gates.specs.Gates.{slot_in, is_among, pulse_in, slots_of}
-use Rattle.gos_gates.specs.Law.{pulsed}
+use Rattle.gos_macro.specs.Gates.{slot_in, is_among, pulse_in, slots_of}
+use Rattle.gos_macro.specs.Law.{pulsed}
 use Rattle.gos_plan.specs.Firings.{times}
 use Rattle.gos_plan.specs.Projection.{firings_of, TakesValues}
 use Rattle.gos_plan.specs.Made.{PartFiring, fires_of}

@@ -9,9 +9,9 @@ use Rattle.gos_netlist.specs.Settling.{Numbers, at, shown, next_of, next_registe
 use Rattle.gos_plan.specs.Kinds.{Part, Contact, contacts_of, turned_contact}
 use Rattle.gos_model.specs.Typing.{Imported}
 use Rattle.gos_plan.specs.Plans.{End, PartEnd, ImportEnd, ResultEnd, Joint, Plan, IsRight, AreRight, contact_at, same_end, stands_in, is_free, turned_if, contacts_of_import}
-use Rattle.gos_gates.specs.Cells.{bit, wide}
-use Rattle.gos_gates.specs.Gates.{Settled}
-use Rattle.gos_gates.specs.Fit.{HasNoInput}
+use Rattle.gos_macro.specs.Cells.{bit, wide}
+use Rattle.gos_macro.specs.Gates.{Settled}
+use Rattle.gos_macro.specs.Fit.{HasNoInput}
 use Rattle.gos_plan.specs.Tokens.{places_of, asking_in}
 use Rattle.gos_plan.proofs.JointLemmas.{IsIn, same_itself}
 use Rattle.gos_plan.proofs.BalanceLemmas.{ends_differ}
@@ -110,10 +110,6 @@ apart_later p before (k ∷ js) zero j y right h e =
     subst (λ (z : Joint). (stands_in z.asking y ≡ false) × (stands_in z.serving y ≡ false)) is
     (free_of k.asking y before h (grind (arith, right.0.1)), free_of k.serving y before h (grind (arith, right.0.2)))
 apart_later p before (k ∷ js) (suc x) j y right h e = apart_later p (k ∷ before) js x j y right.1 (inr h) e
-
-neither : (a b : Bool) → (if a then true else b) ≡ false → (a ≡ false) × (b ≡ false)
-neither true b e = absurd (cc e)
-neither false b e = (refl, e)
 
 -- an end of a joint has its seat there
 abbrev pub seat_at : ℕ → Joint → Direction → Seat

@@ -13,7 +13,7 @@ use Rattle.gos_plan.specs.Kinds.{contacts_of}
 use Rattle.gos_model.specs.Typing.{Imported}
 use Rattle.gos_plan.specs.Plans.{End, Joint, ImportEnd, ResultEnd, Plan, contact_at}
 use Rattle.gos_types.specs.Widths.{HasWidths}
-use Rattle.gos_gates.specs.Fit.{HasNoInput}
+use Rattle.gos_macro.specs.Fit.{HasNoInput}
 use Rattle.gos_expand.specs.Blocks.{Nets, registers, total, nets_on}
 use Rattle.gos_expand.specs.Starts.{Keep, Outer, ports_of, taken_ports, port_size, bits_taken, port_start, joint_start, part_start}
 use Rattle.gos_expand.specs.Laid.{arrives, registers_if, port_cells, way_cells, joint_cells, loose_cells, part_cells, incoming, laid_port, taken}

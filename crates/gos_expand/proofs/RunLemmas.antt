@@ -13,8 +13,8 @@ use Rattle.gos_plan.specs.Plans.{End, Plan, IsRight, contact_at}
 use Rattle.gos_plan.specs.Tokens.{IsPortEnd}
 use Rattle.gos_plan.specs.Seen.{SeenPlan, plan_of, part_of}
 use Rattle.gos_plan.specs.Ranges as ranges
-use Rattle.gos_gates.specs.Kept.{KeepLaws}
-use Rattle.gos_gates.specs.Paths.{KeepPaths}
+use Rattle.gos_macro.specs.Kept.{KeepLaws}
+use Rattle.gos_macro.specs.Paths.{KeepPaths}
 use Rattle.gos_plan.proofs.TokenBitsLemmas.{literals_fit}
 use Rattle.gos_expand.specs.Gates.{layout, outs_of, late_of, pending_of, stands_of, passing_of}
 use Rattle.gos_expand.specs.Kept.{AllKeepPaths}

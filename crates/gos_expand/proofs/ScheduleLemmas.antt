@@ -7,8 +7,8 @@ use Rattle.gos_plan.specs.Kinds.{Part, Contact, part_contacts}
 use Rattle.gos_plan.specs.Firing.{Slot, same_slot}
 use Rattle.gos_plan.specs.Plans.{End, PartEnd, Plan}
 use Rattle.gos_plan.specs.Tokens.{Element, Fire, shake_of}
-use Rattle.gos_gates.specs.Gates.{slot_in, slots_of, is_among, pulse_in}
-use Rattle.gos_gates.specs.Law.{pulse_at, pulsed, late_slots, early_slots}
+use Rattle.gos_macro.specs.Gates.{slot_in, slots_of, is_among, pulse_in}
+use Rattle.gos_macro.specs.Law.{pulse_at, pulsed, late_slots, early_slots}
 use Rattle.gos_plan.specs.Firings.{times}
 use Rattle.gos_plan.specs.Made.{PartFiring, fires_of}
 use Rattle.gos_plan.specs.Projection.{firings_of}

@@ -1,7 +1,7 @@
 -- How many cells the gates of a Share have: 11 at most for each handshake of its type, and 4 besides. How many
 -- handshakes it has, and how far it passes on.
 --
--- Read first: Blocks and Share of gos_gates.
+-- Read first: Blocks and Share of gos_share.
 use Rattle.std.proofs.Common.{◌≡◌, ◌+◌, ◌*◌, ◌≤◌, ◌⊎◌, ℕ, zero, suc, true, List, [], ◌∷◌, ◌++◌, length, inl, inr, refl, sym, ap, ◌∙◌, length-append, arith}
 use Rattle.std.specs.Int.{abs_diff}
 use Rattle.std.proofs.lemmas.List.{length-map}
@@ -9,12 +9,12 @@ use Rattle.gos_types.specs.declared.shakes.Role.{Role}
 use Rattle.gos_types.specs.declared.shakes.Role.TheVariants.{Serve, Ask}
 use Rattle.gos_types.specs.Types.{Type', Com, Exp, Var, Pair, Fun, size}
 use Rattle.gos_types.specs.Handshakes.{handshakes_of}
-use Rattle.gos_gates.specs.Gates.{Incoming}
+use Rattle.gos_macro.specs.Gates.{Incoming}
 use Rattle.gos_plan.specs.Kinds.{Part, Share, Contact, contact, contacts_of, part_contacts, turned_contact, other_side}
-use Rattle.gos_gates.specs.share.Blocks.{block_cells, block_size, kept_net}
-use Rattle.gos_gates.specs.share.Share.{row_cells, share_cells}
-use Rattle.gos_gates.specs.share.laws.Row.{block_length}
-use Rattle.gos_gates.proofs.lemmas.share.ApartLemmas.{AreApart, row_apart}
+use Rattle.gos_share.specs.Blocks.{block_cells, block_size, kept_net}
+use Rattle.gos_share.specs.Share.{row_cells, share_cells}
+use Rattle.gos_share.specs.laws.Row.{block_length}
+use Rattle.gos_share.proofs.ApartLemmas.{AreApart, row_apart}
 use Rattle.gos_expand.specs.Gates.{passing_of, part_size}
 
 -- the blocks of these handshakes

@@ -1,6 +1,6 @@
 -- No number leaves or arrives at an end without its pulse, where the inputs are clean: so outputs are silent.
 --
--- Read first: Silence of gos_pace, StaySilent in Law of gos_gates; BitLemmas. The gates of a part let a number through by its
+-- Read first: Silence of gos_pace, StaySilent in Law of gos_macro; BitLemmas. The gates of a part let a number through by its
 -- pulse. What registers hold was put there with a pulse, and what no register holds passes on as it is.
 use Rattle.std.specs.Prelude.{Option, None}
 use Rattle.std.proofs.Common.{◌≡◌, ℕ, zero, suc, ◌≤◌, ◌<◌, Bool, true, false, List, [], ◌∷◌, Some, slice_get, refl, sym, ◌∙◌, ap, subst, arith}
@@ -11,9 +11,9 @@ use Rattle.gos_plan.specs.Kinds.{Part, Contact, part_contacts}
 use Rattle.gos_plan.specs.Plans.{End, PartEnd, ImportEnd, ResultEnd, Joint, Plan, IsRight, contact_at}
 use Rattle.gos_plan.specs.Tokens.{IsPortEnd, places_of, way_taken}
 use Rattle.gos_plan.proofs.JointLemmas.{fits}
-use Rattle.gos_gates.specs.Gates.{Incoming, Outgoing, Bare, Bearing}
-use Rattle.gos_gates.specs.Fit.{GoesOut}
-use Rattle.gos_gates.specs.Law.{AreSilent, PulsesComeIn}
+use Rattle.gos_macro.specs.Gates.{Incoming, Outgoing, Bare, Bearing}
+use Rattle.gos_macro.specs.Fit.{GoesOut}
+use Rattle.gos_macro.specs.Law.{AreSilent, PulsesComeIn}
 use Rattle.gos_expand.specs.Gates.{layout, outs_of}
 use Rattle.gos_expand.specs.Blocks.{Nets}
 use Rattle.gos_expand.specs.Starts.{Keep, bits_taken}

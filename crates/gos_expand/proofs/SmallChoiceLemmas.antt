@@ -4,7 +4,7 @@
 use Rattle.std.proofs.Common.{ℕ, false, true, [], ◌∷◌, get_or, Contains, inl, inr, refl, arith}
 use Rattle.gos_netlist.specs.Nets.{Or}
 use Rattle.gos_netlist.specs.Cycles.{IsRegister, HasCycle}
-use Rattle.gos_gates.specs.Cells.{buffer}
+use Rattle.gos_macro.specs.Cells.{buffer}
 use Rattle.gos_plan.specs.SmallPlans.{skip_plan}
 use Rattle.gos_expand.specs.Starts.{chosen}
 use Rattle.gos_expand.specs.Laid.{laid_cells}

@@ -17,7 +17,7 @@ use Rattle.gos_plan.specs.Plans.{End, PartEnd, Joint, Plan, IsRight, Fits, conta
 use Rattle.gos_plan.specs.Tokens.{Tokens, Element, IsPortEnd, IsIdle, places_of, token_at, held_at, bits_of, way_taken}
 use Rattle.gos_plan.specs.TokenBits.{AllFit}
 use Rattle.gos_plan.specs.Orderly.{Open, none_open, AllWelcome, OrderlyFrom}
-use Rattle.gos_gates.specs.Gates.{Incoming, incoming_bits, bits_in, value_in}
+use Rattle.gos_macro.specs.Gates.{Incoming, incoming_bits, bits_in, value_in}
 use Rattle.gos_plan.specs.Firings.{due, value_due}
 use Rattle.gos_plan.specs.Projection.{TakesValues}
 use Rattle.gos_plan.proofs.AccountLemmas.{parts_fill_places}

@@ -13,9 +13,9 @@ use Rattle.gos_netlist.specs.Cycles.{IsRegister, Feeds}
 use Rattle.gos_plan.specs.Kinds.{Part, Contact, part_contacts, asks, serves}
 use Rattle.gos_plan.specs.Plans.{End, PartEnd, ImportEnd, ResultEnd, Joint, Plan, Fits, contacts_of_part, contact_at}
 use Rattle.gos_plan.specs.Tokens.{IsPortEnd, bits_of, way_put}
-use Rattle.gos_gates.specs.Gates.{Outgoing, Bare, Bearing, bits_out}
-use Rattle.gos_gates.specs.Fit.{IsKnown, reach_of, GoesOut, AllGoOut}
-use Rattle.gos_gates.specs.Paths.{Drives, IsIn, IsOut, with_renamed}
+use Rattle.gos_macro.specs.Gates.{Outgoing, Bare, Bearing, bits_out}
+use Rattle.gos_macro.specs.Fit.{IsKnown, reach_of, GoesOut, AllGoOut}
+use Rattle.gos_macro.specs.Paths.{Drives, IsIn, IsOut, with_renamed}
 use Rattle.gos_expand.specs.Blocks.{Nets}
 use Rattle.gos_expand.specs.Gates.{layout, outs_of, part_size}
 use Rattle.gos_expand.specs.Starts.{Keep, bits_taken}

@@ -7,10 +7,10 @@ use Rattle.gos_netlist.specs.Settling.{Numbers}
 use Rattle.gos_plan.specs.Kinds.{Part, Contact}
 use Rattle.gos_plan.specs.Firing.{State, Slot, Req, Ans, Token, same_slot}
 use Rattle.gos_plan.specs.Tokens.{Element, Fire, Out, In, shake_of}
-use Rattle.gos_gates.specs.Gates.{Outgoing, slot_in, slots_of, NetsShow, Shows}
+use Rattle.gos_macro.specs.Gates.{Outgoing, slot_in, slots_of, NetsShow, Shows}
 use Rattle.gos_plan.specs.Firings.{due, value_due, Asked, Fires, times}
-use Rattle.gos_gates.specs.Fit.{GoesOut, AllGoOut}
-use Rattle.gos_gates.specs.Law.{pulse_at, pulsed}
+use Rattle.gos_macro.specs.Fit.{GoesOut, AllGoOut}
+use Rattle.gos_macro.specs.Law.{pulse_at, pulsed}
 use Rattle.gos_plan.specs.Made.{PartFiring, fires_of}
 use Rattle.gos_plan.specs.Projection.{firings_of}
 use Rattle.gos_plan.specs.laws.Inversion.{same}

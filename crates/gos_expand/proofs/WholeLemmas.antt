@@ -1,8 +1,7 @@
 -- The four groups of cells stand one behind the other; and the choice in which all directions keep registers.
 use Rattle.std.specs.Prelude.{Result, Ok, Err, IfOk}
-use Rattle.std.proofs.Common.{◌≡◌, ◌∙◌, ◌++◌, ℕ, zero, suc, true, List, [], ap, append_assoc, get_or, replicate, refl}
+use Rattle.std.proofs.Common.{◌≡◌, ◌∙◌, ◌++◌, List, [], ap, append_assoc}
 use Rattle.gos_netlist.specs.Nets.{Cell}
-use Rattle.gos_expand.specs.Starts.{keep_all, place_of, chosen}
 
 -- four groups placed one behind the other, at first behind nothing
 pub four_groups : (a b c d s w x y z : List Cell) → s ≡ [] → w ≡ s ++ a → x ≡ w ++ b → y ≡ x ++ c → z ≡ y ++ d → z ≡ a ++ (b ++ (c ++ d))
@@ -16,12 +15,3 @@ four_groups a b c d s w x y z none one two three four =
 pub both_then : {X E : Type 0} (r : Result X E) {P Q R : X → Type 0} → IfOk r P → IfOk r Q → ((x : X) → P x → Q x → R x) → IfOk r R
 both_then (Ok x) p q f = f x p q
 both_then (Err e) p q f = tt
-
--- so many times true
-all_true : (n k : ℕ) → get_or (replicate n true) k true ≡ true
-all_true zero k = refl
-all_true (suc n) zero = refl
-all_true (suc n) (suc k) = all_true n k
-
-pub all_chosen : (n : ℕ) → chosen (replicate n true) ≡ keep_all
-all_chosen n = λ i x way. all_true n (place_of x way) i

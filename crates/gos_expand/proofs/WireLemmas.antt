@@ -1,9 +1,9 @@
 -- The wires of a part hold the nets that come in.
 use Rattle.std.specs.Prelude.{Some}
 use Rattle.std.proofs.Common.{◌≡◌, ℕ, zero, suc, List, [], ◌∷◌, length, map, refl, ap, arith, slice_get}
-use Rattle.gos_gates.specs.declared.gates.Wire.{Wire}
+use Rattle.gos_macro.specs.declared.gates.Wire.{Wire}
 use Rattle.gos_plan.specs.Kinds.{Part, Contact, part_contacts}
-use Rattle.gos_gates.specs.Wires.{nets_in, pulse_if, value_if, incoming_of}
+use Rattle.gos_macro.specs.Wires.{nets_in, pulse_if, value_if, incoming_of}
 use Rattle.gos_plan.specs.Plans.{PartEnd, Plan, contact_at}
 use Rattle.gos_expand.specs.Starts.{Keep}
 use Rattle.gos_expand.specs.Laid.{arrives, known, incoming}

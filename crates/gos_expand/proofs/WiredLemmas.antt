@@ -9,9 +9,9 @@ use Rattle.gos_netlist.specs.Cycles.{IsRegister}
 use Rattle.gos_plan.specs.Kinds.{Part, Contact, part_contacts}
 use Rattle.gos_plan.specs.Plans.{End, PartEnd, Joint, Plan, IsRight, contact_at}
 use Rattle.gos_plan.specs.Tokens.{IsPortEnd}
-use Rattle.gos_gates.specs.Gates.{Incoming}
-use Rattle.gos_gates.specs.Fit.{GatesFit}
-use Rattle.gos_gates.specs.Paths.{AreApart, Renames, renamed, with_renamed, KeepPaths}
+use Rattle.gos_macro.specs.Gates.{Incoming}
+use Rattle.gos_macro.specs.Fit.{GatesFit}
+use Rattle.gos_macro.specs.Paths.{AreApart, Renames, renamed, with_renamed, KeepPaths}
 use Rattle.gos_expand.specs.Blocks.{Nets}
 use Rattle.gos_expand.specs.Gates.{layout, outs_of, late_of, passing_of, part_size}
 use Rattle.gos_expand.specs.Starts.{Keep, bits_taken}

@@ -10,7 +10,7 @@ use Rattle.gos_types.specs.Events.{Request, Answer}
 use Rattle.gos_plan.specs.Kinds.{Part, Contact}
 use Rattle.gos_plan.specs.Plans.{End, PartEnd, ImportEnd, ResultEnd, Joint, Plan, contact_at}
 use Rattle.gos_plan.specs.Tokens.{IsPortEnd}
-use Rattle.gos_gates.specs.Paths.{KeepPaths}
+use Rattle.gos_macro.specs.Paths.{KeepPaths}
 use Rattle.gos_expand.specs.Blocks.{Nets, token_cells, inputs, registers, total}
 use Rattle.gos_expand.specs.Gates.{layout, outs_of, late_of, passing_of, part_size}
 use Rattle.gos_expand.specs.Starts.{Keep, Outer, bits_taken, shake_size, part_start}

@@ -1,6 +1,6 @@
 -- What the cycles of a plan's netlist show, in terms of the plan's ends, and that such cycles are lists of the plan.
 --
--- Read first: Starts, Kept; Cycles of gos_pace, Paths of gos_gates. A direction of a joint that keeps its registers holds what passes
+-- Read first: Starts, Kept; Cycles of gos_pace, Paths of gos_macro. A direction of a joint that keeps its registers holds what passes
 -- for a cycle; the nets of one that doesn't are one and the same. Behind these facts no numbers of nets are needed any more.
 use Rattle.std.specs.Prelude.{◌≡◌, ℕ, zero, suc, ◌^◌, ◌<◌, ◌≤◌, true, false, List, [], ◌∷◌, length, Option, Some, None, All, slice_get, nat_eq, if◌then◌else◌}
 use Rattle.gos_netlist.specs.Nets.{Netlist}
@@ -11,9 +11,9 @@ use Rattle.gos_plan.specs.Kinds.{Part, Contact, part_contacts}
 use Rattle.gos_plan.specs.Plans.{End, PartEnd, Joint, Plan, IsRight, contact_at, same_end}
 use Rattle.gos_plan.specs.Tokens.{Element, Out, In, IsPortEnd, places_of, bits_of, way_put}
 use Rattle.gos_plan.specs.TokenBits.{LiteralFits}
-use Rattle.gos_gates.specs.Gates.{Incoming, Settled}
-use Rattle.gos_gates.specs.Kept.{KeepLaws}
-use Rattle.gos_gates.specs.Paths.{KeepPaths}
+use Rattle.gos_macro.specs.Gates.{Incoming, Settled}
+use Rattle.gos_macro.specs.Kept.{KeepLaws}
+use Rattle.gos_macro.specs.Paths.{KeepPaths}
 use Rattle.gos_pace.specs.Cycles as cycles
 use Rattle.gos_pace.specs.AnyOrder.{EndsDiffer}
 use Rattle.gos_expand.specs.Gates.{layout, outs_of, late_of, pending_of, stands_of, passing_of}

@@ -1,15 +1,15 @@
 -- The gates of every kind of part, whichever crate lays them out.
 --
--- Read first: Gates and Law of gos_gates; Layout of gos_gates, of gos_gates and of gos_gates.
+-- Read first: Gates and Law of gos_macro; Layout of gos_control, of gos_data and of gos_share.
 use Rattle.std.specs.Prelude.{ℕ, Bool, List, length}
 use Rattle.gos_netlist.specs.Nets.{Cell}
 use Rattle.gos_netlist.specs.Settling.{Numbers}
 use Rattle.gos_plan.specs.Kinds.{Part, Skip, Seq, Par, If, While, Share}
 use Rattle.gos_plan.specs.Firing.{State, Token}
-use Rattle.gos_gates.specs.Gates.{Incoming, Outgoing}
-use Rattle.gos_gates.specs.control.Layout as control
-use Rattle.gos_gates.specs.values.Layout as arith
-use Rattle.gos_gates.specs.share.Layout as sharing
+use Rattle.gos_macro.specs.Gates.{Incoming, Outgoing}
+use Rattle.gos_control.specs.Layout as control
+use Rattle.gos_data.specs.Layout as arith
+use Rattle.gos_share.specs.Layout as sharing
 
 -- the crate that lays a kind out
 pub data Family : Type 0 where

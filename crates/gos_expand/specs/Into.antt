@@ -3,9 +3,9 @@
 -- Read first: Choices; Pools of gos_netlist. Behind n cells each net of a netlist has a number that is higher by n.
 use Rattle.std.specs.Prelude.{◌≡◌, ◌↔◌, ℕ, ◌+◌, List, [], ◌++◌, map, length}
 use Rattle.gos_netlist.specs.Nets.{Cell, NetPort, Netlist}
-use Rattle.gos_netlist.specs.Pools.{Pool}
+use Rattle.gos_pool.specs.Pools.{Pool}
 use Rattle.gos_plan.specs.Plans.{Plan}
-use Rattle.gos_gates.specs.Paths.{with_renamed}
+use Rattle.gos_macro.specs.Paths.{with_renamed}
 use Rattle.gos_expand.specs.declared.whole.Policy.{Policy}
 use Rattle.gos_expand.specs.Choices.{IsLaidBy}
 

@@ -1,15 +1,15 @@
 -- The gates of each kind keep the laws, whichever crate lays them out.
 --
--- Read first: Gates; Kept of gos_gates.
+-- Read first: Gates; Kept of gos_macro.
 use Rattle.std.specs.Prelude.{ℕ, ◌+◌, ◌*◌, ◌≤◌, length}
 use Rattle.gos_plan.specs.declared.kinds.Kind.{Kind}
 use Rattle.gos_plan.specs.Seen.{part_of}
 use Rattle.gos_plan.specs.Ranges.{IsInRange}
 use Rattle.gos_plan.specs.Kinds.{Part, part_contacts}
 use Rattle.gos_plan.specs.Size.{numbers_in}
-use Rattle.gos_gates.specs.Gates.{Incoming}
-use Rattle.gos_gates.specs.Kept.{KeepLaws}
-use Rattle.gos_gates.specs.Paths.{KeepPaths}
+use Rattle.gos_macro.specs.Gates.{Incoming}
+use Rattle.gos_macro.specs.Kept.{KeepLaws}
+use Rattle.gos_macro.specs.Paths.{KeepPaths}
 use Rattle.gos_expand.specs.Gates.{layout, outs_of, late_of, pending_of, stands_of, passing_of}
 
 -- what the laws say of a kind

@@ -7,7 +7,7 @@ use Rattle.gos_types.specs.Types.{Type'}
 use Rattle.gos_netlist.specs.Nets.{Cell, Side, Give, Take, NetPort, Netlist}
 use Rattle.gos_types.specs.Events.{Direction, Request, Answer}
 use Rattle.gos_plan.specs.Kinds.{Part, Contact, contacts_of}
-use Rattle.gos_gates.specs.Gates.{Incoming, Outgoing, Bare, Bearing}
+use Rattle.gos_macro.specs.Gates.{Incoming, Outgoing, Bare, Bearing}
 use Rattle.gos_model.specs.Typing.{Imported}
 use Rattle.gos_plan.specs.Plans.{End, PartEnd, ImportEnd, ResultEnd, Joint, Plan, contacts_of_import, contact_at, same_end}
 use Rattle.gos_expand.specs.Gates.{layout, outs_of}

@@ -8,7 +8,7 @@ use Rattle.gos_netlist.specs.Nets.{Netlist, Input, Reg, Give}
 use Rattle.gos_netlist.specs.Cycles.{HasCycle}
 use Rattle.gos_plan.specs.Kinds.{Seq}
 use Rattle.gos_plan.specs.Plans.{PartEnd, Plan}
-use Rattle.gos_gates.specs.Cells.{bit, buffer}
+use Rattle.gos_macro.specs.Cells.{bit, buffer}
 use Rattle.gos_plan.specs.declared.kinds.Kind.TheVariants as kinds
 use Rattle.gos_plan.specs.declared.plan.End.TheVariants as ends
 use Rattle.gos_plan.specs.Seen.{SeenPlan, plan_of}

@@ -4,9 +4,9 @@
 use Rattle.std.specs.Prelude.{List, [], ◌∷◌, ◌++◌, None, codes}
 use Rattle.gos_types.specs.Types.{Com}
 use Rattle.gos_netlist.specs.Nets.{Netlist, Input, Reg, Cell, NetPort, Give}
-use Rattle.gos_netlist.specs.Pools.{Pool}
+use Rattle.gos_pool.specs.Pools.{Pool}
 use Rattle.gos_plan.specs.SmallPlans.{skip_plan}
-use Rattle.gos_gates.specs.Cells.{bit, buffer}
+use Rattle.gos_macro.specs.Cells.{bit, buffer}
 use Rattle.gos_expand.specs.declared.whole.Policy.TheVariants.{All}
 use Rattle.gos_expand.specs.SmallNets.{skip_netlist}
 use Rattle.gos_expand.specs.Into.{LaysInto}

@@ -12,7 +12,7 @@ ghost use Rattle.gos_expand.specs.inner.Choosing.{joint_at, number_in, ways_at, 
 use crate::arrivals::{Arrivals, Origin};
 use crate::gates::gates_of;
 use crate::places::shakes;
-use gos_gates::Macro;
+use gos_macro::Macro;
 use gos_order::Order;
 use gos_plan::{End, Kind, Plan};
 use gos_types::{NoMemory, Role};

@@ -3,7 +3,7 @@ ghost use Rattle.std.specs.Prelude.{◌≡◌, ◌≤◌, ◌+◌, map, option_m
 ghost use Rattle.gos_plan.specs.Ranges.{IsInRange};
 ghost use Rattle.gos_plan.specs.Contacts.{contact_held};
 ghost use Rattle.gos_plan.specs.Seen.{part_of};
-ghost use Rattle.gos_gates.specs.Gates.{bits_out};
+ghost use Rattle.gos_macro.specs.Gates.{bits_out};
 ghost use Rattle.gos_expand.specs.Gates.{part_size};
 ghost use Rattle.gos_expand.specs.inner.Tokens.{held_nets};
 ghost use Rattle.gos_expand.specs.inner.Departures.{nets_of_wire, nets_of_wires, part_departures, nets_in};
@@ -11,7 +11,7 @@ ghost use Rattle.gos_expand.specs.inner.Departures.{nets_of_wire, nets_of_wires,
 use crate::gates::gates_of;
 use crate::places::shakes;
 use crate::tokens::Nets;
-use gos_gates::{Macro, Wire};
+use gos_macro::{Macro, Wire};
 use gos_netlist::NetId;
 use gos_plan::{Contact, Kind, part_contacts};
 use gos_types::{NoMemory, Role};

@@ -3,9 +3,13 @@ ghost use Rattle.std.specs.Prelude.{◌≡◌};
 ghost use Rattle.gos_plan.specs.Ranges.{IsInRange};
 ghost use Rattle.gos_expand.specs.inner.Dispatch.{gates_for, part_in, cells_in, outs_in, late_in, pending_in, stands_in, passing_in, IsLaidOut, gates_keep, gates_pass};
 
-use gos_gates::{Arith, Control, Macro, Sharing, Wire};
-use gos_netlist::{NetId, NetPool, Region};
+use gos_control::Control;
+use gos_data::Arith;
+use gos_macro::{Macro, Wire};
+use gos_netlist::NetId;
 use gos_plan::Kind;
+use gos_pool::{NetPool, Region};
+use gos_share::Sharing;
 
 // The gates of a part: it passes control on, it computes, or two callers use one source by it.
 #[derive(Debug, Drop)]

@@ -4,7 +4,7 @@ ghost use Rattle.std.specs.List.{AllByRecursion};
 ghost use Rattle.gos_types.specs.Types.{type_of, IsGround, IsDone};
 ghost use Rattle.gos_netlist.specs.Nets.{pins};
 ghost use Rattle.gos_netlist.specs.Seen.{cell_of, function_of, number_of};
-ghost use Rattle.gos_netlist.specs.Pools.{KeepsClosed};
+ghost use Rattle.gos_pool.specs.Pools.{KeepsClosed};
 ghost use Rattle.gos_netcheck.specs.Accepted.{IsAccepted};
 ghost use Rattle.gos_plan.specs.Seen.{plan_of};
 ghost use Rattle.gos_plan.specs.Size.{plan_size};
@@ -14,8 +14,9 @@ ghost use Rattle.gos_expand.specs.inner.Raised.{raised_net};
 
 use crate::whole::{Policy, expand};
 use gos_lex::Name;
-use gos_netlist::{Cell, Gate, NetId, NetPool, Netlist, Port, Region};
+use gos_netlist::{Cell, NetId, Netlist, Port};
 use gos_plan::Plan;
+use gos_pool::{NetPool, Region};
 use gos_types::NoMemory;
 use std::alloc::Global;
 
@@ -95,24 +96,9 @@ fn raised_cell(cell: Cell, by: u32) -> Cell
     requires by { by ≤ 100000000 }
     ensures { cell_of result ≡ raised_cell by (cell_of cell) }
 {
-    let gate = match cell.gate {
-        Gate::Input => Gate::Input,
-        Gate::Const(k) => Gate::Const(k),
-        Gate::Not(a) => Gate::Not(raised_net(a, by)),
-        Gate::And(a, b) => Gate::And(raised_net(a, by), raised_net(b, by)),
-        Gate::Or(a, b) => Gate::Or(raised_net(a, by), raised_net(b, by)),
-        Gate::Xor(a, b) => Gate::Xor(raised_net(a, by), raised_net(b, by)),
-        Gate::Mux(s, a, b) => Gate::Mux(raised_net(s, by), raised_net(a, by), raised_net(b, by)),
-        Gate::Add(a, b) => Gate::Add(raised_net(a, by), raised_net(b, by)),
-        Gate::Sub(a, b) => Gate::Sub(raised_net(a, by), raised_net(b, by)),
-        Gate::Eq(a, b) => Gate::Eq(raised_net(a, by), raised_net(b, by)),
-        Gate::Less(a, b) => Gate::Less(raised_net(a, by), raised_net(b, by)),
-        Gate::Gate(s, a) => Gate::Gate(raised_net(s, by), raised_net(a, by)),
-        Gate::Reg(a) => Gate::Reg(raised_net(a, by)),
-    };
     Cell {
         width: cell.width,
-        gate,
+        gate: cell.gate.renamed(|net| raised_net(net, by)),
     }
 }
 

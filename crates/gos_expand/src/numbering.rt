@@ -37,7 +37,7 @@ use crate::departures::{Departures, part_departures};
 use crate::gates::gates_of;
 use crate::places::all_ends;
 use crate::tokens::token_size;
-use gos_gates::Macro;
+use gos_macro::Macro;
 use gos_plan::{End, Joint, Kind, Plan};
 use gos_types::{NoMemory, Ty};
 use std::alloc::Global;

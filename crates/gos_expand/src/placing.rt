@@ -5,7 +5,7 @@ ghost use Rattle.gos_plan.specs.Kinds.{Part, part_contacts};
 ghost use Rattle.gos_plan.specs.Contacts.{contact_held};
 ghost use Rattle.gos_plan.specs.Plans.{contact_at, IsRight};
 ghost use Rattle.gos_plan.specs.Seen.{plan_of, joint_of, end_of};
-ghost use Rattle.gos_gates.specs.Wires.{incoming_of};
+ghost use Rattle.gos_macro.specs.Wires.{incoming_of};
 ghost use Rattle.gos_expand.specs.Blocks.{blocks};
 ghost use Rattle.gos_expand.specs.Gates.{part_size};
 ghost use Rattle.gos_expand.specs.Starts.{kept_size, shake_size, joint_size, ports_of, taken_ports, loose_ends, part_start, parts_start};
@@ -22,9 +22,10 @@ use crate::leaves::{arrives, leaves};
 use crate::numbering::{Numbering, bits_at, kept};
 use crate::places::{Place, shakes};
 use crate::tokens::{Nets, place_inputs, place_nothing, place_registers};
-use gos_gates::{Macro, Wire};
-use gos_netlist::{NetId, NetPool, Region, Side};
+use gos_macro::{Macro, Wire};
+use gos_netlist::{NetId, Side};
 use gos_plan::{Contact, End, Joint, Plan};
+use gos_pool::{NetPool, Region};
 use gos_types::count;
 
 // Places the cells of the ports.

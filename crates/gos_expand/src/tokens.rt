@@ -4,8 +4,9 @@ ghost use Rattle.gos_netlist.specs.Seen.{function_of};
 ghost use Rattle.gos_expand.specs.Blocks.{nets_from, token_size, token_cells, inputs, registers, nothing};
 ghost use Rattle.gos_expand.specs.inner.Tokens.{held_nets, Places};
 
-use gos_gates::cells::{bit, wide};
-use gos_netlist::{Gate, NetId, NetPool, Region};
+use gos_macro::cells::{bit, wide};
+use gos_netlist::{Gate, NetId};
+use gos_pool::{NetPool, Region};
 
 // The nets of a token: of its pulse, and of its number, or 0 where it has none.
 #[derive(Debug, Clone, Copy)]

@@ -16,8 +16,9 @@ use crate::numbering::number;
 use crate::outside::ports;
 use crate::placing::{place_joints, place_loose, place_parts, place_ports};
 use gos_lex::Name;
-use gos_netlist::{NetPool, Netlist};
+use gos_netlist::Netlist;
 use gos_plan::Plan;
+use gos_pool::NetPool;
 use gos_types::NoMemory;
 use std::alloc::Global;
 

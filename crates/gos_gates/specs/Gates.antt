@@ -1,89 +1,74 @@
--- The gates of one part: its cells, by their place in a region, and the nets by which they are joined to others.
+-- Two-input gates and latches, and what they show.
 --
--- Read first: Firing; Settling of gos_netlist. At each handshake of a part something comes in, which is the request where
--- the part serves and the answer where it asks, and something goes out. Either is a pulse, and a value where it has bits.
-use Rattle.std.specs.Prelude.{◌≡◌, ℕ, zero, suc, ◌+◌, ◌≤◌, Bool, List, [], ◌∷◌, nat_eq, if◌then◌else◌}
-use Rattle.std.specs.List.{list_any}
-use Rattle.gos_types.specs.declared.shakes.Role.{Role}
-use Rattle.gos_types.specs.declared.shakes.Role.TheVariants.{Serve, Ask}
-use Rattle.gos_netlist.specs.Nets.{Cell}
-use Rattle.gos_netlist.specs.Settling.{Numbers, at, shown, next_of}
-use Rattle.gos_plan.specs.Kinds.{Part, Contact, part_contacts}
-use Rattle.gos_plan.specs.Firing.{Slot, Req, Ans, Token, put}
-use Rattle.gos_plan.specs.Firings.{due, value_due}
+-- Variable v has the literals 2 v and 2 v + 1, of which the second is its complement. Variable 0 is false; from 1 on come
+-- the inputs, then the latches, then the gates.
+use Rattle.std.specs.Prelude.{ℕ, suc, ◌+◌, ◌*◌, ◌<◌, ◌≤◌, ◌/◌, ◌%◌, Bool, false, not, ◌&&◌, if◌then◌else◌, nat_eq, List, [], ◌∷◌, ◌++◌, length, map, get_or, replicate}
+use Rattle.std.specs.List.{AllByRecursion}
 
--- the nets of the pulse and the value that come in at each handshake
-pub record Incoming : Type 0 where
-  pub pulse : ℕ → ℕ
-  pub value : ℕ → ℕ
+-- A circuit: the literal that each latch holds in the next cycle, that of each output, and the two of each gate.
+pub record Gates : Type 0 where
+  pub inputs : ℕ
+  pub latches : List ℕ
+  pub outputs : List ℕ
+  pub gates : List (ℕ × ℕ)
 
--- the nets of what goes out at a handshake: of a pulse alone, or of a pulse and a value
-pub data Outgoing : Type 0 where
-  Bare : (pulse : ℕ) → Outgoing
-  Bearing : (pulse value : ℕ) → Outgoing
+-- what each variable shows
+abbrev pub Bits : Type 0
+Bits = List Bool
 
--- the bits of what comes in at a handshake, and of what goes out
-abbrev pub bits_in : Role → Contact → ℕ
-bits_in Serve c = c.ask_bits
-bits_in Ask c = c.answer_bits
+-- what a literal shows
+abbrev pub shown_by : Bits → ℕ → Bool
+shown_by bits l = if nat_eq (l % 2) 1 then not (get_or bits (l / 2) false) else get_or bits (l / 2) false
 
-abbrev pub bits_out : Role → Contact → ℕ
-bits_out Serve c = c.answer_bits
-bits_out Ask c = c.ask_bits
+-- each gate shows the conjunction of its two literals, which are of variables before it
+abbrev pub after_gates : List (ℕ × ℕ) → Bits → Bits
+after_gates [] bits = bits
+after_gates (g ∷ gs) bits = after_gates gs (bits ++ (shown_by bits g.0 && shown_by bits g.1) ∷ [])
 
-abbrev pub incoming_bits : List Contact → ℕ → ℕ
-incoming_bits [] h = 0
-incoming_bits (c ∷ cs) zero = bits_in c.role c
-incoming_bits (c ∷ cs) (suc h) = incoming_bits cs h
+-- what all variables show in a cycle with these inputs and latches
+abbrev pub all_shown : Gates → Bits → Bits → Bits
+all_shown a ins held = after_gates a.gates (false ∷ ins ++ held)
 
--- what comes in at a handshake: the request or the answer
-abbrev pub slot_in : Role → ℕ → Slot
-slot_in Serve h = Req h
-slot_in Ask h = Ans h
+-- the outputs of cycles with these inputs, from these latches on
+abbrev pub outputs_from : Gates → Bits → List Bits → List Bits
+outputs_from a held [] = []
+outputs_from a held (i ∷ is) =
+    map (shown_by (all_shown a i held)) a.outputs ∷ outputs_from a (map (shown_by (all_shown a i held)) a.latches) is
 
--- From cell n of a region on, which begins at net b: v meets the equation of each cell, where `regs` are the registers of
--- this cycle, and `after` are those of the next one.
-abbrev pub Settled : Numbers → Numbers → Numbers → ℕ → ℕ → List Cell → Type 0
-Settled v regs after b n [] = Unit {0}
-Settled v regs after b n (c ∷ cs) =
-    (at v (b + n) ≡ shown c.width c.gate (at regs (b + n)) 0 (at v))
-    × (at after (b + n) ≡ next_of c.gate v)
-    × Settled v regs after b (suc n) cs
+-- the outputs of a run: each latch starts at 0
+abbrev pub outputs_of : Gates → List Bits → List Bits
+outputs_of a = outputs_from a (replicate (length a.latches) false)
 
--- the pulse and the value that come in at a handshake; without bits the value is 0
-abbrev pub pulse_in : Numbers → Incoming → ℕ → ℕ
-pulse_in v i h = at v (i.pulse h)
+-- what the latches hold in these cycles, from these on
+abbrev pub latches_from : Gates → Bits → List Bits → List Bits
+latches_from a held [] = []
+latches_from a held (i ∷ is) = held ∷ latches_from a (map (shown_by (all_shown a i held)) a.latches) is
 
-abbrev pub value_in : Part → Numbers → Incoming → ℕ → ℕ
-value_in k v i h = if nat_eq (incoming_bits (part_contacts k) h) 0 then 0 else at v (i.value h)
+-- what they hold in a run
+abbrev pub latches_of : Gates → List Bits → List Bits
+latches_of a = latches_from a (replicate (length a.latches) false)
 
--- what comes in at each of these handshakes, from handshake h on
-abbrev pub slots_of : (ℕ → Bool) → ℕ → List Contact → List Slot
-slots_of these h [] = []
-slots_of these h (c ∷ cs) = if these h then slot_in c.role h ∷ slots_of these (suc h) cs else slots_of these (suc h) cs
+-- how many variables there are before the gates
+abbrev pub sources : Gates → ℕ
+sources a = a.inputs + length a.latches
 
--- whether a number is one of these
-abbrev pub is_among : List ℕ → ℕ → Bool
-is_among numbers h = list_any (nat_eq h) numbers
+-- how many variables there are
+abbrev pub variables : Gates → ℕ
+variables a = sources a + length a.gates
 
--- the nets show so many pulses, and this value
-abbrev pub NetsShow : Numbers → Outgoing → ℕ → ℕ → Type 0
-NetsShow v (Bare p) n x = at v p ≡ n
-NetsShow v (Bearing p a) n x = (at v p ≡ n) × (at v a ≡ x)
+-- the literal is 0 or 1, or of one of the first so many variables
+abbrev pub IsLiteral : ℕ → ℕ → Type 0
+IsLiteral count l = l ≤ 2 * count + 1
 
--- from handshake j on, the nets show these tokens: at most one each, and else 0
-abbrev pub Shows : Numbers → ℕ → List Outgoing → List Token → Type 0
-Shows v j [] ts = Unit {0}
-Shows v j (o ∷ os) ts = (due j ts ≤ 1) × NetsShow v o (due j ts) (value_due j ts) × Shows v (suc j) os ts
+-- each gate looks back: so many variables are before the first one, and its second literal is not above its first
+abbrev pub LookBack : ℕ → List (ℕ × ℕ) → Type 0
+LookBack count [] = Unit {0}
+LookBack count (g ∷ gs) = IsLiteral count g.0 × (g.1 ≤ g.0) × LookBack (suc count) gs
 
--- as many tokens go out at each handshake, with the same value
-abbrev pub SameTokens : List Token → List Token → Type 0
-SameTokens ts us = (j : ℕ) → (due j ts ≡ due j us) × (value_due j ts ≡ value_due j us)
-
--- the token that a register of one bit holds: the request or answer at a handshake, without a value
-abbrev pub held : Slot → ℕ → List Token
-held s m = if nat_eq m 1 then put s 0 ∷ [] else []
-
--- nothing is held
-abbrev pub nothing_pending : ℕ → Numbers → List Token
-nothing_pending b regs = []
+-- The literals are of variables that are there, and gates look back. There are few variables and outputs.
+pub record AreGates (a : Gates) : Type 0 where
+  pub few : variables a < 2147483648
+  pub few_outputs : length a.outputs ≤ 4294967295
+  pub latches : AllByRecursion (IsLiteral (variables a)) a.latches
+  pub outputs : AllByRecursion (IsLiteral (variables a)) a.outputs
+  pub gates : LookBack (sources a) a.gates

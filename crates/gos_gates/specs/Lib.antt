@@ -1,16 +1,9 @@
--- In reading order: a file or chapter uses only those above it.
+-- In reading order: a file uses only files above it.
 pub mod Gates
-pub mod Law
-pub mod Fit
-pub mod Kept
-pub mod Paths
-pub mod Cells
-pub mod SmallGates
-pub mod SmallPaths
-pub mod Wires
-pub mod laws
-pub mod path_search
-pub mod control
-pub mod values
-pub mod share
-pub mod causal
+pub mod Bits
+pub mod Lowered
+pub mod AagText
+pub mod AagFaults
+pub mod SmallCircuits
+pub mod SmallLowered
+pub mod inner

@@ -1,23 +1,36 @@
-// The gates of each kind of part, and the law that they keep.
+// Circuits of two-input gates and latches: netlists are lowered to them, and they have texts in ASCII AIGER 1.0.
 //
-// `gates.rt` has the trait `Macro`, which a type that lays parts out as cells has: how many cells there are, which nets go
-// out, and whether a path without registers leads through. Its laws stand in `specs/Kept` and `specs/Paths`: in each cycle
-// the gates do what the part does by its rows. `cells.rt` has small words for those who make cells.
+// `aig.rt` has the circuit as a value; what it shows in a cycle, and which values are circuits, stands in specs/Gates.
 //
-// A folder for each group of kinds: `control` (Skip, Seq, SeqExp, Par, If, IfExp, While), `values` (literals, operators,
-// complements, assignments, reads, local variables) and `share` (a source that two callers use in turn). `laws` says what
-// holds of the gates of any part: where paths lead (`path_search`), and that what a part shows depends on what came in at
-// those handshakes alone from which a path leads (`causal`).
+// `lowering.rt` makes the circuit of an accepted netlist, as specs/Lowered says. It stands on `order.rt` (cells by level),
+// `sources.rt` (the nets of inputs, outputs and registers), `laying.rt` (cells, one after another), `kinds.rt` (what a bit of
+// a cell is laid as) and `draft.rt` (gates, and the literals of nets).
+//
+// `printing.rt` and `reading.rt` lead from a circuit to its text and back; the text stands in specs/AagText, and why
+// another text is refused in specs/AagFaults. The reader stands on `header.rt` (the first line), `sections.rt` (the
+// lines behind it) and `item.rt` (the numbers of a line). `laws.rt` and `text_laws.rt` have laws of both.
 #![tactic(auto)]
 
-pub mod cells;
-mod control;
-mod gates;
-pub mod laws;
-mod share;
-mod values;
+mod aig;
+mod draft;
+mod fault;
+mod header;
+mod item;
+mod kinds;
+mod laws;
+mod laying;
+mod lowering;
+mod order;
+mod printing;
+mod reading;
+mod sections;
+mod sources;
+mod text_laws;
 
-pub use control::Control;
-pub use gates::{Macro, Wire};
-pub use share::{Sharing, small_passing};
-pub use values::Arith;
+pub use aig::Aig;
+pub use fault::{AagFault, GateFault};
+pub use laws::small_lowered;
+pub use lowering::lower;
+pub use printing::print_aag;
+pub use reading::read_aag;
+pub use text_laws::{one_answer, reads_back, small_circuits};

@@ -11,6 +11,8 @@ pub mod DecimalLemmas
 pub mod SignLemmas
 pub mod SequenceLemmas
 pub mod NumberTextLemmas
+pub mod PassedLemmas
+pub mod RestLemmas
 pub mod NameTextLemmas
 pub mod WordTableLemmas
 mod EntryLemmas

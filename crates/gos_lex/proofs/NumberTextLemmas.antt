@@ -1,5 +1,5 @@
 -- A number and the byte that ends it: where the number is whole the digits behind it begin no longer one.
-use Rattle.std.proofs.Common.{◌≡◌, ◌≢◌, inl, inr, ◌⊎◌, ℕ, ◌+◌, ◌-◌, ◌*◌, ◌^◌, ◌<◌, ◌≤◌, true, List, [], ◌∷◌, ◌++◌, length, get_or, sym, ◌∙◌, ap, subst, arith, append_assoc, append-nil, length-append, refl}
+use Rattle.std.proofs.Common.{◌≡◌, ◌≢◌, inl, inr, ℕ, ◌+◌, ◌-◌, ◌*◌, ◌^◌, ◌<◌, ◌≤◌, true, false, List, [], ◌∷◌, ◌++◌, length, get_or, sym, ◌∙◌, ap, subst, arith, append_assoc, append-nil, length-append, refl}
 use Rattle.std.specs.Char.{is_ascii_digit}
 use Rattle.std.specs.Fmt.{decimal}
 use Rattle.std.specs.List.{slice_range}
@@ -43,24 +43,21 @@ number_stops text at end low high n fits above under is passes =
           omega (arith, bound);
     }
 
-no_digit : (c : ℕ) → (c ≡ 10) ⊎ (c ≡ 32) → is_ascii_digit c ≡ true → ⊥
-no_digit c (inl line) digit = grind (arith, line, digit)
-no_digit c (inr space) digit = grind (arith, space, digit)
-
 as_decimal : (low high : ℕ) (bytes : List ℕ) → IsTextOf ℕ (IsInRange low high) decimal bytes → IsDecimalIn low high bytes
 as_decimal low high bytes item = (item.0, item.1.0, item.1.1, item.2)
 
 of_decimal : (low high : ℕ) (bytes : List ℕ) → IsDecimalIn low high bytes → IsTextOf ℕ (IsInRange low high) decimal bytes
 of_decimal low high bytes item = (item.0, (item.1, item.2), item.3)
 
-number_lacks : (low high c : ℕ) → high < 2 ^ 64 → (c ≡ 10) ⊎ (c ≡ 32) → Lacks (IsTextOf ℕ (IsInRange low high) decimal) c
-number_lacks low high c fits is_end front more item =
+number_lacks : (low high c : ℕ) → high < 2 ^ 64 → is_ascii_digit c ≡ false → Lacks (IsTextOf ℕ (IsInRange low high) decimal) c
+number_lacks low high c fits no_digit front more item =
     let begins : Begins (IsDecimalIn low high) (front ++ c ∷ []) = (more, subst (IsDecimalIn low high) (sym (append_assoc front (c ∷ []) more)) (as_decimal low high _ item)) in
-    no_digit c is_end (digit_within front c (begins_wider (front ++ c ∷ []) low high fits begins))
+    let digit : is_ascii_digit c ≡ true = digit_within front c (begins_wider (front ++ c ∷ []) low high fits begins) in
+    cc (digit, no_digit)
 
-pub number_code : (low high c : ℕ) → high < 2 ^ 64 → (c ≡ 10) ⊎ (c ≡ 32) → IsCode ℕ (IsInRange low high) (λ n. ended c (decimal n))
-number_code low high c fits is_end =
-    ended_code ℕ (IsInRange low high) decimal c (number_lacks low high c fits is_end)
+pub number_code : (low high c : ℕ) → high < 2 ^ 64 → is_ascii_digit c ≡ false → IsCode ℕ (IsInRange low high) (λ n. ended c (decimal n))
+number_code low high c fits no_digit =
+    ended_code ℕ (IsInRange low high) decimal c (number_lacks low high c fits no_digit)
     (λ m n is_m is_n same. decimal_injective m n (omega (arith, is_m.1, fits)) (omega (arith, is_n.1, fits)) same)
 
 stops_of : (low high : ℕ) (text : List ℕ) (at place : ℕ) → StopsAt (IsDecimalIn low high) text at place → StopsAt (IsTextOf ℕ (IsInRange low high) decimal) text at place
@@ -73,10 +70,10 @@ stops_of low high text at place stops =
     }
 
 -- no number stands
-pub no_number : (low high c : ℕ) (text : List ℕ) (at place : ℕ) → high < 2 ^ 64 → (c ≡ 10) ⊎ (c ≡ 32)
+pub no_number : (low high c : ℕ) (text : List ℕ) (at place : ℕ) → high < 2 ^ 64 → is_ascii_digit c ≡ false
     → Misses (IsDecimalIn low high) text at place → Misses (IsNumberText low high c) text at place
-no_number low high c text at place fits is_end misses =
-    ended_misses ℕ (IsInRange low high) decimal c text at place (number_lacks low high c fits is_end)
+no_number low high c text at place fits no_digit misses =
+    ended_misses ℕ (IsInRange low high) decimal c text at place (number_lacks low high c fits no_digit)
     (λ some byte item. misses.none place misses.stops.after misses.stops.within (as_decimal low high _ item))
     (stops_of low high text at place misses.stops)
 
@@ -110,12 +107,12 @@ byte_missed text at place c misses = (here, differs)
         ]
 
 -- a number stands, but not the byte behind it
-pub number_not_ended : (low high c : ℕ) (text : List ℕ) (at end place n : ℕ) → high < 2 ^ 64 → (c ≡ 10) ⊎ (c ≡ 32) → low ≤ n → n ≤ high → slice_range text at end ≡ decimal n
+pub number_not_ended : (low high c : ℕ) (text : List ℕ) (at end place n : ℕ) → high < 2 ^ 64 → is_ascii_digit c ≡ false → low ≤ n → n ≤ high → slice_range text at end ≡ decimal n
     → Passes (IsDecimalIn low high) text at end → Misses (IsJust (c ∷ [])) text end place → Misses (IsNumberText low high c) text at place
-number_not_ended low high c text at end place n fits is_end above under is passes misses =
+number_not_ended low high c text at end place n fits no_digit above under is passes misses =
     let known = byte_missed text end place c misses in
     subst (Misses (IsNumberText low high c) text at) (sym known.0)
-    (ended_misses ℕ (IsInRange low high) decimal c text at end (number_lacks low high c fits is_end) (λ some byte item. known.1 some byte)
+    (ended_misses ℕ (IsInRange low high) decimal c text at end (number_lacks low high c fits no_digit) (λ some byte item. known.1 some byte)
     (stops_of low high text at end (number_stops text at end low high n fits above under is passes)))
 
 -- no longer number stands where a number has a line feed behind it
@@ -143,7 +140,7 @@ no_longer_number text a b n rest small after within whole =
               let byte : get_or text mid 0 ≡ 10 = ap (λ bytes. get_or bytes 0 0) (sym (slice_cons text mid b some within) ∙ known.1) in
               let parts : slice_range text a end ≡ decimal n ++ 10 ∷ slice_range text (mid + 1) end =
               split ∙ (λ i. is i ++ (slice_cons text mid end past below ∙ ap (λ (d : ℕ). d ∷ slice_range text (mid + 1) end) byte) i) in
-              absurd (number_lacks 0 4294967295 10 (omega arith) (inl refl) (decimal n) (slice_range text (mid + 1) end) (of_decimal 0 4294967295 (decimal n ++ 10 ∷ slice_range text (mid + 1) end) (subst (IsDecimalIn 0 4294967295) parts item)))
+              absurd (number_lacks 0 4294967295 10 (omega arith) refl (decimal n) (slice_range text (mid + 1) end) (of_decimal 0 4294967295 (decimal n ++ 10 ∷ slice_range text (mid + 1) end) (subst (IsDecimalIn 0 4294967295) parts item)))
           | inr short ↦ short
         ]
 
@@ -159,7 +156,7 @@ number_under limit n text at end under small is passes above =
 -- no number stands
 pub count_misses : (limit : ℕ) (text : List ℕ) (at place : ℕ) → Misses (IsDecimalIn 0 4294967295) text at place → NoCount limit text at place
 count_misses limit text at place misses = (
-  no_number 0 4294967295 10 text at place (omega arith) (inl refl) misses,
+  no_number 0 4294967295 10 text at place (omega arith) refl misses,
   λ above. misses.none above.end above.passes.after above.passes.within above.passes.item,
 )
 
@@ -167,6 +164,6 @@ count_misses limit text at place misses = (
 pub count_not_ended : (limit n : ℕ) (old mid : TextAt) (place : ℕ) → n ≤ limit → n ≤ 4294967295 → mid.text ≡ old.text → slice_range old.text old.at mid.at ≡ decimal n
     → Passes (IsDecimalIn 0 4294967295) old.text old.at mid.at → Misses (IsJust (10 ∷ [])) mid.text mid.at place → NoCount limit old.text old.at place
 count_not_ended limit n old mid place under small text is passes misses = (
-  number_not_ended 0 4294967295 10 old.text old.at mid.at place n (omega arith) (inl refl) (omega arith) small is passes (subst (λ (source : List ℕ). Misses (IsJust (10 ∷ [])) source mid.at place) text misses),
+  number_not_ended 0 4294967295 10 old.text old.at mid.at place n (omega arith) refl (omega arith) small is passes (subst (λ (source : List ℕ). Misses (IsJust (10 ∷ [])) source mid.at place) text misses),
   number_under limit n old.text old.at mid.at under small is passes,
 )

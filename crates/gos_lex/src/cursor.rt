@@ -1,11 +1,13 @@
 // A place in a text of fixed form, which moves on over what is asked for.
 
-ghost use Rattle.std.specs.Prelude.{◌≡◌, ℕ, ◌+◌, ◌-◌, ◌≤◌, ◌<◌, ◌↔◌, length, drop, IsTrue, IfOk, IfErr, OnOk, OnErr};
+ghost use Rattle.std.specs.Prelude.{◌≡◌, ℕ, ◌+◌, ◌-◌, ◌≤◌, ◌<◌, ◌↔◌, ◌++◌, ◌∷◌, List, false, length, drop, IsTrue, IfOk, IfErr, OnOk, OnErr, MatchResult};
+ghost use Rattle.std.specs.Char.{is_ascii_digit};
 ghost use Rattle.std.specs.List.{slice_range};
 ghost use Rattle.std.specs.Fmt.{decimal};
 ghost use Rattle.gos_lex.specs.Names.{IsNameOrWord, IsSpelled};
 ghost use Rattle.gos_lex.specs.Items.{IsJust, Passes, StopsAt, Misses};
 ghost use Rattle.gos_lex.specs.Decimals.{IsDecimalIn};
+ghost use Rattle.gos_lex.specs.ItemTexts.{Passed, ended, IsInRange, IsNumberText};
 
 use crate::decimal::number_end;
 use crate::name::name_end;
@@ -85,6 +87,24 @@ impl<'a> Cursor<'a> {
     {
         let (value, end) = number_end(self.text, self.at, low, high)?;
         self.at = end;
+        Ok(value)
+    }
+
+    /// Passes a number from `low` to `high`, written in decimal digits without leading zeros, and the byte that ends it.
+    /// `Err` is the place of the first byte with which no such number and byte can go on, or the end of the text.
+    pub fn ended_number(&mut self, low: u64, high: u64, end: u8) -> Result<u64, usize>
+        requires range { low ≤ high }
+        requires no_digit { is_ascii_digit end ≡ false }
+        ensures text { self.new.text ≡ self.old.text }
+        ensures range { IfOk result (IsInRange low high) }
+        ensures passed { IfOk result (λ n. Passed self.old self.new (ended end (decimal n))) }
+        ensures wrong { IfErr result (Misses (IsNumberText low high end) self.old.text self.old.at) }
+        ensures stands { (n : ℕ) (x : List ℕ) → low ≤ n → n ≤ high → drop self.old.at self.old.text ≡ decimal n ++ (end ∷ x)
+            → MatchResult result (λ found. (found ≡ n) × (drop self.new.at self.new.text ≡ x)) (λ _. ⊥) }
+        ensures stays { OnErr result (self.new ≡ self.old) }
+    {
+        let (value, digits_end) = number_end(self.text, self.at, low, high)?;
+        self.at = word_end(self.text, digits_end, &[end])?;
         Ok(value)
     }
 

@@ -12,13 +12,11 @@ use Rattle.gos_link.specs.declared.opens.Open.{Open}
 use Rattle.gos_link.specs.declared.build.Instance.{Instance}
 use Rattle.gos_lex.specs.declared.table.NameTable.{NameTable}
 use Rattle.gos_link.specs.declared.whole.Port as declared_port
-use Rattle.gos_link.specs.declared.fault.LinkFault.{LinkFault}
-use Rattle.gos_link.specs.declared.fault.LinkFault.TheVariants as faults
-use Rattle.gos_link.specs.Linked.{Port, AreDifferent, AreGround, IsSecond, name_of, port_of}
+use Rattle.gos_link.specs.Linked.{Port, AreDifferent, AreGround, name_of, port_of}
 use Rattle.gos_link.specs.inner.Opens.{open_seen}
 use Rattle.gos_lex.specs.NameTables.{number_at, added}
 use Rattle.gos_model.proofs.NumberLemmas.{number_cases}
-use Rattle.gos_link.specs.inner.Ports.{port_seen, AllDiffer, IsOpenTwice, IsTable}
+use Rattle.gos_link.specs.inner.Ports.{port_seen, AllDiffer, IsTable}
 
 -- the element at a place is one
 pub same_at : {X : Type 0} (xs : List X) (i j : ℕ) (x y : X) → i ≡ j → slice_get xs i ≡ Some x → slice_get xs j ≡ Some y → x ≡ y
@@ -33,14 +31,6 @@ ground_more imports n l before at ground = λ i k low at_i.
 
 pub seen_at : (opens : List Open) (n : ℕ) (o : Open) → slice_get opens n ≡ Some o → slice_get (map open_seen opens) n ≡ Some (open_seen o)
 seen_at opens n o e = slice_get-map open_seen opens n ∙ ap (option_map open_seen) e
-
--- the table of no port, and of one more
-pub table_begins : (ports : List Port) (numbers : NameTable) → ((name : Word) → number_at numbers name ≡ None) → IsTable ports 0 numbers
-table_begins ports numbers none =
-    record {
-      sound = λ name i has. let wrong : None ≡ Some i = sym (none name) ∙ has in absurd (cc wrong);
-      complete = λ i p low at gone. absurd (omega (arith, low));
-    }
 
 pub table_grows : (ports : List Port) (n : ℕ) (q : Port) (old new : NameTable) → IsTable ports n old → slice_get ports n ≡ Some q
     → ((other : Word) → number_at new other ≡ added q.name n (number_at old other) other) → IsTable ports (n + 1) new
@@ -86,10 +76,6 @@ different_more ports n q numbers before table at gone = λ i j p r less low at_i
 pub all_differ : (ports : List declared_port.Port) (all : List Port) → map port_seen ports ≡ all → AreDifferent (length ports) (map port_seen ports) → AllDiffer all
 all_differ ports all is different =
     subst (λ (ps : List Port). AllDiffer ps) is (subst (λ (n : ℕ). AreDifferent n (map port_seen ports)) (sym (length-map ports port_seen)) different)
-
-pub is_open_twice : (ports : List declared_port.Port) (all : List Port) (one other : Port) (fault : LinkFault) → map port_seen ports ≡ all
-    → IsSecond (map port_seen ports) one other → fault ≡ faults.OpenTwice other.name one.instance other.instance → IsOpenTwice all fault
-is_open_twice ports all one other fault is second told = (one, other, subst (λ (ps : List Port). IsSecond ps one other) is second, told)
 
 -- a port as the program holds it, at a place of the list
 pub port_at : (ports : List declared_port.Port) (n : ℕ) (p : declared_port.Port) → slice_get ports n ≡ Some p → slice_get (map port_seen ports) n ≡ Some (port_seen p)

@@ -2,9 +2,10 @@
 --
 -- Read first: Terms. `Typed` has a row for each form, and no order of search. It is Reynolds' syntactic control of
 -- interference in its affine form: the two parts of an application share no name, and neither do those of `||`.
-use Rattle.std.specs.Prelude.{◌≡◌, ℕ, suc, ◌-◌, ◌^◌, ◌<◌, List, [], ◌∷◌, ◌++◌, Contains, Option, Some, None, ◌⊎◌, nat_eq, nat_lt, if◌then◌else◌, slice_get}
+use Rattle.std.specs.Prelude.{◌≡◌, ℕ, suc, ◌-◌, ◌^◌, ◌<◌, List, [], ◌∷◌, ◌++◌, Contains, Option, Some, None, ◌⊎◌, nat_lt, if◌then◌else◌, slice_get}
 use Rattle.std.specs.Str.{bytes_eq}
 use Rattle.gos_types.specs.Types.{Type', Com, Exp, Var, Pair, Fun, IsDone}
+pub use Rattle.gos_types.specs.Types.{index_width, array_type}
 use Rattle.gos_types.specs.Widths.{IsWidth}
 use Rattle.gos_model.specs.Terms.{Name, Term, Skip, Lit, Bound, Import, Lam, App, Both, Fst, Snd, Seq, Par, If, While, Assign, Deref, New, NewArray, Not, Bin, Loc, Arr, Scope, Wait, Held, Put, result_width}
 
@@ -63,14 +64,6 @@ Apart m n = (t : Thing) → Contains (things 0 m) t → Contains (things 0 n) t 
 -- how many numbers an array may have
 abbrev pub IsLength : ℕ → Type 0
 IsLength n = (n ≡ 2) ⊎ ((n ≡ 4) ⊎ ((n ≡ 8) ⊎ (n ≡ 16)))
-
--- how many bits the index of an array of n numbers has: 2 to this number is n. Of another n it says nothing.
-abbrev pub index_width : ℕ → ℕ
-index_width n = if nat_eq n 2 then 1 else if nat_eq n 4 then 2 else if nat_eq n 8 then 3 else 4
-
--- the type of an array of n numbers of w bits: a variable at each index
-abbrev pub array_type : ℕ → ℕ → Type'
-array_type n w = Fun (Exp (index_width n)) (Var w)
 
 -- A term with imports i, under binders of the types g with the innermost first, has type t. Running forms have none.
 abbrev pub Typed : Imports → List Type' → Term → Type' → Type 0

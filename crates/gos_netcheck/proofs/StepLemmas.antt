@@ -151,11 +151,6 @@ pub waiting_read : (cells : List Cell) (s : Search) (net pin : ℕ) (m : Mark) �
 waiting_read cells s net pin m stands ((c, e, is, rest, register, named), placed) read =
     mark_read cells s pin m stands (slice_get_within cells pin c is) read
 
-pub begun_by_mark : (m : Mark) → (m ≡ New → ⊥) → IsBegun (Some m)
-begun_by_mark New h = absurd (h refl)
-begun_by_mark Open h = tt
-begun_by_mark Placed h = tt
-
 -- where the path is empty, any new net may be gone on to
 pub alone : (cells : List Cell) (s : Search) (n : ℕ) → s.path.len ≡ 0 → Trail cells (n ∷ path_of s)
 alone cells s n none =

@@ -1,5 +1,6 @@
 -- The line of a cell: a word, a width and its operands, each of which ends with a byte of its own.
-use Rattle.std.proofs.Common.{◌≡◌, ◌⊎◌, inl, inr, ℕ, ◌^◌, ◌≤◌, List, [], ◌∷◌, ◌++◌, length, refl, sym, ◌∙◌, ap, subst, arith, append_assoc, append-nil}
+use Rattle.std.proofs.Common.{◌≡◌, false, ℕ, ◌^◌, ◌≤◌, List, [], ◌∷◌, ◌++◌, length, refl, sym, ◌∙◌, ap, subst, arith, append_assoc, append-nil}
+use Rattle.std.specs.Char.{is_ascii_digit}
 use Rattle.std.specs.Fmt.{decimal}
 use Rattle.std.specs.List.{slice_range}
 use Rattle.std.proofs.Math.Nat.{pow-le-pow_right, one-le-pow}
@@ -14,7 +15,7 @@ use Rattle.gos_types.specs.Widths.{IsWidth}
 use Rattle.gos_lex.specs.ItemTexts.{IsInRange, IsNumberText, Passed, ended}
 use Rattle.gos_netlist.specs.inner.NetLines.{end_before, numbers_text, gate_text, word_for, pin_count, width_end, HasWord, IsGateText, IsOperandsText, IsCellText}
 use Rattle.gos_lex.proofs.SequenceLemmas.{Then, IsCode, misses_as, then_first, then_rest}
-use Rattle.gos_netlist.proofs.PassedLemmas.{passed_both, passed_as}
+use Rattle.gos_lex.proofs.PassedLemmas.{passed_both, passed_as}
 use Rattle.gos_lex.proofs.NumberTextLemmas.{number_code}
 use Rattle.gos_netlist.proofs.NetsLemmas.{AreNumbers, are_numbers, numbers_code}
 use Rattle.gos_netlist.proofs.WordLemmas.{gate_code}
@@ -107,23 +108,23 @@ operands_are w (Less a b) is fit = are_numbers 2 (a ∷ b ∷ []) (refl, fit)
 operands_are w (Gate s a) is fit = are_numbers 2 (s ∷ a ∷ []) (refl, fit)
 operands_are w (Reg a) is fit = are_numbers 1 (a ∷ []) (refl, fit)
 
-width_is_end : (word : GateWord) → (width_end word ≡ 10) ⊎ (width_end word ≡ 32)
-width_is_end gates.Input = inl refl
-width_is_end gates.Const = inr refl
-width_is_end gates.Not = inr refl
-width_is_end gates.And = inr refl
-width_is_end gates.Or = inr refl
-width_is_end gates.Xor = inr refl
-width_is_end gates.Mux = inr refl
-width_is_end gates.Add = inr refl
-width_is_end gates.Sub = inr refl
-width_is_end gates.Eq = inr refl
-width_is_end gates.Less = inr refl
-width_is_end gates.Gate = inr refl
-width_is_end gates.Reg = inr refl
+pub width_no_digit : (word : GateWord) → is_ascii_digit (width_end word) ≡ false
+width_no_digit gates.Input = refl
+width_no_digit gates.Const = refl
+width_no_digit gates.Not = refl
+width_no_digit gates.And = refl
+width_no_digit gates.Or = refl
+width_no_digit gates.Xor = refl
+width_no_digit gates.Mux = refl
+width_no_digit gates.Add = refl
+width_no_digit gates.Sub = refl
+width_no_digit gates.Eq = refl
+width_no_digit gates.Less = refl
+width_no_digit gates.Gate = refl
+width_no_digit gates.Reg = refl
 
 pub width_code : (word : GateWord) → IsCode ℕ (IsInRange 1 GREATEST_WIDTH) (λ w. ended (width_end word) (decimal w))
-width_code word = number_code 1 GREATEST_WIDTH (width_end word) (omega arith) (width_is_end word)
+width_code word = number_code 1 GREATEST_WIDTH (width_end word) (omega arith) (width_no_digit word)
 
 -- a word, a width and operands
 abbrev Parts : List ℕ → Type 0

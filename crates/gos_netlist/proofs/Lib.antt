@@ -2,7 +2,6 @@ mod NetLemmas
 pub mod PassLemmas
 pub mod RepeatLemmas
 pub mod SettlingLemmas
-pub mod PassedLemmas
 pub mod NetsLemmas
 pub mod WordLemmas
 pub mod LinesLemmas
@@ -16,6 +15,3 @@ pub mod WholeLemmas
 pub mod StageLemmas
 pub mod LawLemmas
 pub mod LengthLemmas
-pub mod RegionLemmas
-pub mod MarkLemmas
-pub mod MarkOrderLemmas

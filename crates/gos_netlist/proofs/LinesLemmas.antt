@@ -3,11 +3,10 @@ use Rattle.std.proofs.Common.{◌≡◌, ℕ, suc, zero, ◌+◌, ◌≤◌, Lis
 use Rattle.std.specs.List.{AllByRecursion, flat_map, slice_range}
 use Rattle.std.proofs.lemmas.Grind.{flat_map-append}
 use Rattle.gos_lex.specs.Items.{TextAt, Misses}
-use Rattle.gos_lex.proofs.PlaceLemmas.{slice_nothing}
 use Rattle.gos_lex.specs.ItemTexts.{IsTextOf, Passed}
 use Rattle.gos_netlist.specs.inner.NetLines.{AreSo, IsLinesText}
 use Rattle.gos_lex.proofs.SequenceLemmas.{Then, IsCode, misses_as, then_first, then_rest}
-use Rattle.gos_netlist.proofs.PassedLemmas.{passed_both, passed_as}
+use Rattle.gos_lex.proofs.PassedLemmas.{passed_both, passed_as}
 
 -- a value as often as it is wanted
 pub repeated : (V : Type 0) (Is : V → Type 0) (text : V → List ℕ) (v : V) → Is v → (k : ℕ) → (bytes : List ℕ) × IsLinesText V Is text k bytes
@@ -41,15 +40,6 @@ pub record LinesSoFar (V : Type 0) (Is : V → Type 0) (text : V → List ℕ) (
   pub all : AllByRecursion Is vs
   pub breaks : (place : ℕ) → Misses (IsLinesText V Is text left) old.text now.at place → Misses (IsLinesText V Is text count) old.text old.at place
 
-pub no_lines_yet : (V : Type 0) (Is : V → Type 0) (text : V → List ℕ) (count : ℕ) (old : TextAt) → old.at ≤ length old.text → LinesSoFar V Is text count old old [] count
-no_lines_yet V Is text count old within =
-    record {
-      passed = record { text = refl; after = omega arith; within = within; is = slice_nothing old.text old.at };
-      counted = omega arith;
-      all = tt;
-      breaks = λ place misses. misses;
-    }
-
 all_more : (V : Type 0) (Is : V → Type 0) (vs : List V) (v : V) → AllByRecursion Is vs → Is v → AllByRecursion Is (vs ++ v ∷ [])
 all_more V Is [] v all is = (is, tt)
 all_more V Is (u ∷ vs) v all is = (all.0, all_more V Is vs v all.1 is)
@@ -73,10 +63,6 @@ pub no_line_more : (V : Type 0) (Is : V → Type 0) (text : V → List ℕ) (cou
 no_line_more V Is text count old mid vs before left place fewer far misses =
     let here = subst (λ (source : List ℕ). Misses (IsTextOf V Is text) source mid.at place) far.passed.text misses in
     far.breaks place (subst (λ (k : ℕ). Misses (IsLinesText V Is text k) old.text mid.at place) (sym fewer) (lines_first V Is text left old.text mid.at place here))
-
--- all lines are read
-pub lines_all : (V : Type 0) (Is : V → Type 0) (text : V → List ℕ) (count : ℕ) (old new : TextAt) (vs : List V) (left : ℕ) → left ≡ 0 → LinesSoFar V Is text count old new vs left → AreSo V Is count vs
-lines_all V Is text count old new vs left none far = (omega (arith, far.counted, none), far.all)
 
 -- lists of lines that are as long don't begin one another
 pub lines_code : (V : Type 0) (Is : V → Type 0) (text : V → List ℕ) → IsCode V Is text → (k : ℕ) → IsCode (List V) (AreSo V Is k) (flat_map text)

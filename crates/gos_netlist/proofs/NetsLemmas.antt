@@ -1,5 +1,6 @@
 -- Numbers one behind the other, with a space between each two and a line feed behind the last.
-use Rattle.std.proofs.Common.{◌≡◌, inl, inr, ◌⊎◌, ℕ, suc, zero, ◌+◌, ◌-◌, ◌^◌, ◌<◌, ◌≤◌, List, [], ◌∷◌, ◌++◌, length, refl, sym, ◌∙◌, ap, subst, arith, append_assoc, append-nil, length-append}
+use Rattle.std.proofs.Common.{◌≡◌, false, ℕ, suc, zero, ◌+◌, ◌-◌, ◌^◌, ◌<◌, ◌≤◌, List, [], ◌∷◌, ◌++◌, length, refl, sym, ◌∙◌, ap, subst, arith, append_assoc, append-nil, length-append}
+use Rattle.std.specs.Char.{is_ascii_digit}
 use Rattle.std.specs.Fmt.{decimal}
 use Rattle.std.specs.List.{AllByRecursion, slice_range}
 use Rattle.gos_lex.specs.Items.{TextAt, Misses}
@@ -10,9 +11,9 @@ use Rattle.gos_netlist.specs.inner.NetLines.{end_before, end_with, numbers_text,
 use Rattle.gos_lex.proofs.SequenceLemmas.{Then, IsCode, misses_as, then_first, then_rest}
 use Rattle.gos_lex.proofs.NumberTextLemmas.{number_code}
 
-is_end : (left : ℕ) → (end_with left ≡ 10) ⊎ (end_with left ≡ 32)
-is_end zero = inl refl
-is_end (suc left) = inr refl
+no_digit : (left : ℕ) → is_ascii_digit (end_with left) ≡ false
+no_digit zero = refl
+no_digit (suc left) = refl
 
 pub end_is : (ns : List ℕ) → end_before ns ≡ end_with (length ns)
 end_is [] = refl
@@ -46,7 +47,7 @@ pub nets_rest : (left n : ℕ) (text : List ℕ) (at mid place : ℕ) → n ≤ 
     → Misses (IsNetsText left) text mid place → Misses (IsNetsText (suc left)) text at place
 nets_rest left n text at mid place is after within first misses =
     misses_as (Then ℕ (IsInRange 0 4294967295) (λ n. ended (end_with left) (decimal n)) (λ n. IsNetsText left)) (IsNetsText (suc left)) text at place (joined left) (cut left)
-    (then_rest ℕ (IsInRange 0 4294967295) (λ n. ended (end_with left) (decimal n)) (λ n. IsNetsText left) text at mid place n (number_code 0 4294967295 (end_with left) (omega arith) (is_end left)) (omega arith, is) after within first misses)
+    (then_rest ℕ (IsInRange 0 4294967295) (λ n. ended (end_with left) (decimal n)) (λ n. IsNetsText left) text at mid place n (number_code 0 4294967295 (end_with left) (omega arith) (no_digit left)) (omega arith, is) after within first misses)
 
 -- some nets are read, so many are left: what the whole reads as, and where it breaks off
 pub record NetsSoFar (count : ℕ) (old now : TextAt) (ns : List ℕ) (left : ℕ) : Type 0 where
@@ -118,9 +119,6 @@ nets_passed count old new ns left none far =
       is = sym (append-nil (slice_range old.text old.at new.at)) ∙ (far.reads [] (sym none) ∙ ap numbers_text (append-nil ns));
     }
 
-pub nets_all : (count : ℕ) (old new : TextAt) (ns : List ℕ) (left : ℕ) → left ≡ 0 → NetsSoFar count old new ns left → AreNets count ns
-nets_all count old new ns left none far = (omega (arith, far.counted, none), far.all)
-
 -- so many numbers, of 64 bits
 abbrev pub AreNumbers : ℕ → List ℕ → Type 0
 AreNumbers k ns = (length ns ≡ k) × AllByRecursion (λ n. n < 2 ^ 64) ns
@@ -144,14 +142,14 @@ numbers_code (suc k) (v ∷ vs) (w ∷ ws) x y is_v is_w same =
     let long_v : length vs ≡ k = omega (arith, is_v.0) in
     let long_w : length ws ≡ k = omega (arith, is_w.0) in
     let ends : end_before ws ≡ end_before vs = end_is ws ∙ (ap end_with (long_w ∙ sym long_v) ∙ sym (end_is vs)) in
-    let first = number_code 0 18446744073709551615 (end_before vs) (omega arith) (is_end_before vs) v w (numbers_text vs ++ x) (numbers_text ws ++ y) (omega arith, omega (arith, is_v.1.0)) (omega arith, omega (arith, is_w.1.0))
+    let first = number_code 0 18446744073709551615 (end_before vs) (omega arith) (no_digit_before vs) v w (numbers_text vs ++ x) (numbers_text ws ++ y) (omega arith, omega (arith, is_v.1.0)) (omega arith, omega (arith, is_w.1.0))
     (sym (append_assoc (ended (end_before vs) (decimal v)) (numbers_text vs) x) ∙ (same ∙ (append_assoc (ended (end_before ws) (decimal w)) (numbers_text ws) y ∙ ap (λ (c : ℕ). ended c (decimal w) ++ (numbers_text ws ++ y)) ends))) in
     let rest = numbers_code k vs ws x y (long_v, is_v.1.1) (long_w, is_w.1.1) first.1 in
     ((λ i. first.0 i ∷ rest.0 i), rest.1)
   where
-    is_end_before : (ns : List ℕ) → (end_before ns ≡ 10) ⊎ (end_before ns ≡ 32)
-    is_end_before [] = inl refl
-    is_end_before (n ∷ ns) = inr refl
+    no_digit_before : (ns : List ℕ) → is_ascii_digit (end_before ns) ≡ false
+    no_digit_before [] = refl
+    no_digit_before (n ∷ ns) = refl
 
 -- nor do those of nets
 pub nets_code : (k : ℕ) → IsCode (List ℕ) (AreNets k) numbers_text

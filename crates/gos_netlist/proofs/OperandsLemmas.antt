@@ -120,22 +120,3 @@ no_nets word w some text at place =
     from : (bytes : List ℕ) → IsOperandsText word w bytes → IsNetsText (pin_count word) bytes
     from bytes (f, has, whole) =
         (operands f, subst (λ (u : GateWord). AreNets (pin_count u) (operands f)) has.0 (pins_are w f (subst (λ (u : GateWord). 0 < pin_count u) (sym has.0) some) has.1), whole)
-
--- a gate that names these nets has operands that fit
-pub nets_fit : (word : GateWord) (w : ℕ) (f : Function) → 0 < pin_count word → word_for f ≡ word → AllByRecursion IsNumber (operands f) → OperandsFit w f
-nets_fit word w f some is all = fits f (subst (λ (u : GateWord). 0 < pin_count u) (sym is) some) all
-  where
-    fits : (g : Function) → 0 < pin_count (word_for g) → AllByRecursion IsNumber (operands g) → OperandsFit w g
-    fits Input some all = tt
-    fits (Const k) some all = absurd (omega (arith, some))
-    fits (Not a) some all = all
-    fits (And a b) some all = all
-    fits (Or a b) some all = all
-    fits (Xor a b) some all = all
-    fits (Mux s a b) some all = all
-    fits (Add a b) some all = all
-    fits (Sub a b) some all = all
-    fits (Eq a b) some all = all
-    fits (Less a b) some all = all
-    fits (Gate s a) some all = all
-    fits (Reg a) some all = all

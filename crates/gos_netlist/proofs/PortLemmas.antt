@@ -11,7 +11,7 @@ use Rattle.gos_netlist.specs.Events.{net_count}
 use Rattle.gos_lex.specs.ItemTexts.{Passed, ended}
 use Rattle.gos_netlist.specs.inner.NetLines.{numbers_text, tail_text, IsNameText, IsSideText, IsTailText, IsPortText}
 use Rattle.gos_lex.proofs.SequenceLemmas.{Then, IsCode, misses_as, then_first, then_rest}
-use Rattle.gos_netlist.proofs.PassedLemmas.{passed_both, passed_as}
+use Rattle.gos_lex.proofs.PassedLemmas.{passed_both, passed_as}
 use Rattle.gos_netlist.proofs.CellLemmas.{spaced_line}
 use Rattle.gos_netlist.proofs.NetsLemmas.{zeros}
 use Rattle.gos_netlist.proofs.WordLemmas.{side_code}

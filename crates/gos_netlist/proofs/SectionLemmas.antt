@@ -1,5 +1,5 @@
 -- A count and so many lines.
-use Rattle.std.proofs.Common.{◌≡◌, inl, ℕ, ◌≤◌, List, ◌++◌, length, refl, sym, ◌∙◌, ap, subst, arith, append_assoc}
+use Rattle.std.proofs.Common.{◌≡◌, ℕ, ◌≤◌, List, ◌++◌, length, refl, sym, ◌∙◌, ap, subst, arith, append_assoc}
 use Rattle.std.specs.Fmt.{decimal}
 use Rattle.std.specs.List.{flat_map}
 use Rattle.gos_lex.specs.Items.{TextAt, Misses}
@@ -8,7 +8,7 @@ use Rattle.gos_netlist.specs.declared.fault.NetTextFault.TheVariants as faults
 use Rattle.gos_lex.specs.ItemTexts.{IsAbove, IsInRange, Passed, ended}
 use Rattle.gos_netlist.specs.inner.NetLines.{BreaksOff, IsLinesText, CountFault, section_text, AreCounted, IsSectionText, SectionFault}
 use Rattle.gos_lex.proofs.SequenceLemmas.{Then, IsCode, misses_as, then_first, then_rest}
-use Rattle.gos_netlist.proofs.PassedLemmas.{passed_both, passed_as}
+use Rattle.gos_lex.proofs.PassedLemmas.{passed_both, passed_as}
 use Rattle.gos_lex.proofs.NumberTextLemmas.{number_code}
 use Rattle.gos_netlist.proofs.LinesLemmas.{repeated, lines_code}
 
@@ -37,7 +37,7 @@ pub section_lines : (V : Type 0) (Is : V → Type 0) (text : V → List ℕ) (li
     → (IsAbove limit old.text old.at → ⊥) → BreaksOff (IsLinesText V Is text n) mid.text mid.at fault → SectionFault (IsSectionText V Is text) limit old.text old.at fault
 section_lines V Is text limit n old mid (faults.Form place) small passed under misses = (
   misses_as (Then ℕ (IsInRange 0 4294967295) (λ n. ended 10 (decimal n)) (λ n. IsLinesText V Is text n)) (IsSectionText V Is text) old.text old.at place (joined V Is text) (cut V Is text)
-      (then_rest ℕ (IsInRange 0 4294967295) (λ n. ended 10 (decimal n)) (λ n. IsLinesText V Is text n) old.text old.at mid.at place n (number_code 0 4294967295 10 (omega arith) (inl refl)) (omega arith, small) passed.after passed.within passed.is
+      (then_rest ℕ (IsInRange 0 4294967295) (λ n. ended 10 (decimal n)) (λ n. IsLinesText V Is text n) old.text old.at mid.at place n (number_code 0 4294967295 10 (omega arith) refl) (omega arith, small) passed.after passed.within passed.is
       (subst (λ (source : List ℕ). Misses (IsLinesText V Is text n) source mid.at place) passed.text misses)),
   under,
 )
@@ -54,6 +54,6 @@ section_passed V text n vs old mid new long first second =
 -- sections don't begin one another
 pub section_code : (V : Type 0) (Is : V → Type 0) (text : V → List ℕ) → IsCode V Is text → IsCode (List V) (AreCounted V Is) (section_text V text)
 section_code V Is text code vs ws x y is_v is_w same =
-    let count = number_code 0 4294967295 10 (omega arith) (inl refl) (length vs) (length ws) (flat_map text vs ++ x) (flat_map text ws ++ y) (omega arith, is_v.0) (omega arith, is_w.0)
+    let count = number_code 0 4294967295 10 (omega arith) refl (length vs) (length ws) (flat_map text vs ++ x) (flat_map text ws ++ y) (omega arith, is_v.0) (omega arith, is_w.0)
     (sym (append_assoc (ended 10 (decimal (length vs))) (flat_map text vs) x) ∙ (same ∙ append_assoc (ended 10 (decimal (length ws))) (flat_map text ws) y)) in
     lines_code V Is text code (length vs) vs ws x y (refl, is_v.1) (sym count.0, is_w.1) count.1

@@ -1,5 +1,5 @@
 -- The type of a port, and its nets behind it.
-use Rattle.std.proofs.Common.{◌≡◌, inr, ℕ, List, [], ◌++◌, get_or, refl, sym, ◌∙◌, ap, subst, arith, append_assoc}
+use Rattle.std.proofs.Common.{◌≡◌, ℕ, List, [], ◌++◌, get_or, refl, sym, ◌∙◌, ap, subst, arith, append_assoc}
 use Rattle.std.specs.Prelude.{codes}
 use Rattle.std.specs.Fmt.{decimal}
 use Rattle.std.proofs.lemmas.List.{append_cancel_left}
@@ -14,7 +14,7 @@ use Rattle.gos_netlist.specs.Events.{net_count}
 use Rattle.gos_lex.specs.ItemTexts.{IsNumberText, Passed, ended}
 use Rattle.gos_netlist.specs.inner.NetLines.{numbers_text, AreNets, IsNetsText, type_word, tail_text, IsTypeWordText, IsTypeText, IsTailText}
 use Rattle.gos_lex.proofs.SequenceLemmas.{Then, IsCode, misses_as, then_first, then_rest}
-use Rattle.gos_netlist.proofs.PassedLemmas.{passed_both}
+use Rattle.gos_lex.proofs.PassedLemmas.{passed_both}
 use Rattle.gos_lex.proofs.NumberTextLemmas.{number_code}
 use Rattle.gos_netlist.proofs.NetsLemmas.{zeros, nets_code}
 use Rattle.gos_netlist.proofs.WordLemmas.{type_code}
@@ -75,11 +75,11 @@ pub port_type_code : IsCode Type' IsPortType (λ t. ended 32 (type_text t))
 port_type_code Com Com x y is_t is_u same = (refl, append_cancel_left (codes "com ") x y same)
 port_type_code (Exp v) (Exp w) x y is_t is_u same =
     let rest = append_cancel_left (codes "exp ") (ended 32 (decimal v) ++ x) (ended 32 (decimal w) ++ y) same in
-    let width = number_code 1 GREATEST_WIDTH 32 (omega arith) (inr refl) v w x y is_t is_u rest in
+    let width = number_code 1 GREATEST_WIDTH 32 (omega arith) refl v w x y is_t is_u rest in
     (ap (λ (n : ℕ). Exp n) width.0, width.1)
 port_type_code (Var v) (Var w) x y is_t is_u same =
     let rest = append_cancel_left (codes "var ") (ended 32 (decimal v) ++ x) (ended 32 (decimal w) ++ y) same in
-    let width = number_code 1 GREATEST_WIDTH 32 (omega arith) (inr refl) v w x y is_t is_u rest in
+    let width = number_code 1 GREATEST_WIDTH 32 (omega arith) refl v w x y is_t is_u rest in
     (ap (λ (n : ℕ). Var n) width.0, width.1)
 port_type_code Com (Exp w) x y is_t is_u same = let first : 99 ≡ 101 = ap (λ (bytes : List ℕ). get_or bytes 0 0) same in absurd (omega (arith, first))
 port_type_code Com (Var w) x y is_t is_u same = let first : 99 ≡ 118 = ap (λ (bytes : List ℕ). get_or bytes 0 0) same in absurd (omega (arith, first))

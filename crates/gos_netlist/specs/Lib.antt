@@ -7,8 +7,7 @@ pub mod NetText
 pub mod Writable
 pub mod NetFaults
 pub mod Seen
+pub mod Renamed
 pub mod SmallNets
 pub mod Laws
-pub mod Pools
-pub mod Marks
 pub mod inner

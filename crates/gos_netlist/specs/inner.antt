@@ -2,4 +2,3 @@
 -- files above it.
 pub mod NetLines
 pub mod Passes
-pub mod Inside

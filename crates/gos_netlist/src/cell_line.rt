@@ -8,7 +8,7 @@ ghost use Rattle.gos_types.specs.Widths.{IsWidth};
 ghost use Rattle.gos_lex.specs.ItemTexts.{Passed};
 ghost use Rattle.gos_netlist.specs.inner.NetLines.{numbers_text, pin_count, word_for, HasWord, IsOperandsText, IsCellText};
 
-use crate::items::{LAST_WIDTH, few_nets, number};
+use crate::items::{LAST_WIDTH, few_nets};
 use crate::nets::{Cell, Gate, NetId};
 use crate::word::{GateWord, gate_word};
 use gos_lex::Cursor;
@@ -21,7 +21,7 @@ pub fn cell(cursor: &mut Cursor) -> Result<Cell, usize>
     ensures wrong { IfErr result (Misses IsCellText cursor.old.text cursor.old.at) }
 {
     let word = gate_word(cursor)?;
-    let width = number(cursor, 1, LAST_WIDTH, word.width_end())? as u32;
+    let width = cursor.ended_number(1, LAST_WIDTH, word.width_end())? as u32;
     let gate = gate(cursor, word, width)?;
     Ok(Cell { width, gate })
 }
@@ -60,7 +60,7 @@ fn constant(cursor: &mut Cursor, width: u32) -> Result<Gate, usize>
     ensures passed { IfOk result (λ gate. Passed cursor.old cursor.new (numbers_text (operands (function_of gate)))) }
     ensures wrong { IfErr result (Misses (IsOperandsText GateWord.Const width) cursor.old.text cursor.old.at) }
 {
-    let k = number(cursor, 0, greatest(width), b'\n')?;
+    let k = cursor.ended_number(0, greatest(width), b'\n')?;
     Ok(Gate::Const(k))
 }
 

@@ -1,12 +1,12 @@
-// The items that lines are made of: numbers with the byte that ends them, and nets.
+// The nets of a line, each with the byte that ends it.
 //
 // `Err` is the place of the first byte that can't go on as the item, or the end of the text. Then the cursor may have
 // moved.
-ghost use Rattle.std.specs.Prelude.{◌≡◌, ◌<◌, ◌≤◌, ◌⊎◌, [], ◌∷◌, IfOk, IfErr, length, map, take};
-ghost use Rattle.std.specs.Fmt.{decimal};
+ghost use Rattle.std.specs.Prelude.{◌≡◌, ◌<◌, ◌≤◌, [], ◌∷◌, false, IfOk, IfErr, length, map, take};
+ghost use Rattle.std.specs.Char.{is_ascii_digit};
 ghost use Rattle.gos_lex.specs.Items.{Misses};
 ghost use Rattle.gos_netlist.specs.Seen.{number_of};
-ghost use Rattle.gos_lex.specs.ItemTexts.{Passed, ended, IsInRange, IsNumberText};
+ghost use Rattle.gos_lex.specs.ItemTexts.{Passed};
 ghost use Rattle.gos_netlist.specs.inner.NetLines.{end_with, AreNets, IsNetsText, numbers_text};
 
 use crate::nets::NetId;
@@ -24,19 +24,6 @@ pub const LAST_WIDTH: u64 = GREATEST_WIDTH as u64;
 /// The nets of a line: six at most.
 pub type LineNets = SmallVec<NetId, 6>;
 
-/// Passes a number of the range, and the byte that ends it.
-pub fn number(cursor: &mut Cursor, low: u64, high: u64, end: u8) -> Result<u64, usize>
-    requires range { low ≤ high }
-    requires no_digit { (end ≡ 10) ⊎ (end ≡ 32) }
-    ensures range { IfOk result (IsInRange low high) }
-    ensures passed { IfOk result (λ n. Passed cursor.old cursor.new (ended end (decimal n))) }
-    ensures wrong { IfErr result (Misses (IsNumberText low high end) cursor.old.text cursor.old.at) }
-{
-    let n = cursor.number(low, high)?;
-    cursor.word(&[end])?;
-    Ok(n)
-}
-
 /// Passes so many nets, with a space between each two and a line feed behind the last.
 pub fn so_many_nets(alloc: Global, cursor: &mut Cursor, count: usize) -> Result<LineNets, usize>
     requires few { count ≤ 6 }
@@ -49,7 +36,7 @@ pub fn so_many_nets(alloc: Global, cursor: &mut Cursor, count: usize) -> Result<
     let mut left = count;
     while left > 0 {
         left -= 1;
-        let n = number(cursor, 0, LAST_NUMBER, end_with(left))?;
+        let n = cursor.ended_number(0, LAST_NUMBER, end_with(left))?;
         nets.push_reserved(NetId(n as u32));
     }
     Ok(nets)
@@ -63,22 +50,22 @@ pub fn few_nets(cursor: &mut Cursor, count: usize) -> Result<(NetId, NetId, NetI
     ensures passed { IfOk result (λ nets. Passed cursor.old cursor.new (numbers_text (take count (nets.0.0 ∷ nets.1.0 ∷ nets.2.0 ∷ [])))) }
     ensures wrong { IfErr result (Misses (IsNetsText count) cursor.old.text cursor.old.at) }
 {
-    let a = number(cursor, 0, LAST_NUMBER, end_with(count - 1))?;
+    let a = cursor.ended_number(0, LAST_NUMBER, end_with(count - 1))?;
     if count == 1 {
         return Ok((NetId(a as u32), NetId(0), NetId(0)));
     }
-    let b = number(cursor, 0, LAST_NUMBER, end_with(count - 2))?;
+    let b = cursor.ended_number(0, LAST_NUMBER, end_with(count - 2))?;
     if count == 2 {
         return Ok((NetId(a as u32), NetId(b as u32), NetId(0)));
     }
-    let c = number(cursor, 0, LAST_NUMBER, b'\n')?;
+    let c = cursor.ended_number(0, LAST_NUMBER, b'\n')?;
     Ok((NetId(a as u32), NetId(b as u32), NetId(c as u32)))
 }
 
 // The byte behind a number, before so many others.
 fn end_with(left: usize) -> u8
     ensures end { result ≡ end_with left }
-    ensures no_digit { (result ≡ 10) ⊎ (result ≡ 32) }
+    ensures no_digit { is_ascii_digit result ≡ false }
 {
     if left == 0 { b'\n' } else { b' ' }
 }

@@ -3,7 +3,6 @@ ghost use Rattle.std.specs.Prelude.{List, ℕ};
 ghost use Rattle.gos_netlist.specs.NetFaults.{HasOneFault, IsOneNetlist, PrintedIsRead, ReadHasNoFault};
 ghost use Rattle.gos_netlist.specs.Laws.{AcyclicSettles, AcyclicSettlesOnce};
 ghost use Rattle.gos_netlist.specs.SmallNets.{LatchRuns, LatchText, LoopedGates};
-ghost use Rattle.gos_netlist.specs.Marks.{MarksStay};
 
 /// A latch runs and has its text, and two gates in a ring are a combinational cycle.
 pub fn small_nets()
@@ -30,9 +29,4 @@ pub fn one_answer()
 /// was printed gives the netlist back, unless memory runs out.
 pub fn reads_back()
     ensures { PrintedIsRead }
-{}
-
-/// As long as a pool only grows, it can be cut back to the marks that were made.
-pub fn marks_stay()
-    ensures { MarksStay }
 {}

@@ -10,8 +10,7 @@
 // made of). `laws.rt` has the small theorems that show what the definitions say. `passes.rt` is a plain, slow program
 // over small netlists, which the faster ones of other crates are compared with.
 //
-// A netlist that is being made is a `NetPool` (`pool.rt`, `specs/Pools`): cells are placed in regions (`region.rt`), one
-// after another, and all behind a mark can be taken back.
+// The cells of a netlist that is being made are those of a pool, gos_pool.
 #![tactic(auto)]
 
 mod cell_line;
@@ -21,20 +20,16 @@ mod items;
 mod laws;
 mod nets;
 mod passes;
-mod pool;
 mod port_line;
 mod printing;
 mod reading;
-mod region;
 mod sections;
 mod word;
 
 pub use event::{Event, events};
 pub use fault::NetTextFault;
-pub use laws::{marks_stay, one_answer, reads_back, settlings, small_nets};
+pub use laws::{one_answer, reads_back, settlings, small_nets};
 pub use nets::{Cell, Gate, Ground, NetId, Netlist, Pins, Port, Side};
 pub use passes::{SettleFault, settle};
-pub use pool::NetPool;
 pub use printing::print_net;
 pub use reading::read_net;
-pub use region::{Mark, Region};

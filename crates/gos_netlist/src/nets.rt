@@ -1,8 +1,9 @@
 // Netlists as values.
-ghost use Rattle.std.specs.Prelude.{◌≡◌, ◌≤◌, map};
+ghost use Rattle.std.specs.Prelude.{◌≡◌, ◌≤◌, ℕ, map};
 ghost use Rattle.gos_netlist.specs.Nets.{pins};
 ghost use Rattle.gos_netlist.specs.Events.{net_count};
 ghost use Rattle.gos_netlist.specs.Seen.{function_of, ground_type, number_of};
+ghost use Rattle.gos_netlist.specs.Renamed.{renamed, TakesNets, GivesNets};
 
 use gos_lex::Name;
 use smallvec::SmallVec;
@@ -42,6 +43,31 @@ pub enum Gate {
     Gate(NetId, NetId),
     /// What the net was in the cycle before; 0 in the first one.
     Reg(NetId),
+}
+
+impl Gate {
+    /// The gate with other nets in the place of those that it names: for each the net that `other` gives for it, which
+    /// is called with no net but these.
+    pub fn renamed<F: Fn(NetId) -> NetId>(self, other: F) -> Gate
+        requires { TakesNets (F.pre other) (pins (function_of self)) }
+        ensures { (f : ℕ → ℕ) → GivesNets (F.post other) f (pins (function_of self)) → function_of result ≡ renamed f (function_of self) }
+    {
+        match self {
+            Gate::Input => Gate::Input,
+            Gate::Const(k) => Gate::Const(k),
+            Gate::Not(a) => Gate::Not(other(a)),
+            Gate::And(a, b) => Gate::And(other(a), other(b)),
+            Gate::Or(a, b) => Gate::Or(other(a), other(b)),
+            Gate::Xor(a, b) => Gate::Xor(other(a), other(b)),
+            Gate::Mux(s, a, b) => Gate::Mux(other(s), other(a), other(b)),
+            Gate::Add(a, b) => Gate::Add(other(a), other(b)),
+            Gate::Sub(a, b) => Gate::Sub(other(a), other(b)),
+            Gate::Eq(a, b) => Gate::Eq(other(a), other(b)),
+            Gate::Less(a, b) => Gate::Less(other(a), other(b)),
+            Gate::Gate(s, a) => Gate::Gate(other(s), other(a)),
+            Gate::Reg(a) => Gate::Reg(other(a)),
+        }
+    }
 }
 
 /// A cell.

@@ -11,7 +11,7 @@ ghost use Rattle.gos_lex.specs.ItemTexts.{Passed, ended};
 ghost use Rattle.gos_netlist.specs.inner.NetLines.{BreaksOff, AreNets, tail_text, IsNameText, IsTypeText, IsTailText, IsPortText};
 
 use crate::fault::NetTextFault;
-use crate::items::{LAST_WIDTH, LineNets, number, so_many_nets};
+use crate::items::{LAST_WIDTH, LineNets, so_many_nets};
 use crate::nets::{Ground, NetId, Port};
 use crate::word::{TypeWord, side_word, type_word};
 use gos_lex::{Cursor, Name};
@@ -91,7 +91,7 @@ fn port_type(cursor: &mut Cursor) -> Result<Ground, usize>
 {
     match type_word(cursor)? {
         TypeWord::Com => Ok(Ground::Com),
-        TypeWord::Exp => Ok(Ground::Exp(number(cursor, 1, LAST_WIDTH, b' ')? as u32)),
-        TypeWord::Var => Ok(Ground::Var(number(cursor, 1, LAST_WIDTH, b' ')? as u32)),
+        TypeWord::Exp => Ok(Ground::Exp(cursor.ended_number(1, LAST_WIDTH, b' ')? as u32)),
+        TypeWord::Var => Ok(Ground::Var(cursor.ended_number(1, LAST_WIDTH, b' ')? as u32)),
     }
 }

@@ -1,5 +1,5 @@
 // Circuits of gates and their texts.
-use gos_aiger::{AagFault, one_answer, print_aag, read_aag, reads_back, small_circuits};
+use gos_gates::{AagFault, one_answer, print_aag, read_aag, reads_back, small_circuits};
 use std::alloc::Global;
 use std::test::Fail;
 

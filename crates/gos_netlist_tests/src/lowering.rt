@@ -2,7 +2,7 @@
 use crate::bench::Bench;
 use crate::drawn::{Draw, drawn, small};
 use crate::samples::{bit, main_port};
-use gos_aiger::{Aig, GateFault, lower, small_lowered};
+use gos_gates::{Aig, GateFault, lower, small_lowered};
 use gos_netcheck::accept;
 use gos_netlist::{Cell, Gate, NetId, Netlist};
 use gos_sim::Pulse;
@@ -112,15 +112,18 @@ fn large(alloc: Global, width: u32) -> Result<Netlist, Fail> {
     Ok(Netlist { cells, ports })
 }
 
-// How many bits are too many; 0 where they are not.
+// How many bits are too many; 0 where the netlist is lowered.
 fn excess(alloc: Global, width: u32) -> Result<u64, Fail> {
     let net = large(alloc, width)?;
     if net.cells.len() > 30_000 {
-        return Ok(0);
+        return Err("too many cells".into());
     }
     match lower(alloc, &accept(alloc, net)?) {
         Err(GateFault::TooLarge { bits }) => Ok(bits),
-        Err(GateFault::NoMemory) | Ok(_) => Ok(0),
+        lowered => {
+            lowered?;
+            Ok(0)
+        }
     }
 }
 

@@ -6,7 +6,7 @@ use Rattle.gos_order.specs.declared.links.Way.TheVariants.{Out, In}
 use Rattle.gos_order.specs.Rings.{Edge, HasEdge, Leads, along, further}
 use Rattle.gos_order.specs.inner.NodeLists.{NodeList, at, IsIn}
 use Rattle.gos_order.specs.inner.Chains.{HasStep, near_at, far_at, IsLast}
-use Rattle.gos_order.specs.inner.Searches.{Task, IsWanted, LeadsOn, IsHeld, AreHeld, IsMet, IsDone, IsFollowed, AreFollowed, Grows}
+use Rattle.gos_order.specs.inner.Searches.{Task, IsWanted, LeadsOn, IsHeld, AreHeld, IsMet, IsDone, IsFollowed, Grows}
 use Rattle.gos_order.proofs.EdgeLemmas.{step_at, place_of_step}
 
 pub grows_not : (items : NodeList) → Grows items items
@@ -114,7 +114,3 @@ followed_more task old new place within grows followed here k low =
   where
     cases : (a b : ℕ) → a < b + 1 → (a < b) ⊎ (a ≡ b)
     cases a b h = grind arith
-
-pub followed_all : (task : Task) (items : List ℕ) (place : ℕ) → length items ≤ place → AreFollowedBefore task items place → AreFollowed task items
-followed_all task items place all followed node (k, within, is) =
-    subst (λ (x : ℕ). IsFollowed task items x) is (followed k (omega (arith, within, all)))

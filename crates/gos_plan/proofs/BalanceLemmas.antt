@@ -166,11 +166,6 @@ answer_put a true None (Some y) v e h = absurd (grind (arith, h))
 answer_put a true (Some x) (Some y) v e h = absurd (grind (arith, h))
 answer_put a false request answer v e h = absurd (grind (arith, e))
 
--- what lies in a joint's places after one was filled or emptied
-place_set : (way : Direction) (a : End) (held : Option ℕ) (s : Tokens) → (with_place way a held s).in_place way a ≡ held
-place_set Request a held s = grind (arith, same_itself a)
-place_set Answer a held s = grind (arith, same_itself a)
-
 -- where an end is turned, it shows the opposite; the joint's other end shows what it did
 turned_there : (e : End) (engaged : End → Bool) → turned_at e engaged e ≡ not (engaged e)
 turned_there e engaged = grind (arith, same_itself e)

@@ -4,12 +4,12 @@ use Rattle.std.specs.Fmt.{decimal}
 use Rattle.std.specs.List.{slice_range}
 use Rattle.gos_lex.specs.Items.{TextAt, IsJust, Passes, Misses}
 use Rattle.gos_lex.specs.Decimals.{IsDecimalIn}
-use Rattle.gos_lex.proofs.NumberTextLemmas.{no_longer_number, count_misses, count_not_ended, number_under}
+use Rattle.gos_lex.proofs.NumberTextLemmas.{number_code, no_longer_number, count_misses, count_not_ended, number_under}
 use Rattle.gos_plan.specs.declared.fault.ObjectFault.{ObjectFault}
 use Rattle.gos_plan.specs.declared.fault.ObjectFault.TheVariants as faults
 use Rattle.gos_plan.specs.TextItems.{Item, Reads, Fails, both, exactly, count_up_to, lines, section}
 use Rattle.gos_plan.proofs.TextLemmas.{Lawful, Via, lawful_both, lawful_exactly, lawful_lines, via_lawful, via_fails, first_fails, rest_fails, both_read, reads_as, span_front}
-use Rattle.gos_plan.proofs.ItemLemmas.{number_code, passed_then}
+use Rattle.gos_plan.proofs.ItemLemmas.{passed_then}
 
 pub lawful_count : (limit : ℕ) → Lawful (count_up_to limit)
 lawful_count limit =

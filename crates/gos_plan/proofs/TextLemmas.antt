@@ -1,10 +1,10 @@
 -- Items one behind the other: where the first fails, or the second behind it, both do.
-use Rattle.std.proofs.Common.{◌≡◌, inl, inr, ◌⊎◌, ℕ, zero, suc, ◌+◌, ◌-◌, ◌<◌, ◌≤◌, List, [], ◌∷◌, ◌++◌, length, map, refl, sym, ◌∙◌, ap, subst, arith, append_assoc, append-nil, length-append}
+use Rattle.std.proofs.Common.{◌≡◌, inl, inr, ◌⊎◌, ℕ, zero, suc, ◌+◌, ◌-◌, ◌<◌, List, [], ◌∷◌, ◌++◌, length, map, refl, sym, ◌∙◌, ap, subst, arith, append_assoc, append-nil, length-append}
 use Rattle.std.specs.List.{AllByRecursion, flat_map, slice_range}
 use Rattle.std.proofs.lemmas.Grind.{flat_map-append}
 use Rattle.std.proofs.lemmas.List.{append_cancel_left, map-append}
 use Rattle.gos_lex.specs.Items.{TextAt}
-use Rattle.gos_lex.proofs.PlaceLemmas.{length_slice, slice_nothing, slice_split}
+use Rattle.gos_lex.proofs.PlaceLemmas.{length_slice, slice_split}
 use Rattle.gos_lex.proofs.SequenceLemmas.{Then, IsCode, misses_as, then_first, then_rest, slice_front, same_fronts}
 use Rattle.gos_plan.specs.declared.fault.ObjectFault.{ObjectFault}
 use Rattle.gos_plan.specs.declared.fault.ObjectFault.TheVariants as faults
@@ -281,17 +281,6 @@ pub record SoFar (A : Item) (count : ℕ) (old now : TextAt) (vs : List A.Value)
   pub are : AllByRecursion A.Is vs
   pub keep : AllByRecursion A.Keeps vs
   pub fails : (fault : ObjectFault) → Fails (lines A left) old.text now.at fault → Fails (lines A count) old.text old.at fault
-
-pub none_yet : (A : Item) (count : ℕ) (old : TextAt) → old.at ≤ length old.text → SoFar A count old old [] count
-none_yet A count old within =
-    record {
-      same = refl;
-      spans = record { after = omega arith; within = within; is = slice_nothing old.text old.at };
-      counted = omega arith;
-      are = tt;
-      keep = tt;
-      fails = λ fault fails. fails;
-    }
 
 all_more : (V : Type 0) (Is : V → Type 0) (vs : List V) (v : V) → AllByRecursion Is vs → Is v → AllByRecursion Is (vs ++ v ∷ [])
 all_more V Is [] v all is = (is, tt)

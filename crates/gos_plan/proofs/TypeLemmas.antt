@@ -16,7 +16,7 @@ use Rattle.gos_plan.specs.ObjectItems.{shakes, letters, word_of_type, least, typ
 use Rattle.gos_plan.proofs.TextLemmas.{Lawful, Via, same_item, under_both, one_behind, lawful_exactly}
 use Rattle.gos_plan.proofs.TableLemmas.{table_code}
 use Rattle.gos_plan.proofs.WordLemmas.{type_table}
-use Rattle.gos_plan.proofs.ItemLemmas.{number_code}
+use Rattle.gos_lex.proofs.NumberTextLemmas.{number_code}
 use Rattle.gos_plan.proofs.FormatLemmas.{greatest_is}
 
 -- how many handshakes the parts of a type have

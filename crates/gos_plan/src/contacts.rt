@@ -7,8 +7,8 @@ ghost use Rattle.gos_plan.specs.Seen.{part_of, operation_of};
 ghost use Rattle.gos_plan.specs.Contacts.{held_contact};
 ghost use Rattle.gos_plan.specs.inner.Turned.{as_seen, contact_for};
 
-use crate::kinds::{Kind, Op2, index_bits};
-use gos_types::{Handshake, NoMemory, Role, Ty, handshakes};
+use crate::kinds::{Kind, Op2};
+use gos_types::{Handshake, NoMemory, Role, Ty, handshakes, index_bits};
 use std::alloc::Global;
 
 /// A handshake at an end: who asks there, and the bits of its request and of its answer.

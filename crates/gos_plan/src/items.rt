@@ -31,12 +31,8 @@ pub fn number(cursor: &mut Cursor, low: u64, high: u64, end: u8) -> Result<u64, 
     ensures read { IfOk result (Reads (number_in low high end) cursor.old cursor.new) }
     ensures wrong { IfErr result (Fails (number_in low high end) cursor.old.text cursor.old.at) }
 {
-    let n = match cursor.number(low, high) {
-        Ok(n) => n,
-        Err(at) => return Err(ObjectFault::Form { at }),
-    };
-    match cursor.word(&[end]) {
-        Ok(()) => Ok(n),
+    match cursor.ended_number(low, high, end) {
+        Ok(n) => Ok(n),
         Err(at) => Err(ObjectFault::Form { at }),
     }
 }

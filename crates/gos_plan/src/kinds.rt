@@ -1,8 +1,5 @@
 // The kinds of parts, and the handshakes of each.
 
-ghost use Rattle.std.specs.Prelude.{◌≡◌};
-ghost use Rattle.gos_model.specs.Typing.{index_width};
-
 use gos_types::Ty;
 
 /// What an operator computes.
@@ -57,16 +54,4 @@ pub enum Kind {
     Array { w: u32, n: u32, v: u32 },
     /// Lets two callers share a source of this type.
     Share(Ty),
-}
-
-/// How many bits the index of an array of `n` numbers has, where `n` is 2, 4, 8 or 16.
-pub fn index_bits(n: u32) -> u32
-    ensures { result ≡ index_width n }
-{
-    match n {
-        2 => 1,
-        4 => 2,
-        8 => 3,
-        _ => 4,
-    }
 }

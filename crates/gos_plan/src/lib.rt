@@ -35,7 +35,7 @@ pub use contacts::{Contact, part_contacts, type_contacts, user_contacts};
 pub use fault::ObjectFault;
 pub use firing::{Firing, Numbers, Phase, Puts, Slot, State, Token, fire};
 pub use format::Format;
-pub use kinds::{Kind, Op2, index_bits};
+pub use kinds::{Kind, Op2};
 pub use laws::{
     held_tokens, one_answer, one_joining, one_token_each, orderly_holds_one, orderly_is_decided,
     parts_fire, sides, small_arrays, small_calls, small_plans, tokens_fit, tokens_stay,

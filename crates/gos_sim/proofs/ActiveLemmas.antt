@@ -1,6 +1,6 @@
 -- What follows a change of values: marks and notes.
 use Rattle.std.specs.Prelude.{◌≡◌, ◌≢◌, ℕ, ◌+◌, ◌<◌, ◌⊎◌, List, [], ◌∷◌, ◌++◌, All, Some, drop, length, set, slice_get}
-use Rattle.std.proofs.Common.{arith, refl, ap, sym, subst, inl, inr, ◌∙◌, get_or-set_same, get_or-set_other}
+use Rattle.std.proofs.Common.{arith, ap, sym, subst, inl, inr, ◌∙◌, get_or-set_same, get_or-set_other}
 use Rattle.std.proofs.lemmas.Bool.{cases_eq}
 use Rattle.std.proofs.lemmas.List.{drop_more}
 use Rattle.std.proofs.lemmas.List.Elements.{All-cons, All-contains, All-push, All-weaker}
@@ -14,17 +14,6 @@ use Rattle.gos_sim.specs.inner.Marks.{IsUnmarked, KeepsMarks}
 use Rattle.gos_sim.specs.inner.Readers.{AreLinked, Reads}
 use Rattle.gos_sim.specs.inner.Spots.{KeepsOthersThan}
 use Rattle.gos_sim.specs.inner.Active.{Follows, IsWake, Lacks}
-
--- nothing follows where nothing changes
-pub follows_none : (wake : Wake) (v : Numbers) → Follows wake wake v v
-follows_none wake v =
-    record {
-      readers = refl;
-      each = refl;
-      kept = λ item bare. bare;
-      marked = λ place item reads bare. refl;
-      noted = λ place lacks. (lacks, refl);
-    }
 
 -- a place may have another value: its readers are marked, and it is noted
 pub follows_put : (old new : Wake) (v w : Numbers) (place : ℕ) → KeepsOthersThan place v w → new.readers ≡ old.readers

@@ -67,18 +67,6 @@ AreQuiet chains cells before values level link =
 at_level : (levels : Numbers) (n level : ℕ) → n < length levels → at levels n ≡ level → slice_get levels n ≡ Some level
 at_level levels n level below is = slice_get-get_or levels n 0 below ∙ ap Some is
 
--- the chain of a level begins behind all its nets
-pub quiet_at_end : (chains : Chains) (cells : List Cell) (before values : Numbers) (level link : ℕ) → level < length chains.heads.items → link ≡ at chains.heads.items level
-    → AreQuiet chains cells before values level link
-quiet_at_end chains cells before values level link below is = λ levels each chained.
-    let last : IsLast (λ l. l) levels level (length levels) link = subst (IsLast (λ l. l) levels level (length levels)) (sym is) (chained.chained.ends level below) in
-    record {
-      here = λ n e. let low : n < length levels = omega (arith, last.within, e) in last.last n (at levels n) e (slice_get-get_or levels n 0 low);
-      quiet = λ n c past at_n stands.
-          let low : n < length levels = let inside = slice_get_within cells n c at_n in omega (arith, inside, each) in
-          absurd (last.lacks n level past low (at_level levels n level low stands) refl);
-    }
-
 -- a net more is quiet
 pub quiet_more : (chains : Chains) (cells : List Cell) (before values : Numbers) (level net link : ℕ) (c : Cell) → slice_get cells net ≡ Some c
     → IsFalse (one_has_changed before values (pins c.gate)) → link ≡ at chains.next.items net → AreQuiet chains cells before values level (net + 1)
@@ -146,16 +134,6 @@ pub record AreCounted (cells : List Cell) (levels before values : Numbers) (i co
 abbrev pub CountsBefore : Chains → List Cell → Numbers → Numbers → ℕ → ℕ → Type 0
 CountsBefore chains cells before values i count =
     (levels : Numbers) → length levels ≡ length cells → ChainLevels chains levels → AreCounted cells levels before values i count
-
-pub counts_none : (chains : Chains) (cells : List Cell) (before values : Numbers) → CountsBefore chains cells before values 1 0
-counts_none chains cells before values = λ levels each chained.
-    record {
-      visited = [];
-      distinct = tt;
-      counted = refl;
-      sound = λ l has. absurd (omega (arith, has.1));
-      whole = λ l seen low. absurd (omega (arith, low, seen.above));
-    }
 
 pub counts_one : (chains : Chains) (cells : List Cell) (before values : Numbers) (i count : ℕ) → 0 < i → HasVisit chains cells before values i
     → CountsBefore chains cells before values i count → CountsBefore chains cells before values (i + 1) (count + 1)

@@ -1,5 +1,5 @@
 -- The parts of a cycle together: the values settle, and the registers after it are the next ones.
-use Rattle.std.specs.Prelude.{◌≡◌, ◌≢◌, ℕ, ◌<◌, Bool, true, false, IsTrue, IsFalse, ◌⊎◌, List, [], ◌∷◌, Option, Some, None, length, map, get_or, replicate, take, nat_eq, All, slice_get}
+use Rattle.std.specs.Prelude.{◌≡◌, ◌≢◌, ℕ, ◌<◌, Bool, true, false, IsTrue, ◌⊎◌, List, [], ◌∷◌, Option, Some, None, length, map, get_or, replicate, take, nat_eq, All, slice_get}
 use Rattle.std.specs.Option.{option_map}
 use Rattle.std.proofs.Common.{refl, sym, ◌∙◌, ap, subst, inl, inr}
 use Rattle.std.proofs.lemmas.List.{length-map, get_or-replicate, ext_get_or}
@@ -241,8 +241,3 @@ zero_settling net m values plan settles each =
     let Sources : ℕ → Type 0 = λ n. KeepsOtherSteps m.steps (replicate n 0) values in
     settled net.cells m.steps m.latches zeros zeros values plan.program plan.latched (λ j l at_j. refl) settles.evaluated
     (subst Sources each settles.sources) each
-
--- what holds of two lists, of which one takes the other's place or stays
-pub either_way : {A : Type 0} (P : A → Type 0) (stays : Bool) (own other new : A) → (IsTrue stays → new ≡ own) → (IsFalse stays → new ≡ other) → P own → P other → P new
-either_way P true own other new same turned p q = subst P (sym (same refl)) p
-either_way P false own other new same turned p q = subst P (sym (turned refl)) q

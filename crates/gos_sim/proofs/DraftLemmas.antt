@@ -85,11 +85,3 @@ draft_of_more m old new next net added join many room known =
       operands = up_to_more many old.operands new.operands added.longer known.operands;
       runs = join many (run_numbered m old.operands new.operands next many room net added known.operands) known.runs;
     }
-
--- none more
-pub draft_of_same : (d : Draft) (many : ℕ) → many < none → IsDraftOf many d → IsDraftOf (many + 1) d
-draft_of_same d many room known =
-    record {
-      operands = up_to_weaker many (many + 1) d.operands (omega arith) known.operands;
-      runs = record { steps = omega (arith, known.runs.steps); all = known.runs.all; too = known.runs.too };
-    }

@@ -3,8 +3,8 @@ use Rattle.std.specs.Prelude.{◌≡◌, ◌≢◌, ℕ, zero, suc, ◌+◌, ◌
 use Rattle.std.specs.List.{flat_map}
 use Rattle.std.proofs.Common.{arith, refl, sym, ap, subst, ◌∙◌, get_or-set_other}
 use Rattle.std.proofs.Math.ListN.{drop_of_length-le}
-use Rattle.std.proofs.Math.Seq.{drop-append_seam, take-add}
-use Rattle.std.proofs.lemmas.List.{append-nil, append_assoc, drop-append-le, drop-drop, flat_map_more, length-append, length-drop, length-set, length-take-le, take-append-le}
+use Rattle.std.proofs.Math.Seq.{take-add}
+use Rattle.std.proofs.lemmas.List.{append_assoc, drop-append-le, drop-drop, flat_map_more, length-append, length-drop, length-set, length-take-le, take-append-le}
 use Rattle.std.proofs.lemmas.List.Elements.{All-cons, All-head, All-nil, All-push, All-tail, All-weaker}
 use Rattle.std.proofs.lemmas.List.Concat.{flat_map-cons}
 use Rattle.gos_netlist.specs.declared.nets.Gate as declared
@@ -21,7 +21,7 @@ use Rattle.gos_sim.specs.declared.program.Step.{Step}
 use Rattle.gos_sim.specs.inner.Program.{HaveOneCell, IsStepWithin, SparesEarlier}
 use Rattle.gos_sim.specs.inner.Places.{AreStepsMoved, IsStepMoved, moved}
 use Rattle.gos_sim.specs.inner.Drafts.{AddsSteps, IsDraft}
-use Rattle.gos_sim.specs.inner.Evaluation.{AreFitting, AreLonger, AreRunsMore, Fits, GoesOn, HasOperand, IsAdded, IsLonger, after, bits_of, all_steps, part, room_of, run_of, steps_from, steps_of, steps_of_kind, value_of}
+use Rattle.gos_sim.specs.inner.Evaluation.{AreFitting, AreLonger, AreRunsMore, Fits, GoesOn, IsAdded, IsLonger, after, bits_of, all_steps, part, room_of, steps_from, steps_of, steps_of_kind, value_of}
 use Rattle.gos_sim.specs.inner.Running.{AreShown, KeepsOtherSteps}
 use Rattle.gos_sim.proofs.MoveLemmas.{steps_pushed}
 use Rattle.gos_sim.proofs.StepLemmas.{AreShownBefore, shown_more}
@@ -63,10 +63,6 @@ All-right P (x ∷ xs) ys all = All-right P xs ys (All-tail P x (xs ++ ys) all)
 pub after_append : (ss ts : List Step) (v : Numbers) → after (ss ++ ts) v ≡ after ts (after ss v)
 after_append [] ts v = refl
 after_append (s ∷ ss) ts v = after_append ss ts (set v s.net (value_of s v))
-
-pub length_after : (ss : List Step) (v : Numbers) → length (after ss v) ≡ length v
-length_after [] v = refl
-length_after (s ∷ ss) v = length_after ss (set v s.net (value_of s v)) ∙ length-set v s.net (value_of s v)
 
 -- nets that are not those of the steps keep their values
 pub kept_after : (ss : List Step) (v : Numbers) → KeepsOtherSteps ss v (after ss v)
@@ -279,51 +275,6 @@ bits_moved p (Less a b) w = refl
 bits_moved p (Gate s a) w = refl
 bits_moved p (Reg a) w = refl
 
--- a step whose operand is added
-pub step_added : {A : Type 0} (k : Kind) (w : ℕ) (gate : A → declared.Gate) (x : A) (xs ys : List A) (old new : Operands) (s : Step) (r : Run)
-    → AreLonger old new × HasOperand k s.net w x xs ys r
-    → steps_of_kind k new (run_of k s.net w (length xs)) ≡ steps_from w gate s.net (take 1 (drop (length xs) ys)) → room_of k new ≡ length ys
-    → s.gate ≡ gate x → w ≡ bits_of (function_of (gate x)) s.width → IsAdded old new s r
-step_added k w gate x xs ys old new s r (longer, has) own room is bits =
-    subst (IsAdded old new s) (sym has.run)
-    (record {
-      longer = longer;
-      one = refl;
-      fits = omega (arith, room, long);
-      steps = own ∙ (ap (λ (zs : List _). steps_from w gate s.net (take 1 zs)) (ap (drop (length xs)) has.added ∙ drop-append_seam xs (x ∷ []))
-          ∙ (λ i. record { net = s.net; width = wide i; gate = sym is i } ∷ []));
-    })
-  where
-    long : length ys ≡ length xs + 1
-    long = ap length has.added ∙ length-append xs (x ∷ [])
-
-    wide : w ≡ bits_of (function_of s.gate) s.width
-    wide = bits ∙ ap (λ (g : declared.Gate). bits_of (function_of g) s.width) (sym is)
-
--- no steps
-pub draft_none : (places : Numbers) (d : Draft) → d.last.count ≡ 0 → d.runs.items ≡ [] → d.last.first ≡ 0 → IsDraft places [] d
-draft_none places d none runs first =
-    record {
-      fit = record { all = subst (All (Fits d.operands)) (sym runs) (All-nil (Fits d.operands)); too = omega (arith, none, first) };
-      moved = subst (AreStepsMoved (at places) []) (sym (λ i. flat_map (steps_of d.operands) (runs i) ++ empty d.last.kind i)) (record { each = refl; moved = λ j s t at_j. absurd (cc) });
-    }
-  where
-    nothing : {A : Type 0} (xs : List A) → part d.last xs ≡ []
-    nothing xs = ap (λ (n : ℕ). take n (drop d.last.first xs)) none
-
-    empty : (k : Kind) → steps_of_kind k d.operands d.last ≡ []
-    empty kinds.Const = ap (steps_from 0 gates.Const d.last.net) (nothing d.operands.constants.items)
-    empty kinds.Not = ap (steps_from d.last.width gates.Not d.last.net) (nothing d.operands.pins.items)
-    empty kinds.And = ap (steps_from 0 (λ p. gates.And p.a p.b) d.last.net) (nothing d.operands.pairs.items)
-    empty kinds.Or = ap (steps_from 0 (λ p. gates.Or p.a p.b) d.last.net) (nothing d.operands.pairs.items)
-    empty kinds.Xor = ap (steps_from 0 (λ p. gates.Xor p.a p.b) d.last.net) (nothing d.operands.pairs.items)
-    empty kinds.Mux = ap (steps_from 0 (λ t. gates.Mux t.s t.a t.b) d.last.net) (nothing d.operands.triples.items)
-    empty kinds.Add = ap (steps_from d.last.width (λ p. gates.Add p.a p.b) d.last.net) (nothing d.operands.pairs.items)
-    empty kinds.Sub = ap (steps_from d.last.width (λ p. gates.Sub p.a p.b) d.last.net) (nothing d.operands.pairs.items)
-    empty kinds.Eq = ap (steps_from 0 (λ p. gates.Eq p.a p.b) d.last.net) (nothing d.operands.pairs.items)
-    empty kinds.Less = ap (steps_from 0 (λ p. gates.Less p.a p.b) d.last.net) (nothing d.operands.pairs.items)
-    empty kinds.Gate = ap (steps_from 0 (λ p. gates.Gate p.a p.b) d.last.net) (nothing d.operands.pairs.items)
-
 -- a step more
 pub draft_more : (places : Numbers) (s m : Step) (old new : Draft) (next : Run) → m.net ≡ at places s.net → m.width ≡ s.width
     → function_of m.gate ≡ moved (at places) (function_of s.gate) → IsAdded old.operands new.operands m next
@@ -338,10 +289,6 @@ draft_more places s m old new next net width gate added join = λ steps d.
       fit = joined.1;
       moved = subst (AreStepsMoved (at places) (steps ++ s ∷ [])) (sym all) (steps_pushed (at places) steps (all_steps old.operands old.runs.items old.last) s here d.moved step);
     }
-
--- none more
-pub draft_same : (places : Numbers) (d : Draft) → AddsSteps places [] d d
-draft_same places d = λ steps is. subst (λ (ss : List Step). IsDraft places ss d) (sym (append-nil steps)) is
 
 -- the runs of a draft, with the last one
 pub fitting_runs : (places : Numbers) (steps : List Step) (d : Draft) → IsDraft places steps d → All (Fits d.operands) (d.runs.items ++ d.last ∷ [])

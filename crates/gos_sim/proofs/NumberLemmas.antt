@@ -133,18 +133,6 @@ partly_none count small =
     empty : (n : ℕ) → n < length (replicate count none) → at (replicate count none) n ≡ none
     empty n within = get_or-replicate count n none 0 (subst (λ (k : ℕ). n < k) (length-replicate count none) within)
 
--- and a net that has a place keeps one
-pub kept_more : (places : Numbers) (n x m : ℕ) → n < length places → x ≢ none → at places m ≢ none → at (set places n x) m ≢ none
-kept_more places n x m below is placed = by_net (cases_order m n)
-  where
-    other : m ≢ n → at (set places n x) m ≢ none
-    other apart = λ e. placed (sym (get_or-set_other places n m x 0 apart) ∙ e)
-
-    by_net : (m ≡ n) ⊎ ((m < n) ⊎ (n < m)) → at (set places n x) m ≢ none
-    by_net (inl same) = λ e. is (sym (get_or-set_same places n x 0 below) ∙ (ap (at (set places n x)) (sym same) ∙ e))
-    by_net (inr (inl less)) = other (λ e. omega (arith, less, e))
-    by_net (inr (inr more)) = other (λ e. omega (arith, more, e))
-
 -- where each net has a place, no two have the same
 pub numbering_of : (places : Numbers) (count : ℕ) → IsPartly places count → ((n : ℕ) → n < length places → at places n ≢ none) → IsNumbering places count
 numbering_of places count partly placed =

@@ -73,10 +73,6 @@ made_more cells order latches i n c at_i at_n made =
         (subst (λ (more : List Latch). AreMade (map cell_of cells) (take i order ++ n ∷ []) more) (sym (append-nil latches))
         (made_other (map cell_of cells) (take i order) latches n (record { width = c.width; gate = f }) is other.0 made))
 
--- nothing has come yet
-pub made_none : (cells : List Cell) → AreMade cells [] []
-made_none cells = record { sound = All-nil (IsLatchOf cells); whole = λ n a c came. absurd (omega (arith, came.1)) }
-
 -- all has come
 pub latches_of_made : (cells : List Cell) (order : List ℕ) (latches : List Latch) (i : ℕ) → IsOrder cells order → length order ≤ i
     → AreMade cells (take i order) latches → AreLatches cells latches

@@ -42,9 +42,6 @@ shown_inside w (Reg a) r i v h = absurd (cc)
 pub register_is_source : (f : Function) → IsRegister f → IsTrue (is_source f)
 register_is_source f (a, e) = ap is_source e
 
-pub input_is_source : (f : Function) → f ≡ Input → IsTrue (is_source f)
-input_is_source f e = ap is_source e
-
 -- a cell is a register, or it has no latch and its next register is 0
 pub register_or_not : (f : Function) → IsRegister f ⊎ ((IsRegister f → ⊥) × ((v : Numbers) → next_of f v ≡ 0) × ((n : ℕ) → latches_at n f ≡ []))
 register_or_not Input = inr (λ h. cc h.1, λ v. refl, λ n. refl)

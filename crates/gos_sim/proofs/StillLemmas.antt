@@ -1,11 +1,10 @@
 -- Values that stand still: a cycle that gives the same pulses changes nothing.
-use Rattle.std.specs.Prelude.{◌≡◌, ℕ, List, map}
-use Rattle.std.proofs.Common.{refl, sym, subst, ◌∙◌}
+use Rattle.std.specs.Prelude.{◌≡◌, List, map}
+use Rattle.std.proofs.Common.{refl}
 use Rattle.gos_netlist.specs.Settling.{Numbers}
 use Rattle.gos_sim.specs.declared.pulse.Pulse.{Pulse}
 use Rattle.gos_sim.specs.Cycle.{GivesAll, pulse_shown}
-use Rattle.gos_sim.specs.inner.Running.{AreLoaded, AreTaken}
-use Rattle.gos_sim.specs.inner.Machine.{IsRunnable, IsStill, Plan, RunsThrough, Settles}
+use Rattle.gos_sim.specs.inner.Machine.{IsStill, Plan, RunsThrough, Settles}
 
 -- values that stand still are settled for their own pulses
 pub still_settles : (m : Plan) (given : List Pulse) (held values : Numbers) → IsStill m held values → GivesAll m.inputs given values
@@ -30,15 +29,4 @@ still_runs m given seen held values still pulses shows =
       shows = shows;
       taken = still.taken;
       rest = λ n free. refl;
-    }
-
--- where no register has changed, the values stand still
-pub stands_after : (count : ℕ) (m : Plan) (given : List Pulse) (held values after : Numbers) → IsRunnable count m → Settles m given held values
-    → AreTaken m.latches values after → after ≡ held → IsStill m after values
-stands_after count m given held values after runnable settles taken same =
-    record {
-      registers = subst (λ (rs : Numbers). AreLoaded m.latches rs values) (sym same)
-          (λ j l at_j. settles.sources l.net (runnable.apart_from_steps j l at_j) ∙ settles.registers j l at_j);
-      evaluated = settles.evaluated;
-      taken = taken;
     }

@@ -114,15 +114,6 @@ stand_begun steps latches old new v w registers reading follows all_shown taken 
       taken = λ j l at_j bare. taken j l at_j ∙ sym (follows.marked l.pin (length steps + j) (reading.latched j l at_j) bare);
     }
 
--- a mark is taken away
-pub stand_but : (steps : List Step) (latches : List Latch) (old new v registers : Numbers) (item : ℕ)
-    → ((k : ℕ) → IsUnmarked new k → k ≢ item → IsUnmarked old k) → Stand steps latches old v registers → StandBut steps latches new v registers item
-stand_but steps latches old new v registers item kept stand =
-    record {
-      shown = λ k s at_k bare apart. stand.shown k s at_k (kept k bare apart);
-      taken = λ j l at_j bare apart. stand.taken j l at_j (kept (length steps + j) bare apart);
-    }
-
 -- a step is evaluated: the cycle has come further
 pub swept_step : (steps : List Step) (latches : List Latch) (start loaded held : Numbers) (old new : Active) (v registers : Numbers) (k x : ℕ) (t : Step)
     → ((j : ℕ) (l : Latch) → slice_get latches j ≡ Some l → All (λ s. s.net ≢ l.net) steps) → slice_get steps k ≡ Some t

@@ -85,9 +85,6 @@ regrouped : {text other : List ℕ} {tokens others : List Reading} → text ≡ 
 regrouped {text} {other} {tokens} {others} same alike written =
     subst (λ (s : List ℕ). Written s tokens) (sym same) (subst (λ (ts : List Reading). Written other ts) (sym alike) written)
 
-before_writes : (text : List ℕ) (tokens : List Reading) → Before text tokens → Writes text tokens
-before_writes text tokens before rest more ended written = before rest more written
-
 prefixed : (front text : List ℕ) (first tokens : List Reading) → Before front first → Writes text tokens → Writes (front ++ text) (first ++ tokens)
 prefixed front text first tokens before writes rest more ended written =
     regrouped (append_assoc front text rest) (append_assoc first tokens more) (before (text ++ rest) (tokens ++ more) (writes rest more ended written))

@@ -76,19 +76,6 @@ the_one x n e = (0, omega arith, sym e)
 pub no_one : {A : Type 0} (n : ℕ) → Contains [] n → A
 no_one n h = absurd (omega (arith, h.1))
 
--- nothing has been marked
-pub grows_none : (marks : List Bool) (found : List ℕ) → Grows [] marks found marks found
-grows_none marks found = record {
-  count = refl;
-  keeps = λ n h. h;
-  all = λ n h. no_one n h;
-  only = λ n h. inl h;
-  front = λ i n h. h;
-  same = λ i n l h. h;
-  finds = λ h. h;
-  total = refl;
-}
-
 -- a net was marked before
 pub grows_not : (marks : List Bool) (found : List ℕ) (p : ℕ) → p < length marks → get_or marks p true ≡ true → Grows (p ∷ []) marks found marks found
 grows_not marks found p l e = record {

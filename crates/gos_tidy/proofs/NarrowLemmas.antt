@@ -107,22 +107,6 @@ at_past (x ∷ xs) (suc n) past = at_past xs n (omega (arith, past))
 abbrev pub GivesNarrow : List Cell → Numbers → Type 0
 GivesNarrow cells ins = (n : ℕ) (c : Cell) → slice_get cells n ≡ Some c → c.gate ≡ Input → at ins n < 2 ^ c.width
 
--- whether a function is a register
-pub register_or_not : (g : Function) → IsRegister g ⊎ (IsRegister g → ⊥)
-register_or_not (Reg a) = inl (a, refl)
-register_or_not Input = inr (λ is. cc is.1)
-register_or_not (Const k) = inr (λ is. cc is.1)
-register_or_not (Not a) = inr (λ is. cc is.1)
-register_or_not (And a b) = inr (λ is. cc is.1)
-register_or_not (Or a b) = inr (λ is. cc is.1)
-register_or_not (Xor a b) = inr (λ is. cc is.1)
-register_or_not (Mux s a b) = inr (λ is. cc is.1)
-register_or_not (Add a b) = inr (λ is. cc is.1)
-register_or_not (Sub a b) = inr (λ is. cc is.1)
-register_or_not (Eq a b) = inr (λ is. cc is.1)
-register_or_not (Less a b) = inr (λ is. cc is.1)
-register_or_not (Gate s a) = inr (λ is. cc is.1)
-
 module _ (cells : List Cell) (acyclic : HasCycle cells → ⊥) (fits : WidthsFit cells) (regs ins v : Numbers) (settles : Settling cells regs ins v)
     (held : AreNarrow (widths_of cells) (at regs)) (given : GivesNarrow cells ins) where
   IsWide : ℕ → Type 0

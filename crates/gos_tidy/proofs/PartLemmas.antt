@@ -8,25 +8,15 @@ use Rattle.gos_netlist.specs.declared.nets.Cell as declared
 use Rattle.gos_netlist.specs.Nets.{Function, Input, Const, Not, And, Or, Xor, Mux, Add, Sub, Eq, Less, Gate, Reg, Cell, pins}
 use Rattle.gos_netlist.specs.Seen.{cell_of}
 use Rattle.gos_netlist.specs.Settling.{at}
+use Rattle.gos_netlist.specs.Renamed.{with_renamed}
 use Rattle.gos_netcheck.specs.CellRules.{PinsExist, NetsExist}
 use Rattle.gos_tidy.specs.Mapped.{renamed, IsKept}
 use Rattle.gos_tidy.specs.Reduced.{IsPart}
 use Rattle.gos_tidy.specs.Tidy.{LeadsTo, IsEnd, IsPin, AllLead}
-use Rattle.gos_tidy.specs.inner.Reading.{read}
 use Rattle.gos_tidy.specs.inner.Marks.{IsMarked, IsLive, AreMarks}
 use Rattle.gos_tidy.specs.inner.Places.{AreNumbers, ArePlaced}
 use Rattle.gos_tidy.proofs.ReadLemmas.{contains_map, renamed_named}
 use Rattle.gos_tidy.proofs.MarkLemmas.{last_there, front_there, back_cases, longer, split_last}
-
--- no mark has been numbered
-pub numbers_none : (marks : List Bool) → AreNumbers marks 0 [] []
-numbers_none marks = record {
-  count = refl;
-  few = omega arith;
-  placed = λ k l h. absurd (omega (arith, l));
-  marked = λ i k h. absurd (cc);
-  rises = λ i j k l less h. absurd (cc);
-}
 
 -- one mark more is numbered
 pub numbers_more : (marks : List Bool) (n : ℕ) (mark : Bool) (numbers places : List ℕ) → AreNumbers marks n numbers places → slice_get marks n ≡ Some mark
@@ -99,13 +89,9 @@ map_last : (xs : List declared.Cell) (x : declared.Cell) → map cell_of (xs ++ 
 map_last [] x = refl
 map_last (y ∷ xs) x = ap (λ (cs : List Cell). cell_of y ∷ cs) (map_last xs x)
 
--- no cell has been placed
-pub placed_none : (cells : List Cell) (numbers places : List ℕ) → ArePlaced cells [] numbers places 0
-placed_none cells numbers places = record { count = refl; each = λ i p c l h there. absurd (omega (arith, l)) }
-
 -- one cell more is placed
 pub placed_more : (cells : List Cell) (left : List declared.Cell) (x : declared.Cell) (numbers places : List ℕ) (i p : ℕ) (c : Cell)
-    → ArePlaced cells (map cell_of left) numbers places i → slice_get places i ≡ Some p → slice_get cells p ≡ Some c → cell_of x ≡ read (at numbers) c
+    → ArePlaced cells (map cell_of left) numbers places i → slice_get places i ≡ Some p → slice_get cells p ≡ Some c → cell_of x ≡ with_renamed (at numbers) c
     → ArePlaced cells (map cell_of (left ++ (x ∷ []))) numbers places (i + 1)
 placed_more cells left x numbers places i p c a is there shown = record {
   count = ap length (map_last left x) ∙ longer (map cell_of left) (cell_of x) ∙ ap (λ (n : ℕ). n + 1) a.count;
@@ -113,18 +99,18 @@ placed_more cells left x numbers places i p c a is there shown = record {
 }
   where
     by_place : (j q : ℕ) (d : Cell) → slice_get places j ≡ Some q → slice_get cells q ≡ Some d → (j < i) ⊎ (j ≡ i)
-        → slice_get (map cell_of left ++ (cell_of x ∷ [])) j ≡ Some (read (at numbers) d)
-    by_place j q d h at_q (inl earlier) = front_there (map cell_of left) (cell_of x) j (read (at numbers) d) (a.each j q d earlier h at_q)
+        → slice_get (map cell_of left ++ (cell_of x ∷ [])) j ≡ Some (with_renamed (at numbers) d)
+    by_place j q d h at_q (inl earlier) = front_there (map cell_of left) (cell_of x) j (with_renamed (at numbers) d) (a.each j q d earlier h at_q)
     by_place j q d h at_q (inr here) =
         let net : p ≡ q = same_Some p q (sym is ∙ ap (slice_get places) (sym here) ∙ h) in
         let one : c ≡ d = same_Some c d (sym there ∙ ap (slice_get cells) net ∙ at_q) in
         ap (slice_get (map cell_of left ++ (cell_of x ∷ []))) (here ∙ sym a.count) ∙ last_there (map cell_of left) (cell_of x)
-        ∙ ap Some (shown ∙ ap (read (at numbers)) one)
+        ∙ ap Some (shown ∙ ap (with_renamed (at numbers)) one)
 
 -- the same, as the program has it
 pub placed_step : (cells : List Cell) (left now : List declared.Cell) (x : declared.Cell) (numbers places : List ℕ) (i p : ℕ) (c : Cell)
     → ArePlaced cells (map cell_of left) numbers places i → now ≡ left ++ (x ∷ []) → slice_get places i ≡ Some p → slice_get cells p ≡ Some c
-    → cell_of x ≡ read (at numbers) c → ArePlaced cells (map cell_of now) numbers places (i + 1)
+    → cell_of x ≡ with_renamed (at numbers) c → ArePlaced cells (map cell_of now) numbers places (i + 1)
 placed_step cells left now x numbers places i p c a same is there shown =
     subst (λ (xs : List declared.Cell). ArePlaced cells (map cell_of xs) numbers places (i + 1)) (sym same)
     (placed_more cells left x numbers places i p c a is there shown)
@@ -194,7 +180,7 @@ low_number cells ends marks numbers places others l n h =
 -- the cell that a cell was
 pub was : (cells : List Cell) (ends : List ℕ) (marks : List Bool) (numbers places : List ℕ) (others : List Cell) → IsLeft cells ends marks numbers places others
     → (n : ℕ) (c : Cell) → slice_get others n ≡ Some c
-    → (e : Cell) × (slice_get cells (at places n) ≡ Some e) × IsMarked marks (at places n) × (c ≡ read (at numbers) e) × (slice_get places n ≡ Some (at places n))
+    → (e : Cell) × (slice_get cells (at places n) ≡ Some e) × IsMarked marks (at places n) × (c ≡ with_renamed (at numbers) e) × (slice_get places n ≡ Some (at places n))
 was cells ends marks numbers places others l n c is =
     let same = l.placed.count in
     let inside : n < length places = let low = slice_get_within others n c is in omega (arith, low, same) in
@@ -246,7 +232,7 @@ leads_down cells ends marks numbers places others l _ (IsEnd n has) = IsEnd (at 
 leads_down cells ends marks numbers places others l _ (IsPin n k c there named leads) =
     let place = number_at_place cells ends marks numbers places others l k (marked_leads cells ends marks l.marked k leads) in
     let inside = slice_get_within places (at numbers k) k place in
-    IsPin (at numbers n) (at numbers k) (read (at numbers) c) (l.placed.each (at numbers k) k c inside place there)
+    IsPin (at numbers n) (at numbers k) (with_renamed (at numbers) c) (l.placed.each (at numbers k) k c inside place there)
     (renamed_named (at numbers) c.gate n named) (leads_down cells ends marks numbers places others l k leads)
 
 pub left_leads : (cells : List Cell) (ends : List ℕ) (marks : List Bool) (numbers places : List ℕ) (others : List Cell) → IsLeft cells ends marks numbers places others
@@ -260,7 +246,7 @@ left_leads cells ends marks numbers places others l n c is other =
     by_order i j p first second (inr (inl less)) = let wrong = l.numbered.rises i j p p less first second in absurd (omega (arith, wrong))
     by_order i j p first second (inr (inr more)) = let wrong = l.numbered.rises j i p p more second first in absurd (omega (arith, wrong))
 
-    by_live : (e : Cell) → slice_get cells (at places n) ≡ Some e → IsMarked marks (at places n) → c ≡ read (at numbers) e → slice_get places n ≡ Some (at places n)
+    by_live : (e : Cell) → slice_get cells (at places n) ≡ Some e → IsMarked marks (at places n) → c ≡ with_renamed (at numbers) e → slice_get places n ≡ Some (at places n)
         → IsLive cells ends (at places n) → LeadsTo others (map (at numbers) ends) n
     by_live e there mark same here (inl (d, at_d, input)) =
         let one : e ≡ d = same_Some e d (sym there ∙ at_d) in

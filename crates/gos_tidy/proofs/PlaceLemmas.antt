@@ -1,9 +1,9 @@
 -- Places of nets where one is left out, as lists of numbers.
 --
 -- Read first: Changes; ChangeLemmas.
-use Rattle.std.proofs.Common.{◌≡◌, ◌≢◌, ◌⊎◌, inl, inr, ◌+◌, ◌-◌, ◌<◌, ◌≤◌, ℕ, zero, suc, Bool, if◌then◌else◌, List, [], ◌∷◌, ◌++◌, length, map, slice_get, get_or, Some, refl, sym, ap, ◌∙◌, arith, eq-eqb, All}
+use Rattle.std.proofs.Common.{◌≡◌, ◌≢◌, ◌⊎◌, inl, inr, ◌+◌, ◌-◌, ◌<◌, ◌≤◌, ℕ, zero, suc, Bool, if◌then◌else◌, List, [], ◌∷◌, length, map, slice_get, get_or, Some, refl, sym, ap, ◌∙◌, arith, eq-eqb, All}
 use Rattle.std.proofs.lemmas.Bool.{ne_eqb, lt-ltb, le-ltb}
-use Rattle.std.proofs.lemmas.List.{get_or_append_left, get_or_push, length_push, length-map}
+use Rattle.std.proofs.lemmas.List.{length-map}
 use Rattle.std.proofs.lemmas.Option.{same_Some, slice_get_within, slice_get-get_or, get_or_from_slice_get}
 use Rattle.std.specs.Prelude.{slice_set}
 use Rattle.gos_netlist.specs.declared.nets.Cell as declared
@@ -28,21 +28,6 @@ pub skip_high : (n j : ℕ) → n ≤ j → skip n j ≡ j + 1
 skip_high zero j high = omega arith
 skip_high (suc n) zero high = absurd (omega (arith, high))
 skip_high (suc n) (suc j) high = let rest = skip_high n j (omega (arith, high)) in omega (arith, rest)
-
--- one number more
-pub numbers_more : (h : ℕ → ℕ) (k y : ℕ) (items : List ℕ) → AreNumbersOf h k items → y ≡ h k → AreNumbersOf h (k + 1) (items ++ y ∷ [])
-numbers_more h k y items so_far is =
-    record {
-      long = length_push items y ∙ ap (λ (n : ℕ). n + 1) so_far.long;
-      each = λ j low. by_place j low (less_or j k);
-    }
-  where
-    by_place : (j : ℕ) → j < k + 1 → (j < k) ⊎ (k ≤ j) → at (items ++ y ∷ []) j ≡ h j
-    by_place j low (inl less) =
-        get_or_append_left items (y ∷ []) 0 j (let long = so_far.long in omega (arith, less, long)) ∙ so_far.each j less
-    by_place j low (inr more) =
-        let same : k ≡ j = omega (arith, low, more) in
-        get_or_push items y 0 j (so_far.long ∙ same) ∙ (is ∙ ap h same)
 
 -- an element is told by its place
 pub number_at_place : (h : ℕ → ℕ) (k : ℕ) (items : List ℕ) → AreNumbersOf h k items → (i m : ℕ) → slice_get items i ≡ Some m → m ≡ h i

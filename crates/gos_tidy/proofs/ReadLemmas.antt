@@ -3,10 +3,11 @@ use Rattle.std.specs.Prelude.{◌≡◌, ℕ, zero, suc, List, [], ◌∷◌, ma
 use Rattle.std.proofs.Common.{arith, refl, sym, ap, subst, inl, inr, ◌∙◌}
 use Rattle.gos_netlist.specs.Nets.{Function, Input, Const, Not, And, Or, Xor, Mux, Add, Sub, Eq, Less, Gate, Reg, Cell, pins}
 use Rattle.gos_netlist.specs.Settling.{shown}
+use Rattle.gos_netlist.specs.Renamed.{with_renamed}
 use Rattle.gos_tidy.specs.Mapped.{renamed, IsConst, IsShort, IsFolded}
 use Rattle.gos_tidy.specs.Reduced.{IsClosed, Stays}
 use Rattle.gos_tidy.specs.Tidy.{Folds, NamesConstants}
-use Rattle.gos_tidy.specs.inner.Reading.{read, first_of, second_of, third_of, number_at, FoldsTo, IsClosedOf, IsShortOf}
+use Rattle.gos_tidy.specs.inner.Reading.{first_of, second_of, third_of, number_at, FoldsTo, IsClosedOf, IsShortOf}
 use Rattle.gos_tidy.specs.inner.Roots.{StaysAs}
 
 -- the first, the second and the third net of a gate that may fold are nets that it names
@@ -174,7 +175,7 @@ closed_short others f n w (Gate s a) h = inr h
 closed_short others f n w (Reg a) h = absurd h
 
 -- a cell that stays, as it is read
-pub stays_read : (others : List Cell) (f : ℕ → ℕ) (n : ℕ) (c : Cell) → StaysAs others (f n) (read f c) → Stays others f n c
+pub stays_read : (others : List Cell) (f : ℕ → ℕ) (n : ℕ) (c : Cell) → StaysAs others (f n) (with_renamed f c) → Stays others f n c
 stays_read others f n c (inl kept) = inl kept
 stays_read others f n c (inr (inl (k, folds, const))) = inr (inl (folded_read others f n c k folds const))
 stays_read others f n c (inr (inr closed)) = inr (inr (closed_read others f n c.gate closed))

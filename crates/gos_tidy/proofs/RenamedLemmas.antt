@@ -103,10 +103,6 @@ each_of P [] a all (k, l, e) = absurd (omega (arith, l))
 each_of P (n ∷ ns) a all (zero, l, e) = subst P e all.0
 each_of P (n ∷ ns) a all (suc k, l, e) = each_of P ns a all.1 (k, omega (arith, l), e)
 
-pub all_from : (P : ℕ → Type 0) (ns : List ℕ) → ((a : ℕ) → Contains ns a → P a) → AllByRecursion P ns
-all_from P [] each = tt
-all_from P (n ∷ ns) each = (each n (pin_first n ns), all_from P ns (λ a (k, l, e). each a (suc k, omega (arith, l), e)))
-
 -- a net has one cell
 pub one_cell : (cells : List Cell) (n : ℕ) (c e : Cell) → slice_get cells n ≡ Some c → slice_get cells n ≡ Some e → c ≡ e
 one_cell cells n c e first second = same_Some c e (sym first ∙ second)

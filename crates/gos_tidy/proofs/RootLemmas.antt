@@ -5,11 +5,12 @@ use Rattle.std.proofs.lemmas.Bool.{cases_order}
 use Rattle.std.proofs.lemmas.Option.{same_Some, slice_get_within, get_or_from_slice_get}
 use Rattle.gos_netlist.specs.Nets.{Input, Cell}
 use Rattle.gos_netlist.specs.Settling.{at}
+use Rattle.gos_netlist.specs.Renamed.{with_renamed}
 use Rattle.gos_netcheck.specs.Rules.{KeptBefore, Kept}
 use Rattle.gos_netcheck.proofs.RuleLemmas.{kept_more, kept_all}
 use Rattle.gos_tidy.specs.Mapped.{Stands}
 use Rattle.gos_tidy.specs.Reduced.{HasWidth, Stays, IsQuotient}
-use Rattle.gos_tidy.specs.inner.Reading.{read, IsShortOf}
+use Rattle.gos_tidy.specs.inner.Reading.{IsShortOf}
 use Rattle.gos_tidy.specs.inner.Roots.{IsPlaced, StaysAs, IsRoot, AreRoots}
 use Rattle.gos_tidy.proofs.ReadLemmas.{short_read, stays_read, closed_short}
 
@@ -23,16 +24,7 @@ stands_of others f n c (inl kept) = inl kept
 stands_of others f n c (inr (inl folded)) = inr (inl folded)
 stands_of others f n c (inr (inr closed)) = inr (inr (closed_short others f n c.width c.gate closed))
 
-pub placed_input : (others : List Cell) (f : ℕ → ℕ) (roots : List ℕ) (n t : ℕ) (c e : Cell) → t ≡ f n → e ≡ read f c → HasWidth others t c.width
-    → at roots t ≡ n → slice_get others t ≡ Some e → IsPlaced others f roots n c
-placed_input others f roots n t c e same is width root kept = record {
-  stands = inl (ap (slice_get others) (sym same) ∙ kept ∙ ap Some is);
-  width = subst (λ (x : ℕ). HasWidth others x c.width) same width;
-  input = λ _. ap (at roots) (sym same) ∙ root;
-  early = inr (let here = ap (at roots) (sym same) ∙ root in omega (arith, here));
-}
-
-pub placed_short : (others : List Cell) (f : ℕ → ℕ) (roots : List ℕ) (n t : ℕ) (c e : Cell) → t ≡ f n → e ≡ read f c → HasWidth others t c.width
+pub placed_short : (others : List Cell) (f : ℕ → ℕ) (roots : List ℕ) (n t : ℕ) (c e : Cell) → t ≡ f n → e ≡ with_renamed f c → HasWidth others t c.width
     → (c.gate ≡ Input → ⊥) → IsShortOf others t e.width e.gate → IsPlaced others f roots n c
 placed_short others f roots n t c e same is width other short =
     let there = subst (λ (x : ℕ). IsShortOf others x e.width e.gate) same short in
@@ -44,7 +36,7 @@ placed_short others f roots n t c e same is width other short =
       early = inl it;
     }
 
-pub placed_stays : (others : List Cell) (f : ℕ → ℕ) (roots : List ℕ) (n t : ℕ) (c e : Cell) → t ≡ f n → e ≡ read f c → HasWidth others t c.width
+pub placed_stays : (others : List Cell) (f : ℕ → ℕ) (roots : List ℕ) (n t : ℕ) (c e : Cell) → t ≡ f n → e ≡ with_renamed f c → HasWidth others t c.width
     → (c.gate ≡ Input → ⊥) → at roots t ≤ n → StaysAs others t e → IsPlaced others f roots n c
 placed_stays others f roots n t c e same is width other early stays =
     let there = subst (λ (x : ℕ). StaysAs others x e) same stays in
@@ -55,7 +47,7 @@ placed_stays others f roots n t c e same is width other early stays =
       early = inr (subst (λ (x : ℕ). at roots x ≤ n) same early);
     }
 
-pub root_right : (cells others : List Cell) (f : ℕ → ℕ) (i m t : ℕ) (c e : Cell) → slice_get cells m ≡ Some c → t ≡ f m → e ≡ read f c → t ≡ i
+pub root_right : (cells others : List Cell) (f : ℕ → ℕ) (i m t : ℕ) (c e : Cell) → slice_get cells m ≡ Some c → t ≡ f m → e ≡ with_renamed f c → t ≡ i
     → StaysAs others t e → IsRoot cells others f i m
 root_right cells others f i m t c e there same is here stays =
     let it = subst (λ (x : ℕ). StaysAs others x e) same stays in

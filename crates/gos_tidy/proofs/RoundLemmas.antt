@@ -9,7 +9,6 @@ use Rattle.gos_tidy.specs.Reduced.{IsReduced, Reduces, NotYet, Again}
 use Rattle.gos_tidy.specs.Tidy.{AllLead}
 use Rattle.gos_tidy.specs.Alike.{IsTidied}
 use Rattle.gos_tidy.specs.inner.Breaches.{AllFirm}
-use Rattle.gos_tidy.specs.inner.Changes.{AreSound}
 use Rattle.gos_tidy.specs.inner.Places.{port_nets}
 use Rattle.gos_tidy.proofs.StillLemmas.{reduced_once}
 use Rattle.gos_tidy.proofs.TidiedLemmas.{leads_out, tidied}
@@ -44,7 +43,3 @@ pub last_step : (net other : Netlist) → IsAccepted net → IsOnTheWay net othe
 last_step net other accepted way firm =
     tidied net other accepted way.reduces (firm_tidy other.cells (all_outputs other.ports) firm
     (λ n c there input. leads_out other.cells other.ports way.accepted.ports n (way.lead n c there input) c there input))
-
--- the cells of an accepted netlist are sound
-pub sound_cells : (net : Netlist) → IsAccepted net → AreSound net.cells
-sound_cells net accepted = record { nets = accepted.nets; widths = accepted.widths; acyclic = accepted.acyclic }

@@ -1,26 +1,11 @@
 -- Cells that show what other cells show, by a map of nets.
 --
--- Read first: Nets and Settling of gos_netlist. Each cell stands for the cell that its net is mapped to, by one of the
--- single changes. No order of the cells is spoken of: what is demanded of a cell is about its own pins alone.
+-- Read first: Nets, Settling and Renamed of gos_netlist. Each cell stands for the cell that its net is mapped to, by one
+-- of the single changes. No order of the cells is spoken of: what is demanded of a cell is about its own pins alone.
 use Rattle.std.specs.Prelude.{◌≡◌, ◌≢◌, ◌⊎◌, ℕ, List, Some, slice_get, Contains}
-use Rattle.gos_netlist.specs.Nets.{Function, Input, Const, Not, And, Or, Xor, Mux, Add, Sub, Eq, Less, Gate, Reg, Cell, pins}
+use Rattle.gos_netlist.specs.Nets.{Function, Const, Not, And, Or, Mux, Gate, Cell, pins}
 use Rattle.gos_netlist.specs.Settling.{shown}
-
--- the function with other nets in the place of its own
-abbrev pub renamed : (ℕ → ℕ) → Function → Function
-renamed f Input = Input
-renamed f (Const k) = Const k
-renamed f (Not a) = Not (f a)
-renamed f (And a b) = And (f a) (f b)
-renamed f (Or a b) = Or (f a) (f b)
-renamed f (Xor a b) = Xor (f a) (f b)
-renamed f (Mux s a b) = Mux (f s) (f a) (f b)
-renamed f (Add a b) = Add (f a) (f b)
-renamed f (Sub a b) = Sub (f a) (f b)
-renamed f (Eq a b) = Eq (f a) (f b)
-renamed f (Less a b) = Less (f a) (f b)
-renamed f (Gate s a) = Gate (f s) (f a)
-renamed f (Reg a) = Reg (f a)
+pub use Rattle.gos_netlist.specs.Renamed.{renamed}
 
 -- net n is a constant cell, of number k
 abbrev pub IsConst : List Cell → ℕ → ℕ → Type 0

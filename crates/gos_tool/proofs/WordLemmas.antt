@@ -23,22 +23,6 @@ four_texts words a b c d p q r s some few ea eb ec ed ep eq er es =
     let all : words ≡ a ∷ b ∷ c ∷ d ∷ [] = four words a b c d some few ∙ (λ i. sym ea i ∷ sym eb i ∷ sym ec i ∷ sym ed i ∷ []) in
     ap texts all ∙ (λ i. sym ep i ∷ sym eq i ∷ sym er i ∷ sym es i ∷ [])
 
-three : (words : List (String Global)) (d e f : String Global) → 3 ≤ length words → length words < 4 → words ≡ get_or words 0 d ∷ get_or words 1 e ∷ get_or words 2 f ∷ []
-three [] d e f some few = absurd (omega (arith, some))
-three (a ∷ []) d e f some few = absurd (omega (arith, some))
-three (a ∷ b ∷ []) d e f some few = absurd (omega (arith, some))
-three (a ∷ b ∷ c ∷ []) d e f some few = refl
-three (a ∷ b ∷ c ∷ x ∷ words) d e f some few = absurd (omega (arith, few))
-
--- the bytes of three words
-pub three_texts : (words : List (String Global)) (a b c : String Global) (p q r : List ℕ) → 3 ≤ length words → length words < 4
-    → a ≡ get_or words 0 a → b ≡ get_or words 1 b → c ≡ get_or words 2 c
-    → p ≡ string_bytes a → q ≡ string_bytes b → r ≡ string_bytes c
-    → texts words ≡ p ∷ q ∷ r ∷ []
-three_texts words a b c p q r some few ea eb ec ep eq er =
-    let all : words ≡ a ∷ b ∷ c ∷ [] = three words a b c some few ∙ (λ i. sym ea i ∷ sym eb i ∷ sym ec i ∷ []) in
-    ap texts all ∙ (λ i. sym ep i ∷ sym eq i ∷ sym er i ∷ [])
-
 -- the number that one or two digits are, and that of levels
 abbrev pub levels_in : Word → ℕ
 levels_in (digit ∷ []) = digit - 48

@@ -1,7 +1,7 @@
 -- Types: the view that every other specification has of them.
 --
 -- A `Ty` of the program has boxes. `Type'` is the same type without them, and `type_of` leads from one to the other.
-use Rattle.std.specs.Prelude.{ℕ, ◌+◌, ◌⊎◌}
+use Rattle.std.specs.Prelude.{ℕ, ◌+◌, ◌⊎◌, nat_eq, if◌then◌else◌}
 use Rattle.gos_types.specs.declared.types.Ty.{Ty}
 use Rattle.gos_types.specs.declared.types.Ty.TheVariants.{Com as AtCom, Exp as AtExp, Var as AtVar, Pair', Fun'}
 
@@ -36,6 +36,14 @@ IsGround (Exp w) = Unit {0}
 IsGround (Var w) = Unit {0}
 IsGround (Pair a b) = ⊥
 IsGround (Fun a b) = ⊥
+
+-- how many bits the index of an array of n numbers has: 2 to this number is n. Of another n it says nothing.
+abbrev pub index_width : ℕ → ℕ
+index_width n = if nat_eq n 2 then 1 else if nat_eq n 4 then 2 else if nat_eq n 8 then 3 else 4
+
+-- the type of an array of n numbers of w bits: a variable at each index
+abbrev pub array_type : ℕ → ℕ → Type'
+array_type n w = Fun (Exp (index_width n)) (Var w)
 
 -- the type of an array: of a variable, behind an index
 abbrev pub IsArray : Type' → Type 0

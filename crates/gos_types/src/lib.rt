@@ -19,5 +19,5 @@ pub use fault::NoMemory;
 pub use laws::{greatest_numbers, ports, sides, turning_twice};
 pub use shakes::{Handshake, Role, Step, count, handshakes};
 pub use text::print_ty;
-pub use types::{Ty, copy, is_ground, same};
+pub use types::{Ty, array_type, copy, index_bits, is_ground, same};
 pub use widths::{GREATEST_NUMBER, GREATEST_WIDTH, difference, fits, greatest, is_width, sum};

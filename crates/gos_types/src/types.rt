@@ -1,6 +1,6 @@
 // What a type is, and the questions about one that need no memory.
-ghost use Rattle.std.specs.Prelude.{◌≡◌, ◌↔◌, IsTrue, IfOk};
-ghost use Rattle.gos_types.specs.Types.{type_of, IsGround};
+ghost use Rattle.std.specs.Prelude.{◌≡◌, ◌↔◌, ◌<◌, ◌^◌, IsTrue, IfOk};
+ghost use Rattle.gos_types.specs.Types.{type_of, size, index_width, array_type, IsGround};
 
 use crate::fault::NoMemory;
 use std::alloc::Global;
@@ -61,4 +61,27 @@ pub fn copy(alloc: Global, ty: &Ty) -> Result<Ty, NoMemory>
             Box::new(alloc, copy(alloc, b)?)?,
         ),
     })
+}
+
+/// How many bits the index of an array of `length` numbers has, where `length` is 2, 4, 8 or 16: 2 to this number is
+/// `length`. It is 4 for any other.
+pub fn index_bits(length: u32) -> u32
+    ensures { result ≡ index_width length }
+{
+    match length {
+        2 => 1,
+        4 => 2,
+        8 => 3,
+        _ => 4,
+    }
+}
+
+/// The type of an array of `length` numbers of `width` bits: from an index of `index_bits` bits to a variable. Arrays
+/// have 2, 4, 8 or 16 numbers of 1 bit to the greatest width, and any number is kept here. `Err` is want of memory alone.
+pub fn array_type(alloc: Global, length: u32, width: u32) -> Result<Ty, NoMemory>
+    ensures ok { IfOk result (λ ty. type_of ty ≡ array_type length width) }
+    ensures countable { IfOk result (λ ty. size (type_of ty) < 2 ^ 32) }
+{
+    let index = Box::new(alloc, Ty::Exp(index_bits(length)))?;
+    Ok(Ty::Fun(index, Box::new(alloc, Ty::Var(width))?))
 }

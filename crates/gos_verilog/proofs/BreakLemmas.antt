@@ -6,13 +6,13 @@ use Rattle.std.proofs.lemmas.List.{take-append-drop}
 use Rattle.gos_lex.specs.Items.{TextAt, Begins, StopsAt, Misses}
 use Rattle.gos_lex.proofs.PlaceLemmas.{rest_whole, length_slice, slice_snoc}
 use Rattle.gos_lex.specs.ItemTexts.{Passed, IsTextOf}
-use Rattle.gos_netlist.proofs.PassedLemmas.{passed_both}
+use Rattle.gos_lex.proofs.PassedLemmas.{passed_both}
 use Rattle.gos_lex.proofs.SequenceLemmas.{IsCode, fronts, none_left, then_first}
 use Rattle.gos_verilog.specs.declared.fault.VFault.{VFault}
 use Rattle.gos_verilog.specs.declared.fault.VFault.TheVariants as faults
 use Rattle.gos_verilog.specs.inner.Breaks.{Left, Item, Either, BreaksAfter, BreaksFrom, FaultFrom, Leads, LeadsOn}
 use Rattle.gos_verilog.specs.inner.Stages.{BreaksAt}
-use Rattle.gos_verilog.proofs.RestLemmas.{passed_rest}
+use Rattle.gos_lex.proofs.RestLemmas.{passed_rest}
 
 -- the same bytes may be left
 pub breaks_as : (L M : Left) (bytes : List ℕ) (n : ℕ) → ((x : List ℕ) → L x → M x) → ((x : List ℕ) → M x → L x) → BreaksAfter L bytes n → BreaksAfter M bytes n

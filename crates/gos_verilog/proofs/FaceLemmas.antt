@@ -13,7 +13,7 @@ use Rattle.gos_lex.specs.Items.{TextAt, IsJust, Begins, StopsAt, Misses}
 use Rattle.gos_netlist.specs.Nets.{Give}
 use Rattle.gos_lex.specs.ItemTexts.{IsTextOf, IsFixed, Passed, ended}
 use Rattle.gos_netlist.specs.Writable.{IsNumber}
-use Rattle.gos_netlist.proofs.PassedLemmas.{passed_as, passed_both}
+use Rattle.gos_lex.proofs.PassedLemmas.{passed_as, passed_both}
 use Rattle.gos_lex.proofs.SequenceLemmas.{Then, Lacks, IsCode, ended_code, ended_misses, misses_as, then_first, then_rest}
 use Rattle.gos_lex.specs.declared.table.NameTable.{NameTable}
 use Rattle.gos_verilog.specs.declared.port_net.Role.{Role}
@@ -327,10 +327,6 @@ first_leads name text at mid v is of passed =
 pub all_lead : (text : List ℕ) (at end : ℕ) (v : Face') (more : List Face') → AreNewFaces (v ∷ []) more → IsNumber (length (v ∷ more)) → Passed (record { text = text; at = at }) (record { text = text; at = end }) (flat_map port_text more)
     → LeadsOn (LeftFaces (v ∷ [])) (LeftFaces (v ∷ more)) (record { text = text; at = at }) (record { text = text; at = end })
 all_lead text at end v more new few passed = record { word = flat_map port_text more; passed = passed; leads = faces_lead (v ∷ []) more new few }
-
--- no name is known, and one more
-pub known_none : (places : NameTable) → ((other : List ℕ) → number_at places other ≡ None) → AreKnown [] places
-known_none places none name = ((λ _. tt), (λ _. none name))
 
 other_snoc : (name : List ℕ) (faces : List Face') (v : Face') → (v.1 ≢ name) → IsOther name faces → IsOther name (faces ++ v ∷ [])
 other_snoc name [] v apart all = (apart, tt)

@@ -391,6 +391,3 @@ head_back ports x are (net, formed, (drivers, lines, is)) =
 -- the head of a text leads to the declarations of the nets of ports
 pub head_leads : (ports : List NetPort) → ArePorts ports → Leads IsFormedText (LeftNets [] Give 0 (named_nets ports)) (head_of ports)
 head_leads ports are = record { on = λ x left. head_on ports x are left; back = λ x formed. head_back ports x are formed }
-
-pub head_of_front : (ports : List NetPort) (x : List ℕ) → front_of ports ++ x ≡ head_of ports ++ (flat_map port_declaration (port_nets ports) ++ x)
-head_of_front ports x = append_assoc (head_of ports) (flat_map port_declaration (port_nets ports)) x

@@ -205,32 +205,9 @@ unread n = 0
 abbrev pub declared_port : NetPort → NetPort
 declared_port p = record { name = p.name; side = p.side; ty = p.ty; nets = map unread p.nets }
 
-zeros : (ns : List ℕ) → AllByRecursion IsNumber (map unread ns)
-zeros [] = tt
-zeros (n ∷ ns) = (omega arith, zeros ns)
-
-zeros_many : (ns : List ℕ) → length (map unread ns) ≡ length ns
-zeros_many [] = refl
-zeros_many (n ∷ ns) = ap suc (zeros_many ns)
-
-pub declared_writable : (ps : List NetPort) → AllByRecursion IsWritablePort ps → AllByRecursion IsWritablePort (map declared_port ps)
-declared_writable [] all = tt
-declared_writable (p ∷ ps) all =
-    (record { name = all.0.name; ty = all.0.ty; many = zeros_many p.nets ∙ all.0.many; nets = zeros p.nets }, declared_writable ps all.1)
-
-declared_in_roles : (name : List ℕ) (side : Side) (w : ℕ) (ns : List ℕ) (rs : List Role) → map declared_net (nets_in_roles name side w ns rs) ≡ nets_in_roles name side w (map unread ns) rs
-declared_in_roles name side w [] rs = refl
-declared_in_roles name side w (n ∷ ns) [] = refl
-declared_in_roles name side w (n ∷ ns) (r ∷ rs) = ap (λ more. record { name = name ++ suffix r; input = is_input side (direction r); width = bits w r; cell = 0 } ∷ more) (declared_in_roles name side w ns rs)
-
 pub declared_append : (xs ys : List PortNet) → map declared_net (xs ++ ys) ≡ map declared_net xs ++ map declared_net ys
 declared_append [] ys = refl
 declared_append (x ∷ xs) ys = ap (λ more. declared_net x ∷ more) (declared_append xs ys)
-
-pub declared_nets : (ps : List NetPort) → map declared_net (port_nets ps) ≡ port_nets (map declared_port ps)
-declared_nets [] = refl
-declared_nets (p ∷ ps) =
-    declared_append (nets_of_port p) (port_nets ps) ∙ (λ i. declared_in_roles p.name p.side (number_bits p.ty) p.nets (roles p.ty) i ++ declared_nets ps i)
 
 -- widths and cells of the nets of ports
 wide_in_roles : (name : List ℕ) (side : Side) (w : ℕ) (ns : List ℕ) (rs : List Role) → IsWidth w → HaveWidths (nets_in_roles name side w ns rs)

@@ -19,7 +19,7 @@ use Rattle.gos_verilog.specs.Lines.{clock_declarations, port_declaration}
 use Rattle.gos_verilog.specs.SmallTexts.{latch_text, latch_back}
 use Rattle.gos_verilog.specs.Readable.{HasOwnName}
 use Rattle.gos_verilog.proofs.DeclarationLemmas.{AreSameNames, HaveNetBits, nets_code, listed}
-use Rattle.gos_verilog.proofs.RestLemmas.{passed_rest}
+use Rattle.gos_lex.proofs.RestLemmas.{passed_rest}
 use Rattle.gos_verilog.specs.VerilogText.{first_name}
 use Rattle.gos_verilog.specs.Place.{IsFormedText, IsPlace, ArePorts, head_of, HasHead, HasPlace}
 use Rattle.gos_verilog.specs.inner.Stages.{IsNetName, IsWant, HaveWidths, declared_net}
@@ -65,11 +65,6 @@ end_place text formed =
       before = ([], subst IsFormedText (sym (append-nil (slice_range text 0 (length text)) ∙ rest_whole text 0)) formed);
       stops = λ some. absurd (omega (arith, some));
     }
-
--- want of memory has no place
-pub want_place : (text : List ℕ) (fault : VFault) → IsWant fault → HasPlace text fault
-want_place text (faults.Form at) want = absurd (cc want)
-want_place text faults.NoMemory want = tt
 
 -- a fault of form is no want
 pub not_want : {X : Type 0} (fault : VFault) (at : ℕ) → fault ≡ faults.Form at → IsWant fault → X

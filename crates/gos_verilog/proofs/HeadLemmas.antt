@@ -3,7 +3,7 @@ use Rattle.std.proofs.Common.{◌≡◌, ℕ, List, [], ◌∷◌, ◌++◌, map
 use Rattle.std.proofs.lemmas.Option.{same_Some}
 use Rattle.gos_lex.specs.Items.{TextAt, IsJust, Passes}
 use Rattle.gos_lex.specs.ItemTexts.{Passed}
-use Rattle.gos_netlist.proofs.PassedLemmas.{passed_item}
+use Rattle.gos_lex.proofs.PassedLemmas.{passed_item}
 use Rattle.gos_verilog.specs.PortNets.{PortNet}
 use Rattle.gos_verilog.specs.inner.Stages.{Rest, AreNameBytes, HaveNames, AreNamesOf, listed}
 use Rattle.gos_verilog.proofs.RestLemmas.{byte_at}

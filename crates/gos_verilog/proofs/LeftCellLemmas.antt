@@ -7,7 +7,7 @@ use Rattle.gos_types.specs.Widths.{IsWidth}
 use Rattle.gos_netlist.specs.Nets.{Cell}
 use Rattle.gos_netlist.specs.Writable.{IsNumber}
 use Rattle.gos_lex.specs.ItemTexts.{Passed, IsTextOf, ended}
-use Rattle.gos_netlist.proofs.PassedLemmas.{passed_as, passed_both}
+use Rattle.gos_lex.proofs.PassedLemmas.{passed_as, passed_both}
 use Rattle.gos_lex.proofs.SequenceLemmas.{IsCode, misses_as}
 use Rattle.gos_verilog.specs.declared.slots.TheConstants.{LAST_BIT}
 use Rattle.gos_verilog.specs.declared.declared.Shape.{Shape}
@@ -21,7 +21,7 @@ use Rattle.gos_verilog.specs.inner.Left.{IsShape, IsShapeLine, IsShapeOf, NoShap
 use Rattle.gos_verilog.proofs.DeclarationLemmas.{same_kind, cell_text}
 use Rattle.gos_verilog.proofs.OneTextLemmas.{width_bits}
 use Rattle.gos_verilog.proofs.AmongLemmas.{either_misses}
-use Rattle.gos_verilog.proofs.RestLemmas.{not_missed, passed_rest}
+use Rattle.gos_lex.proofs.RestLemmas.{not_missed, passed_rest}
 use Rattle.gos_verilog.proofs.BreakLemmas.{from_as, first_breaks, either_further, item_leads, leads_none, leads_both, leads_as, alone_leads}
 use Rattle.gos_verilog.proofs.LeftLemmas.{some_cells, no_shape, cells_split, cells_join, shape_first}
 

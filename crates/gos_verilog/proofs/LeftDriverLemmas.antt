@@ -7,7 +7,7 @@ use Rattle.gos_lex.specs.Items.{TextAt, IsJust, Misses}
 use Rattle.gos_types.specs.Widths.{IsWidth}
 use Rattle.gos_netlist.specs.Nets.{Function, Input, Const, Not, And, Or, Xor, Mux, Add, Sub, Eq, Less, Gate, Reg}
 use Rattle.gos_lex.specs.ItemTexts.{Passed, ended}
-use Rattle.gos_netlist.proofs.PassedLemmas.{passed_as}
+use Rattle.gos_lex.proofs.PassedLemmas.{passed_as}
 use Rattle.gos_lex.proofs.SequenceLemmas.{IsCode, misses_as}
 use Rattle.gos_verilog.specs.declared.cell_line.Kind.{Kind}
 use Rattle.gos_verilog.specs.declared.cell_line.Kind.TheVariants as kinds

@@ -5,7 +5,7 @@ use Rattle.gos_lex.specs.Items.{TextAt, Misses}
 use Rattle.gos_netlist.specs.Nets.{Side, Give}
 use Rattle.gos_netlist.specs.Events.{is_input}
 use Rattle.gos_lex.specs.ItemTexts.{Passed, IsInRange, ended}
-use Rattle.gos_netlist.proofs.PassedLemmas.{passed_as, passed_both}
+use Rattle.gos_lex.proofs.PassedLemmas.{passed_as, passed_both}
 use Rattle.gos_lex.proofs.SequenceLemmas.{IsCode, misses_as}
 use Rattle.gos_verilog.specs.declared.slots.TheConstants.{LAST_BIT}
 use Rattle.gos_verilog.specs.declared.port_net.Role.{Role}

@@ -5,17 +5,17 @@ use Rattle.std.proofs.lemmas.List.{append_cancel_left}
 use Rattle.gos_lex.specs.Items.{TextAt, IsJust, Misses}
 use Rattle.gos_netlist.specs.Writable.{IsNumber}
 use Rattle.gos_lex.specs.ItemTexts.{Passed, IsTextOf, ended}
-use Rattle.gos_netlist.proofs.PassedLemmas.{passed_as}
+use Rattle.gos_lex.proofs.PassedLemmas.{passed_as}
 use Rattle.gos_lex.proofs.SequenceLemmas.{IsCode, misses_as}
 use Rattle.gos_verilog.specs.PortNets.{PortNet}
 use Rattle.gos_verilog.specs.Lines.{cell_net, assignment}
 use Rattle.gos_verilog.specs.inner.Slots.{Slot', FitSlots, line_text, IsLine}
 use Rattle.gos_verilog.specs.inner.Breaks.{LeadsOn, BreaksFrom, FaultFrom}
 use Rattle.gos_verilog.specs.inner.Left.{LeftOutput, LeftOutputs}
-use Rattle.gos_verilog.proofs.NumberLemmas.{number_code}
+use Rattle.gos_lex.proofs.NumberTextLemmas.{number_code}
 use Rattle.gos_verilog.specs.declared.fault.VFault.{VFault}
 use Rattle.gos_verilog.specs.inner.Stages.{Rest, BreaksAt}
-use Rattle.gos_verilog.proofs.RestLemmas.{passed_rest}
+use Rattle.gos_lex.proofs.RestLemmas.{passed_rest}
 use Rattle.gos_verilog.proofs.BreakLemmas.{on_item, on_both, on_breaks, fault_on, fault_first, fault_item}
 use Rattle.gos_verilog.proofs.LeftLemmas.{some_outputs}
 

@@ -15,7 +15,6 @@ pub mod BitLemmas
 pub mod MeaningLemmas
 pub mod SmallMeaningLemmas
 pub mod MeantRunLemmas
-pub mod NumberLemmas
 pub mod ListLemmas
 pub mod RestLemmas
 pub mod HeadLemmas

@@ -11,7 +11,7 @@ use Rattle.gos_verilog.specs.inner.Drivers.{is_register}
 use Rattle.gos_verilog.specs.inner.Stages.{IsNetName}
 use Rattle.gos_verilog.specs.inner.CellLines.{kind_of, HasKind, IsKindLine}
 use Rattle.gos_verilog.specs.inner.Noted.{IsLineOf, IsNoLine}
-use Rattle.gos_verilog.proofs.RestLemmas.{not_missed}
+use Rattle.gos_lex.proofs.RestLemmas.{not_missed}
 use Rattle.gos_verilog.proofs.ExpressionLemmas.{IsSmall, AreSmall}
 use Rattle.gos_verilog.proofs.DriverLemmas.{front, driver_text, driver_code}
 use Rattle.gos_verilog.proofs.OneTextLemmas.{small_function, no_source}

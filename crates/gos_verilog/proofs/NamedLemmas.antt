@@ -48,9 +48,6 @@ ended before side last more y left = subst (λ (nets : List PortNet). LeftNets n
 pulse : (n : PortNet) (v : Bool × ℕ) → v.0 ≡ n.input → v.1 + 1 ≡ n.width → net_of n.name v ≡ declared_net n
 pulse n v input width = λ j. record { name = n.name; input = input j; width = width j; cell = 0 }
 
-fixed : (r : Role) (input : Bool) → is_first r ≡ false → IsDirection (is_first r) input input
-fixed r input other = subst (λ (b : Bool). IsDirection b input input) (sym other) refl
-
 roles_left : (name : List ℕ) (side : Side) (w : ℕ) (cells : List ℕ) (rs : List Role) (before : List PortNet) (last : ℕ) (more : List (Role × List ℕ)) (y : List ℕ) → IsWidth w → Follows w last rs
     → After (before ++ map declared_net (nets_in_roles name side w cells rs)) side more y
     → LeftNets before side last (named_in_roles name cells rs ++ more) (flat_map port_declaration (nets_in_roles name side w cells rs) ++ y)

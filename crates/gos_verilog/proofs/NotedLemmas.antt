@@ -47,20 +47,6 @@ DriversSoFar text from nets shapes old now i at cells = (known : List PortNet) (
     → HasPlaces known (length known) old.places → length old.cells.items ≡ length known → AreDriven (drop from text) known all x
     → DriversLeft known all x text shapes old now i at cells
 
-pub no_drivers_yet : (text : List ℕ) (from : ℕ) (nets : List PortNet) (shapes : List Shape) (old : Inputs) → DriversSoFar text from nets shapes old old 0 from []
-no_drivers_yet text from nets shapes old known all x is shaped has long driven =
-    record {
-      left = all;
-      lines = driven.lines;
-      are = driven.are;
-      stands = driven.is;
-      shaped = shaped;
-      whole = refl;
-      places = refl;
-      count = refl;
-      noted = λ k net at input before. absurd (omega (arith, before));
-    }
-
 -- the next cell, its line, and what stands behind it
 pub record NextLine (known : List PortNet) (all : List Cell) (x text : List ℕ) (shapes : List Shape) (nets : List PortNet) (old now : Inputs) (i at : ℕ) (cells : List seen.Cell) (shape : Shape) : Type 0 where
   pub cell : Cell

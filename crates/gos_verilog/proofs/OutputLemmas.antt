@@ -1,5 +1,5 @@
 -- The assignments of outputs, one by one, with the cells of the inputs that were noted.
-use Rattle.std.proofs.Common.{◌≡◌, ℕ, zero, suc, ◌+◌, Bool, true, false, if◌then◌else◌, List, [], ◌∷◌, ◌++◌, length, map, drop, get_or, Some, refl, sym, ◌∙◌, ap, subst, arith, slice_get, append_assoc, append-nil, codes}
+use Rattle.std.proofs.Common.{◌≡◌, ℕ, zero, suc, ◌+◌, Bool, true, false, if◌then◌else◌, List, [], ◌∷◌, ◌++◌, length, map, drop, get_or, Some, refl, sym, ◌∙◌, ap, subst, arith, slice_get, append_assoc, codes}
 use Rattle.std.specs.List.{AllByRecursion, flat_map}
 use Rattle.gos_lex.specs.Items.{TextAt}
 use Rattle.gos_netlist.specs.Writable.{IsNumber}
@@ -83,11 +83,3 @@ outputs_more known nets noted now new k found seen net cell next is cell_is rest
       stands = rest;
       whole = append_assoc found (net ∷ []) next.left ∙ (ap (λ (n : PortNet). found ++ n ∷ next.left) same ∙ next.whole);
     }
-
--- all nets are known
-pub no_output_left : (known nets : List PortNet) (now : TextAt) (k : ℕ) (found : List PortNet) → drop k nets ≡ [] → OutputsLeft known nets now k found → (found ≡ known) × Rest now last_line
-no_output_left known nets now k found end far = by far.left far.shaped far.stands far.whole
-  where
-    by : (left : List PortNet) → drop k nets ≡ map declared_net left → Rest now (flat_map output_assignment left ++ last_line) → found ++ left ≡ known → (found ≡ known) × Rest now last_line
-    by [] shaped stands whole = (sym (append-nil found) ∙ whole, stands)
-    by (n ∷ left) shaped stands whole = absurd (let some : declared_net n ∷ map declared_net left ≡ [] = sym shaped ∙ end in cc some)

@@ -146,13 +146,6 @@ six_of_six (a ∷ b ∷ c ∷ ns) long =
 none : PortNet
 none = record { name = []; input = false; width = 0; cell = 0 }
 
--- a field of the net at a place
-name_at : (k : ℕ) (xs ys : List PortNet) → xs ≡ ys → (get_or xs k none).name ≡ (get_or ys k none).name
-name_at k xs ys same = ap (λ (l : List PortNet). (get_or l k none).name) same
-
-cell_at : (k : ℕ) (xs ys : List PortNet) → xs ≡ ys → (get_or xs k none).cell ≡ (get_or ys k none).cell
-cell_at k xs ys same = ap (λ (l : List PortNet). (get_or l k none).cell) same
-
 -- what two ports with one list of nets share
 abbrev Same : List ℕ → List ℕ → Side → Side → Type' → Type' → List ℕ → List ℕ → List PortNet → List PortNet → Type 0
 Same a b s t one other ns ms x y = (a ≡ b) × (s ≡ t) × (one ≡ other) × (ns ≡ ms) × (x ≡ y)

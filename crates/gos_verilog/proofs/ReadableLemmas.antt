@@ -1,5 +1,5 @@
 -- Inputs that are cells of their own, net by net.
-use Rattle.std.proofs.Common.{◌≡◌, ◌⊎◌, inl, inr, ℕ, zero, suc, ◌+◌, ◌<◌, ◌≤◌, Bool, true, false, List, [], ◌∷◌, length, replicate, take, Some, refl, sym, subst, arith, slice_get}
+use Rattle.std.proofs.Common.{◌≡◌, ◌⊎◌, inl, inr, ℕ, zero, suc, ◌+◌, ◌<◌, ◌≤◌, Bool, true, false, List, [], ◌∷◌, length, take, Some, refl, sym, subst, arith, slice_get}
 use Rattle.std.specs.Prelude.{◌||◌}
 use Rattle.std.specs.Str.{bytes_eq}
 use Rattle.std.proofs.lemmas.Slice.Eq.{bytes_eq-Decides}
@@ -11,20 +11,6 @@ use Rattle.gos_netcheck.proofs.RuleLemmas.{kept_more}
 use Rattle.gos_verilog.specs.PortNets.{PortNet}
 use Rattle.gos_verilog.specs.Readable.{IsInputCell, HasOwnCell}
 use Rattle.gos_verilog.specs.inner.Inputs.{IsTaken, IsTakenInput, AreTaken, AreFed}
-
-none_taken : (n m : ℕ) → IsTaken (replicate n false) m → ⊥
-none_taken zero m is = cc is
-none_taken (suc n) zero is = cc is
-none_taken (suc n) (suc m) is = none_taken n m is
-
-pub no_nets_yet : (cells : List Cell) (nets : List PortNet) (n : ℕ) (taken : List Bool) → taken ≡ replicate n false → AreTaken cells nets 0 taken
-no_nets_yet cells nets n taken is =
-    record {
-      inputs = λ k x below at. absurd (omega (arith, below));
-      once = λ k x below at. absurd (omega (arith, below));
-      marks = λ k x below at. absurd (omega (arith, below));
-      only = λ m marked. absurd (none_taken n m (subst (λ (t : List Bool). IsTaken t m) is marked));
-    }
 
 -- one net more takes its cell
 pub one_net_more : (cells : List Cell) (nets : List PortNet) (i : ℕ) (net : PortNet) (old new : List Bool) → slice_get nets i ≡ Some net → IsInputCell cells net
@@ -38,10 +24,6 @@ one_net_more cells nets i net old new here right free marked kept only taken =
       marks = kept_more (λ _ n. n.input ≡ true → IsTaken new n.cell) nets i net here (λ k x below at input. kept x.cell (taken.marks k x below at input)) marked;
       only = λ n is. elim (only n is) [ inl before ↦ let far = taken.only n before in (far.0, omega (arith, far.1), far.2) | inr now ↦ (i, omega arith, (net, here, now.0, now.1)) ];
     }
-
--- where each Input cell is taken, each is an input
-pub all_fed : (cells : List Cell) (nets : List PortNet) (i : ℕ) (taken : List Bool) → AreTaken cells nets i taken → Kept (IsTakenInput taken) cells → AreFed nets cells
-all_fed cells nets i taken are all n cell at gate = let far = are.only n (all n cell at gate) in (far.0, far.2)
 
 -- where each is an input of its own, the net at place i finds its cell free
 pub cell_free : (cells : List Cell) (nets : List PortNet) (i : ℕ) (net : PortNet) (taken : List Bool) → slice_get nets i ≡ Some net → Kept (HasOwnCell nets) nets → AreTaken cells nets i taken

@@ -8,7 +8,7 @@ use Rattle.gos_lex.specs.ItemTexts.{IsTextOf, IsFixed, IsNumberText, ended}
 use Rattle.gos_lex.proofs.SequenceLemmas.{Then, IsCode, misses_as, then_first, then_rest}
 use Rattle.gos_verilog.specs.inner.Runs.{IsRun, run_text}
 use Rattle.gos_verilog.specs.inner.Slots.{Slot', IsSlot, IsRightSlot, AreSlots, FitSlots, slot_text, IsLine}
-use Rattle.gos_verilog.proofs.NumberLemmas.{number_code}
+use Rattle.gos_lex.proofs.NumberTextLemmas.{number_code}
 use Rattle.gos_verilog.proofs.RunLemmas.{Some, Codes, run_code}
 
 -- these bytes as an item

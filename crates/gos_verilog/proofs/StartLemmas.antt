@@ -8,7 +8,7 @@ use Rattle.gos_lex.proofs.SequenceLemmas.{Then, misses_as, then_first, then_rest
 use Rattle.gos_verilog.specs.declared.fault.VFault.{VFault}
 use Rattle.gos_verilog.specs.declared.fault.VFault.TheVariants as faults
 use Rattle.gos_verilog.specs.inner.Stages.{Rest, IsModuleName, IsStart, HasStart, BreaksAt}
-use Rattle.gos_verilog.proofs.RestLemmas.{passed_rest, not_missed}
+use Rattle.gos_lex.proofs.RestLemmas.{passed_rest, not_missed}
 use Rattle.gos_verilog.proofs.SlotLemmas.{no_word, fixed_code}
 
 -- the parts of a start

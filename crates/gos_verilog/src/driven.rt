@@ -22,7 +22,7 @@ use crate::fault::VFault;
 use crate::head::name_at;
 use crate::inputs::Inputs;
 use crate::port_net::PortNet;
-use crate::slots::{line, number, pass};
+use crate::slots::{line, pass};
 use gos_lex::Cursor;
 use gos_netlist::{Cell, Gate};
 use std::alloc::Global;
@@ -176,7 +176,7 @@ fn source_name(rest: &[u8], i: u32) -> Result<&[u8], usize>
 {
     let mut cursor = Cursor::new(rest);
     pass(&mut cursor, b"  assign n")?;
-    number(&mut cursor, i as u64, i as u64, b' ')?;
+    cursor.ended_number(i as u64, i as u64, b' ')?;
     pass(&mut cursor, b"= ")?;
     Ok(name_at(rest, cursor.at()))
 }

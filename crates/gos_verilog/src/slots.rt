@@ -1,9 +1,7 @@
 // Lines of words and numbers. `Err` is the place of the first byte that can't go on as the line, or the end of the text.
-ghost use Rattle.std.specs.Prelude.{◌≡◌, ◌≤◌, ◌++◌, ◌∷◌, ℕ, List, false, IfOk, IfErr, OnErr, MatchResult, length};
-ghost use Rattle.std.specs.Char.{is_ascii_digit};
-ghost use Rattle.std.specs.Fmt.{decimal};
+ghost use Rattle.std.specs.Prelude.{◌≡◌, ◌≤◌, ◌++◌, ℕ, List, IfOk, IfErr, OnErr, MatchResult, length};
 ghost use Rattle.gos_lex.specs.Items.{Misses, IsJust};
-ghost use Rattle.gos_lex.specs.ItemTexts.{Passed, IsTextOf, IsInRange, IsNumberText, ended};
+ghost use Rattle.gos_lex.specs.ItemTexts.{Passed, IsTextOf};
 ghost use Rattle.gos_verilog.specs.inner.Runs.{IsRun, run_text};
 ghost use Rattle.gos_verilog.specs.inner.Stages.{Rest};
 ghost use Rattle.gos_verilog.specs.inner.Slots.{IsSlot, IsRightSlot, AreSlots, FitSlots, slot_text, line_text, IsLine, Slot'};
@@ -86,23 +84,7 @@ fn pass_slot(cursor: &mut Cursor, slot: &Slot) -> Result<u64, usize>
     ensures wrong { IfErr result (Misses (IsTextOf ℕ (IsSlot slot.now) (slot_text slot.now)) cursor.old.text cursor.old.at) }
 {
     cursor.word(slot.before)?;
-    let n = number(cursor, slot.low, slot.high, slot.end)?;
-    Ok(n)
-}
-
-/// Passes a number of the range, and the byte that ends it.
-pub fn number(cursor: &mut Cursor, low: u64, high: u64, end: u8) -> Result<u64, usize>
-    requires range { low ≤ high }
-    requires no_digit { is_ascii_digit end ≡ false }
-    ensures text { cursor.new.text ≡ cursor.old.text }
-    ensures range { IfOk result (IsInRange low high) }
-    ensures passed { IfOk result (λ n. Passed cursor.old cursor.new (ended end (decimal n))) }
-    ensures wrong { IfErr result (Misses (IsNumberText low high end) cursor.old.text cursor.old.at) }
-    ensures stands { (n : ℕ) (x : List ℕ) → low ≤ n → n ≤ high → Rest cursor.old (decimal n ++ (end ∷ x))
-        → MatchResult result (λ found. (found ≡ n) × Rest cursor.new x) (λ _. ⊥) }
-{
-    let n = cursor.number(low, high)?;
-    cursor.word(&[end])?;
+    let n = cursor.ended_number(slot.low, slot.high, slot.end)?;
     Ok(n)
 }
 

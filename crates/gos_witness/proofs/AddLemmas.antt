@@ -1,20 +1,17 @@
 -- A node for a form whose parts were added before it.
 use Rattle.std.proofs.Common.{◌≡◌, ◌<◌, ℕ, List, length, refl, sym, ap, Option, Some, None, ◌∙◌, arith}
 use Rattle.std.specs.Prelude.{Result, Ok, Err, IfOk}
-use Rattle.gos_types.specs.Types.{Type'}
 use Rattle.gos_types.specs.declared.fault.NoMemory.{NoMemory}
-use Rattle.gos_model.specs.Terms.{Name, Term, Import, Bound, If, Lam}
+use Rattle.gos_model.specs.Terms.{Name, Term, If}
 use Rattle.gos_model.specs.Linking.{with_giver, or_import, supplied}
 use Rattle.gos_model.specs.Sources.{binder_of, bound_or_import, use_of}
 use Rattle.gos_witness.specs.declared.adding.Supply.{Supply}
-use Rattle.gos_witness.specs.declared.nodes.OnePart.{OnePart}
-use Rattle.gos_witness.specs.declared.nodes.OnePart.TheVariants as one
 use Rattle.gos_witness.specs.declared.nodes.TwoParts.{TwoParts}
 use Rattle.gos_witness.specs.declared.nodes.Form.TheVariants as forms
-use Rattle.gos_witness.specs.NodeLists.{Listed, seen, shape, one_term, two_term, FitsOne, type_at}
+use Rattle.gos_witness.specs.NodeLists.{Listed, seen, shape, two_term}
 use Rattle.gos_witness.specs.inner.Adding.{node_for, served, AreThere, Serves, IsAdded}
 use Rattle.gos_witness.specs.inner.Keeping.{Keeps}
-use Rattle.gos_witness.proofs.KeepLemmas.{one_keeps, keeps_twice}
+use Rattle.gos_witness.proofs.KeepLemmas.{keeps_twice}
 
 -- supplies stay
 pub still_there : (l l' : Listed) (ss : List Supply) → Keeps l l' → AreThere l ss → AreThere l' ss
@@ -29,32 +26,6 @@ served_keeps l l' ss x k there = by (node_for ss x) refl
 
 pub serves_keeps : (l l' : Listed) (ss : List Supply) (f : Name → Option Term) → Keeps l l' → AreThere l ss → Serves l ss f → Serves l' ss f
 serves_keeps l l' ss f k there serves x = served_keeps l l' ss x k there ∙ serves x
-
--- a form of one part
-pub added_one : (l0 l1 l2 l3 : Listed) (ss : List Supply) (g : (Name → Option Term) → Term) (o : OnePart) (m i : ℕ)
-    → IsAdded l0 l1 ss g m → Keeps l1 l2 → seen l3 i ≡ shape l2 (forms.One o m) → i < length l3.nodes
-    → IsAdded l0 l3 ss (λ f. one_term l2.tables o (g f)) i
-added_one l0 l1 l2 l3 ss g o m i a k is there = record {
-  there = there;
-  term = λ f serves. is ∙ ap (one_term l2.tables o) (k.terms m a.there ∙ a.term f serves);
-}
-
--- whose type is this, or which names none
-pub added_function : (l0 l1 l2 l3 : Listed) (ss : List Supply) (g : (Name → Option Term) → Term) (t : Type') (n m i : ℕ)
-    → IsAdded l0 l1 ss g m → Keeps l1 l2 → type_at l2.tables n ≡ t → seen l3 i ≡ shape l2 (forms.One (one.Lam n) m) → i < length l3.nodes
-    → IsAdded l0 l3 ss (λ f. Lam t (g f)) i
-added_function l0 l1 l2 l3 ss g t n m i a k ty is there = record {
-  there = there;
-  term = λ f serves. is ∙ (λ j. Lam (ty j) ((k.terms m a.there ∙ a.term f serves) j));
-}
-
-pub added_plain : (l0 l1 l3 : Listed) (ss : List Supply) (g : (Name → Option Term) → Term) (o : OnePart) (m i : ℕ)
-    → FitsOne l0.tables o → Keeps l0 l1 → IsAdded l0 l1 ss g m → seen l3 i ≡ shape l1 (forms.One o m) → i < length l3.nodes
-    → IsAdded l0 l3 ss (λ f. one_term l0.tables o (g f)) i
-added_plain l0 l1 l3 ss g o m i fits k a is there = record {
-  there = there;
-  term = λ f serves. is ∙ one_keeps l0.tables l1.tables o (seen l1 m) k.tables fits ∙ ap (one_term l0.tables o) (a.term f serves);
-}
 
 -- a form of two parts
 pub added_two : (l0 l1 l2 l3 : Listed) (ss : List Supply) (g h : (Name → Option Term) → Term) (o : TwoParts) (m n i : ℕ)
@@ -93,25 +64,6 @@ added_supply l ss names x i there free at = record {
       sym
       (ap (λ b. supplied f (bound_or_import x b)) free
       ∙ ap (or_import x) (sym (serves x) ∙ ap (with_giver (seen l)) at));
-}
-
-pub added_import : (l l' : Listed) (ss : List Supply) (names : List Name) (x : Name) (i : ℕ) → binder_of names x ≡ None → node_for ss x ≡ None
-    → seen l' i ≡ Import x → i < length l'.nodes → IsAdded l l' ss (λ f. supplied f (use_of names x)) i
-added_import l l' ss names x i free none is there = record {
-  there = there;
-  term =
-      λ f serves.
-      is
-      ∙ sym
-      (ap (λ b. supplied f (bound_or_import x b)) free
-      ∙ ap (or_import x) (sym (serves x) ∙ ap (with_giver (seen l)) none));
-}
-
-pub added_bound : (l l' : Listed) (ss : List Supply) (names : List Name) (x : Name) (n i : ℕ) → binder_of names x ≡ Some n
-    → seen l' i ≡ Bound n → i < length l'.nodes → IsAdded l l' ss (λ f. supplied f (use_of names x)) i
-added_bound l l' ss names x n i found is there = record {
-  there = there;
-  term = λ f serves. is ∙ sym (ap (λ b. supplied f (bound_or_import x b)) found);
 }
 
 -- and so where it is the answer of a push

@@ -1,5 +1,5 @@
 -- What follows the line of a label: cycles that don't fall. And where small texts break off, whose cycles do.
-use Rattle.std.proofs.Common.{◌≡◌, inr, ℕ, zero, suc, ◌≤◌, List, [], ◌∷◌, ◌++◌, get_or, refl, sym, ◌∙◌, ap, subst, arith, append_assoc, append-nil}
+use Rattle.std.proofs.Common.{◌≡◌, ℕ, zero, suc, ◌≤◌, List, [], ◌∷◌, ◌++◌, get_or, refl, sym, ◌∙◌, ap, subst, arith, append_assoc, append-nil}
 use Rattle.std.specs.Prelude.{codes}
 use Rattle.std.specs.Fmt.{decimal, digits}
 use Rattle.std.proofs.lemmas.Option.{slice_get_within}
@@ -65,7 +65,7 @@ no_four ports [] more (n, above, below, same) =
     let letter : 52 ≡ 99 = ap first same in
     omega (arith, letter)
 no_four ports (q ∷ labels) more (n, above, below, (u, rest, after, under, is, lines, whole)) =
-    let known = number_code 0 999999 32 (omega arith) (inr refl) 4 u more (line (label_text ports q) ++ rest) (omega arith, omega arith) (omega arith, omega (arith, under, below))
+    let known = number_code 0 999999 32 (omega arith) refl 4 u more (line (label_text ports q) ++ rest) (omega arith, omega arith) (omega arith, omega (arith, under, below))
     (whole ∙ line_parts ports u q rest) in
     omega (arith, known.0, after)
 

@@ -1,21 +1,18 @@
 -- Modules get nodes, each after its givers, until the root has one.
-use Rattle.std.proofs.Common.{◌≡◌, ◌<◌, ◌≤◌, ℕ, zero, suc, Bool, true, false, List, [], ◌∷◌, length, ◌≢◌, ◌-◌, refl, sym, ap, subst, Option, Some, None, ◌∙◌, arith, nat_eq, not, inl, inr}
-use Rattle.std.specs.Prelude.{if◌then◌else◌, slice_get, slice_set, ◌&&◌, Vec, replicate}
+use Rattle.std.proofs.Common.{◌≡◌, ◌<◌, ◌≤◌, ℕ, zero, suc, Bool, true, false, List, [], ◌∷◌, length, ◌≢◌, ◌-◌, refl, sym, ap, subst, Option, Some, None, ◌∙◌, arith, nat_eq, not}
+use Rattle.std.specs.Prelude.{if◌then◌else◌, slice_get, slice_set, ◌&&◌, Vec}
 use Rattle.std.specs.Str.{bytes_eq}
 use Rattle.std.specs.List.{AllByRecursion}
 use Rattle.std.specs.declared.alloc.Global.{Global}
 use Rattle.std.proofs.lemmas.Bool.{eqb-true, eqb-false}
 use Rattle.gos_syntax.specs.Modules.{SeenImport, SeenModule}
-use Rattle.gos_model.specs.Terms.{Name, Term}
+use Rattle.gos_model.specs.Terms.{Name}
 use Rattle.gos_model.specs.Sources.{program_of}
 use Rattle.gos_model.specs.Linking.{Bind, Instances, linked, supplied, giver_of, body_at, with_giver}
 use Rattle.gos_witness.specs.declared.binding.Bound.{Bound}
-use Rattle.gos_witness.specs.NodeLists.{Listed, seen, IsCount, IsRight}
-use Rattle.gos_witness.specs.declared.nodes.Node.{Node}
-use Rattle.gos_witness.specs.declared.nodes.TheConstants.{MOST_NODES}
-use Rattle.gos_witness.specs.Sizes.{size}
-use Rattle.gos_witness.specs.Substituted.{imports_if, imports_at, import_name, instances_of, binds_of, linked_program, IsBind, HasNarrow, AreOrdered, AreLinkable}
-use Rattle.gos_witness.specs.inner.Built.{of_user, list_at, AreByUser, giver_in, node_if, node_of, is_made, has_node, is_ready, is_next, AreBelow, AllBelow, AreImports, AreMade, giver_term, IsModuleNode, made, AreBuilt, IsBuilding}
+use Rattle.gos_witness.specs.NodeLists.{Listed, seen}
+use Rattle.gos_witness.specs.Substituted.{imports_if, imports_at, import_name, instances_of, binds_of, linked_program, IsBind, AreOrdered, AreLinkable}
+use Rattle.gos_witness.specs.inner.Built.{of_user, list_at, AreByUser, giver_in, node_if, node_of, is_made, has_node, is_ready, is_next, AreBelow, AllBelow, AreImports, giver_term, IsModuleNode, made, AreBuilt, IsBuilding}
 use Rattle.gos_witness.specs.inner.Keeping.{Keeps}
 
 -- the binds of a user are within bounds
@@ -261,51 +258,3 @@ fewer_left k vs nodes u n each there next =
     let count = made_set nodes u n there left in
     let less = made_less nodes u there left in
     omega (arith, count, less, each)
-
--- the beginning
-none_made : (k u n : ℕ) → slice_get (replicate k None) u ≡ Some (Some n) → ⊥
-none_made zero u n e = absurd (cc e)
-none_made (suc k) zero n e = absurd (cc e)
-none_made (suc k) (suc u) n e = none_made k u n e
-
-none_has : (k u : ℕ) → has_node (replicate k None) u ≡ false
-none_has zero u = refl
-none_has (suc k) zero = refl
-none_has (suc k) (suc u) = none_has k u
-
-as_many : (k : ℕ) (o : Option ℕ) → length (replicate k o) ≡ k
-as_many zero o = refl
-as_many (suc k) o = ap suc (as_many k o)
-
-pub begin : (ms : List SeenModule) (bs : List Bound) (root : ℕ) (l : Listed) → IsBuilding ms bs root l (replicate (length ms) None)
-begin ms bs root l = record {
-  each = as_many (length ms) None;
-  root_left = none_has (length ms) root;
-  built = λ u n e. absurd (none_made (length ms) u n e);
-}
-
--- nodes that are built are there
-pub are_made : (ms : List SeenModule) (bs : List Bound) (root : ℕ) (l : Listed) (nodes : List (Option ℕ)) → IsBuilding ms bs root l nodes → AreMade l nodes
-are_made ms bs root l nodes building u n e = (building.built u n e).0
-
--- a narrow body
-pub narrow_at : (ms : List SeenModule) (u : ℕ) (m : SeenModule) → AllByRecursion (λ o. HasNarrow (program_of o).body) ms → slice_get ms u ≡ Some m
-    → HasNarrow (program_of m).body
-narrow_at [] u m all e = absurd (cc e)
-narrow_at (n ∷ ms) zero m all e = let same : n ≡ m = cc e in subst (λ (o : SeenModule). HasNarrow (program_of o).body) same all.0
-narrow_at (n ∷ ms) (suc u) m all e = narrow_at ms u m all.1 e
-
--- a size that is counted up to a limit far above
-pub small_count : (k n : ℕ) → IsCount k n → k ≤ 1000000 → n ≤ 1000000
-small_count k n (inl h) low = omega (arith, h.1, low)
-small_count k n (inr h) low = let big : 1000000 < MOST_NODES = omega arith in absurd (omega (arith, big, h.1, low))
-
-pub large_count : (k n : ℕ) → IsCount k n → 1000000 < k → 1000000 < n
-large_count k n (inl h) high = omega (arith, h.1, high)
-large_count k n (inr h) high = omega (arith, h.0, h.1, high)
-
-pub small_term : (l : Listed) (i : ℕ) (node : Node) (t : Term) → IsRight l i node → seen l i ≡ t → node.size ≤ 1000000 → size t ≤ 1000000
-small_term l i node t right is low = subst (λ (m : Term). size m ≤ 1000000) is (small_count node.size (size (seen l i)) right.size low)
-
-pub large_term : (l : Listed) (i : ℕ) (node : Node) (t : Term) → IsRight l i node → seen l i ≡ t → 1000000 < node.size → 1000000 < size t
-large_term l i node t right is high = subst (λ (m : Term). 1000000 < size m) is (large_count node.size (size (seen l i)) right.size high)

@@ -114,9 +114,6 @@ beginning_stays l k k' base keeps begins = record {
   terms = λ i h. keeps.terms i (omega (arith, h, begins.more)) ∙ begins.terms i h;
 }
 
-pub no_places : (l k : Listed) (base : ℕ) → ArePlaces l k base []
-no_places l k base i p e = absurd (cc e)
-
 last_of : (xs : List (Option ℕ)) (x y : Option ℕ) (i : ℕ) → slice_get (xs ++ x ∷ []) i ≡ Some y → (slice_get xs i ≡ Some y) ⊎ ((i ≡ length xs) × (x ≡ y))
 last_of [] x y zero e = inr (refl, cc e)
 last_of [] x y (suc i) e = absurd (cc e)
@@ -137,14 +134,6 @@ place_more l k k' base n places place are keeps count copied i p e = by (last_of
     by (inr (here, is)) =
         let same : n ≡ base + i = omega (arith, here, count) in
         subst (λ (j : ℕ). IsCopy l k' j p) same (subst (λ (o : Option ℕ). IfSome o (IsCopy l k' n)) is copied)
-
--- what an older list had
-pub beginning_keeps : (a l k : Listed) → Keeps a l → IsBeginning l (length a.nodes) k → Keeps a k
-beginning_keeps a l k keeps begins = record {
-  more = begins.more;
-  terms = λ i h. begins.terms i h ∙ keeps.terms i h;
-  tables = tables_twice a.tables l.tables k.tables keeps.tables begins.tables;
-}
 
 -- the place of a node behind the first ones
 pub place_copied : (l k : Listed) (base n : ℕ) (places : List (Option ℕ)) (place : Option ℕ) → ArePlaces l k base places → base ≤ n → slice_get places (n - base) ≡ Some place

@@ -1,5 +1,5 @@
 -- The labels of ports: a port's name, an event's name, and its value; none of their texts begins another one.
-use Rattle.std.proofs.Common.{◌≡◌, inl, ℕ, zero, suc, ◌-◌, ◌^◌, ◌<◌, ◌≤◌, List, [], ◌∷◌, ◌++◌, length, get_or, slice_get, Option, Some, None, nat_eq, refl, sym, ◌∙◌, ap, subst, arith, append_assoc, append-nil}
+use Rattle.std.proofs.Common.{◌≡◌, ℕ, zero, suc, ◌-◌, ◌^◌, ◌<◌, ◌≤◌, List, [], ◌∷◌, ◌++◌, length, get_or, slice_get, Option, Some, None, nat_eq, refl, sym, ◌∙◌, ap, subst, arith, append_assoc, append-nil}
 use Rattle.std.specs.Prelude.{if◌then◌else◌}
 use Rattle.std.specs.List.{AllByRecursion}
 use Rattle.std.proofs.Math.Pow.{pow_mono}
@@ -158,7 +158,7 @@ value_code : (width : Option ℕ) → IsNarrow width → IsCode ℕ (IsValue wid
 value_code None narrow j k x y is_j is_k same = (is_j ∙ sym is_k, same)
 value_code (Some w) narrow j k x y is_j is_k same =
     let most : ℕ = 2 ^ w - 1 in
-    number_code 0 most 10 (omega (arith, few_values w narrow, is_j)) (inl refl) j k x y (omega arith, omega (arith, is_j)) (omega arith, omega (arith, is_k)) same
+    number_code 0 most 10 (omega (arith, few_values w narrow, is_j)) refl j k x y (omega arith, omega (arith, is_j)) (omega arith, omega (arith, is_k)) same
 
 -- the least value
 some_value : (width : Option ℕ) → IsValue width 0

@@ -1,12 +1,10 @@
 -- A port by its number is that of the import with its name.
-use Rattle.std.proofs.Common.{◌≡◌, ◌<◌, ℕ, zero, suc, Bool, true, false, List, [], ◌∷◌, map, refl, ap, subst, Option, Some, arith}
+use Rattle.std.proofs.Common.{◌≡◌, ◌<◌, ℕ, zero, suc, Bool, true, false, List, [], ◌∷◌, map, refl, ap, Option, Some, arith}
 use Rattle.std.specs.Prelude.{slice_get}
 use Rattle.std.specs.Str.{bytes_eq}
-use Rattle.std.specs.List.{AllByRecursion}
 use Rattle.std.proofs.lemmas.Option.{none-some}
 use Rattle.gos_types.proofs.BytesLemmas.{bytes_eq_same, same_bytes_eq}
 use Rattle.gos_netlist.specs.Seen.{ground_type}
-use Rattle.gos_netlist.specs.Writable.{IsPortType}
 use Rattle.gos_model.specs.Typing.{import_type}
 use Rattle.gos_model.specs.Labels as shown
 use Rattle.gos_witness.specs.declared.labels.Label.{Label}
@@ -43,10 +41,3 @@ label_is ports o p some at = λ i. record { port = by o.port some at i; event = 
     by : (n : ℕ) → 0 < n → slice_get ports n ≡ Some p → port_of ports n ≡ shown.Taken p.name
     by zero h e = absurd (omega (arith, h))
     by (suc n) h e = ap (λ (q : Option ProgramPort). shown.Taken (name_of q)) e
-
--- the root's port shows nothing at a place
-pub all_at : (ports : List ProgramPort) (n : ℕ) (p : ProgramPort) → AllByRecursion (λ q. IsPortType (ground_type q.ground)) ports → slice_get ports n ≡ Some p
-    → IsPortType (ground_type p.ground)
-all_at [] n p all at = absurd (none-some p at)
-all_at (q ∷ ports) zero p all at = let same : q ≡ p = cc at in subst (λ (x : ProgramPort). IsPortType (ground_type x.ground)) same all.0
-all_at (q ∷ ports) (suc n) p all at = all_at ports n p all.1 at

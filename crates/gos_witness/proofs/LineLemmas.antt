@@ -5,7 +5,7 @@ use Rattle.gos_lex.specs.Items.{TextAt, Misses}
 use Rattle.gos_lex.specs.ItemTexts.{IsTextOf, IsAmong, Passed}
 use Rattle.gos_lex.proofs.SequenceLemmas.{Then, IsCode, misses_as, then_first, then_rest, same_fronts}
 use Rattle.gos_netlist.proofs.WordLemmas.{found, same_value}
-use Rattle.gos_netlist.proofs.PassedLemmas.{passed_both, passed_as}
+use Rattle.gos_lex.proofs.PassedLemmas.{passed_both, passed_as}
 use Rattle.gos_witness.specs.declared.fault.ExplainFault.{ExplainFault}
 use Rattle.gos_witness.specs.declared.fault.ExplainFault.TheVariants as faults
 use Rattle.gos_witness.specs.declared.move_line.Verb.{Verb}

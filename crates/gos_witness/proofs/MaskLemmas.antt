@@ -1,6 +1,6 @@
 -- Which ports stand in a term, bit by bit.
-use Rattle.std.proofs.Common.{◌≡◌, ◌≢◌, ◌↔◌, ◌⊎◌, ◌<◌, ◌≤◌, ◌/◌, ◌%◌, ◌^◌, ◌*◌, ◌+◌, ℕ, zero, suc, List, [], ◌∷◌, ◌++◌, Option, Some, None, length, refl, sym, ap, subst, arith, inl, inr, ◌∙◌}
-use Rattle.std.specs.Prelude.{Contains, Bool, true, false, nat_eq, nat_lt, ◌-◌, if◌then◌else◌, slice_get, get_or, max}
+use Rattle.std.proofs.Common.{◌≡◌, ◌↔◌, ◌⊎◌, ◌<◌, ◌≤◌, ◌/◌, ◌%◌, ◌^◌, ◌*◌, ◌+◌, ℕ, zero, suc, List, [], ◌∷◌, ◌++◌, Option, Some, None, length, refl, sym, ap, subst, arith, inl, inr, ◌∙◌}
+use Rattle.std.specs.Prelude.{Contains, Bool, true, false, nat_eq, nat_lt, ◌-◌, if◌then◌else◌, slice_get, get_or}
 use Rattle.std.specs.Int.{bit_at}
 use Rattle.std.proofs.Math.Seq.{get_or-append_seam}
 use Rattle.std.proofs.lemmas.List.{get_or_append_left}
@@ -15,7 +15,6 @@ use Rattle.gos_swaps.specs.needed.Needed.{HasPort}
 use Rattle.gos_model.specs.Typing.{Thing, Variable, Named, Place, things}
 use Rattle.gos_swaps.proofs.proper.ThingLemmas.{there, left_part, right_part, by_parts, only_one, nothing}
 use Rattle.gos_witness.specs.declared.nodes.Leaf.{Leaf}
-use Rattle.gos_witness.specs.declared.nodes.Leaf.TheVariants as leaves
 use Rattle.gos_witness.specs.declared.nodes.OnePart.{OnePart}
 use Rattle.gos_witness.specs.declared.nodes.OnePart.TheVariants as one
 use Rattle.gos_witness.specs.declared.nodes.TwoParts.{TwoParts}
@@ -320,22 +319,6 @@ one_name ports l s t found are less number names masks block =
       masks =
           subst (λ (xs : List ℕ). (i : ℕ) → i < length xs → IsMask ports t.block (get_or xs i 0) (seen l i)) (sym masks)
           (subst (λ (b : ℕ). (i : ℕ) → i < length s.masks.items → IsMask ports b (get_or s.masks.items i 0) (seen l i)) (sym block) are.masks);
-    }
-
-pub one_mask : (ports : List ProgramPort) (l : Listed) (s t : Masks) (mask : ℕ) → AreMasks ports l s → length s.masks.items < length l.nodes
-    → IsMask ports s.block mask (seen l (length s.masks.items)) → t.masks.items ≡ s.masks.items ++ mask ∷ [] → t.ports.items ≡ s.ports.items → t.block ≡ s.block
-    → AreMasks ports l t
-one_mask ports l s t mask are less is masks names block =
-    let longer = one_longer s.masks.items mask in
-    record {
-      few_names = subst (λ (xs : List (Option ℕ)). length xs ≤ length l.tables.names) (sym names) are.few_names;
-      numbers =
-          subst (λ (xs : List (Option ℕ)). (i : ℕ) → i < length xs → IsNumberOf ports (name_at l.tables i) (get_or xs i None)) (sym names) are.numbers;
-      few = subst (λ (xs : List ℕ). length xs ≤ length l.nodes) (sym masks) (omega (arith, longer, less));
-      masks =
-          subst (λ (b : ℕ). (i : ℕ) → i < length t.masks.items → IsMask ports b (get_or t.masks.items i 0) (seen l i)) (sym block)
-          (subst (λ (xs : List ℕ). (i : ℕ) → i < length xs → IsMask ports s.block (get_or xs i 0) (seen l i)) (sym masks)
-          (one_more_holds (λ i m. IsMask ports s.block m (seen l i)) s.masks.items mask 0 are.masks is));
     }
 
 -- with no masks any block will do

@@ -1,5 +1,5 @@
 -- Where small texts of moves break off: their count is wrong, or a child is none.
-use Rattle.std.proofs.Common.{◌≡◌, inl, ℕ, zero, suc, ◌≤◌, List, [], ◌∷◌, ◌++◌, length, get_or, refl, sym, ◌∙◌, ap, arith, append_assoc}
+use Rattle.std.proofs.Common.{◌≡◌, ℕ, zero, suc, ◌≤◌, List, [], ◌∷◌, ◌++◌, length, get_or, refl, sym, ◌∙◌, ap, arith, append_assoc}
 use Rattle.std.specs.Prelude.{codes}
 use Rattle.std.specs.Fmt.{decimal, digits}
 use Rattle.std.specs.List.{AllByRecursion, flat_map}
@@ -24,7 +24,7 @@ behind_count : (lines : List Line) (n : ℕ) (more : List ℕ) → n ≤ 1844674
     → (length lines ≡ n) × AllByRecursion HasPath lines × (flat_map line_text lines ++ foot ≡ more)
 behind_count lines n more few is =
     let whole = append_cancel_left head (ended 10 (decimal n) ++ more) (ended 10 (decimal (length lines)) ++ (flat_map line_text lines ++ foot)) (is.is ∙ text_parts lines) in
-    let known = number_code 0 18446744073709551615 10 (omega arith) (inl refl) n (length lines) more (flat_map line_text lines ++ foot) (omega arith, few) (omega arith, is.are.few) whole in
+    let known = number_code 0 18446744073709551615 10 (omega arith) refl n (length lines) more (flat_map line_text lines ++ foot) (omega arith, few) (omega arith, is.are.few) whole in
     (sym known.0, is.are.paths, sym known.1)
 
 -- no line begins with an `e`

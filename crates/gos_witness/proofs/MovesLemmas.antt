@@ -1,5 +1,5 @@
 -- The text of a list of moves: a head, a count, so many lines, and an end.
-use Rattle.std.proofs.Common.{◌≡◌, inl, ℕ, zero, suc, ◌≤◌, List, [], ◌∷◌, ◌++◌, length, refl, sym, ◌∙◌, ap, subst, arith, append_assoc, append-nil}
+use Rattle.std.proofs.Common.{◌≡◌, ℕ, zero, suc, ◌≤◌, List, [], ◌∷◌, ◌++◌, length, refl, sym, ◌∙◌, ap, subst, arith, append_assoc, append-nil}
 use Rattle.std.specs.Prelude.{codes}
 use Rattle.std.specs.Fmt.{decimal}
 use Rattle.std.specs.List.{AllByRecursion, flat_map}
@@ -66,7 +66,7 @@ count_stage =
     record {
       to = λ v bytes left. (length v, flat_map line_text v ++ foot, (omega arith, left.0.few), (v, refl, left.0.paths, refl, refl), left.1);
       from = λ v bytes behind. from v bytes behind;
-      code = number_code 0 most 10 (omega arith) (inl refl);
+      code = number_code 0 most 10 (omega arith) refl;
       completes = λ n is. some_lines n [];
     }
   where

@@ -3,7 +3,6 @@ use Rattle.std.proofs.Common.{◌≡◌, ◌<◌, ◌≤◌, ◌+◌, ℕ, zero,
 use Rattle.std.specs.Prelude.{get_or, slice_get, IfSome}
 use Rattle.std.proofs.lemmas.Option.{none-some}
 use Rattle.std.proofs.lemmas.List.{take_all}
-use Rattle.gos_model.specs.Labels as shown
 use Rattle.gos_witness.specs.declared.labels.Label.{Label}
 use Rattle.gos_witness.specs.declared.moves.Line.{Line}
 use Rattle.gos_witness.specs.declared.moves.Line.TheVariants.{Unfold, Step, Label as LabelLine, Root}
@@ -12,11 +11,10 @@ use Rattle.gos_witness.specs.declared.verifying.Stage.{Stage}
 use Rattle.gos_witness.specs.Sizes.{size_of}
 use Rattle.gos_witness.specs.Ports.{labels_of}
 use Rattle.gos_witness.specs.Programs.{SeenProgram, program_of}
-use Rattle.gos_witness.specs.Lines.{Stand, start, Lead, IsIdle, EndsIdly, IsWrong, IsTooLarge, IsLeft, Explains, limit}
+use Rattle.gos_witness.specs.Lines.{Stand, start, Lead, IsIdle, IsWrong, IsTooLarge, IsLeft, limit}
 use Rattle.gos_witness.specs.inner.Keeping.{Keeps}
 use Rattle.gos_witness.specs.inner.Rows.{AreNarrow}
-use Rattle.gos_witness.specs.inner.Stages.{config_of, stand_of, IsStage, IsMade, IsPassed}
-use Rattle.gos_witness.proofs.KeepLemmas.{one_longer}
+use Rattle.gos_witness.specs.inner.Stages.{config_of, stand_of, IsMade, IsPassed}
 use Rattle.gos_witness.proofs.VerifyLemmas.{wrong_here, large_here, lead_on, not_at_end}
 
 -- a line by its number
@@ -56,21 +54,6 @@ not_idle_here lines n line within never idle = by (nat_lt (suc n) (length lines)
     by false e =
         let last : suc n ≡ length lines = grind (arith, e, within) in
         never last (subst (λ (ls : List Line). IsIdle line ls) (none_behind (suc n) lines (omega (arith, last))) idle)
-
--- no line is passed yet
-nothing_ends : (lines : List Line) → 0 ≡ length lines → EndsIdly lines → ⊥
-nothing_ends lines none (before, line, are, idle) =
-    let n = ap length are in
-    let one = one_longer before line in
-    absurd (omega (arith, n, none, one))
-
-pub passed_none : (p : SeenProgram) (labels : List Label) (lines : List Line) (g : Stage) → IsStage p labels g → stand_of p.ports labels g ≡ start (labels_of p.ports labels)
-    → IsPassed p labels lines 0 g
-passed_none p labels lines g stage is = record {
-  stage = stage;
-  lead = sym is;
-  whole = nothing_ends lines;
-}
 
 pub passed_one : (p : SeenProgram) (labels : List Label) (lines : List Line) (n : ℕ) (line : Line) (g h : Stage) → IsPassed p labels lines n g → n < length lines
     → line ≡ get_or lines n line → IsMade p labels line g h true → size_of (config_of h.list h.running h.store.items) ≤ limit
@@ -156,13 +139,3 @@ none_left ports [] zero h = refl
 none_left ports [] (suc n) h = refl
 none_left ports (o ∷ labels) zero h = absurd (omega (arith, h))
 none_left ports (o ∷ labels) (suc n) h = none_left ports labels n (omega (arith, h))
-
-pub passed_all : (p : SeenProgram) (labels : List Label) (lines : List Line) (g : Stage) → IsPassed p labels lines (length lines) g → length labels ≤ g.matched
-    → Explains (program_of p) (labels_of p.ports labels) lines
-passed_all p labels lines g passed none = record {
-  config = config_of g.list g.running g.store.items;
-  lead =
-      subst (λ (xs : List shown.Label). Lead (program_of p) lines (start (labels_of p.ports labels)) (record { config = config_of g.list g.running g.store.items; left = xs }))
-      (none_left p.ports labels g.matched none) (whole_lead p labels lines g passed);
-  whole = passed.whole refl;
-}

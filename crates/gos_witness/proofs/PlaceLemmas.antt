@@ -1,23 +1,17 @@
 -- A change at a way is a change of the part there.
-use Rattle.std.proofs.Common.{◌≡◌, ◌<◌, ◌⊎◌, ℕ, zero, suc, List, [], ◌∷◌, ◌++◌, length, refl, sym, ap, subst, arith, Some, None, inl, inr, ◌∙◌}
+use Rattle.std.proofs.Common.{◌≡◌, ◌⊎◌, ℕ, zero, suc, List, [], ◌∷◌, ◌++◌, length, refl, sym, ap, subst, arith, Some, None, inl, inr, ◌∙◌}
 use Rattle.std.proofs.lemmas.Option.{none-some}
 use Rattle.gos_model.specs.Terms.{Term, Skip, App, Both, Fst, Snd, Seq, Par, If, Assign, Deref, Not, Bin, Arr, Scope, Wait, Held, Put}
 use Rattle.gos_model.specs.Reach.{Rel}
 use Rattle.gos_model.specs.Paths.{ReachedAt, IndexAt}
 use Rattle.gos_swaps.specs.doings.Heads.{UnderAt, HeadAt, HeadInIndexAt}
-use Rattle.gos_witness.specs.declared.nodes.Leaf.{Leaf}
-use Rattle.gos_witness.specs.declared.nodes.Leaf.TheVariants as leaves
-use Rattle.gos_witness.specs.declared.nodes.OnePart.{OnePart}
-use Rattle.gos_witness.specs.declared.nodes.OnePart.TheVariants as one
-use Rattle.gos_witness.specs.declared.nodes.TwoParts.{TwoParts}
-use Rattle.gos_witness.specs.declared.nodes.TwoParts.TheVariants as two
 use Rattle.gos_witness.specs.declared.walking.Zone.{Zone}
 use Rattle.gos_witness.specs.declared.walking.Zone.TheVariants as zones
 use Rattle.gos_witness.specs.declared.walking.Frame.{Frame}
 use Rattle.gos_witness.specs.declared.walking.Frame.TheVariants as frames
-use Rattle.gos_witness.specs.NodeLists.{Tables, Listed, leaf_term, one_term, two_term}
+use Rattle.gos_witness.specs.NodeLists.{Tables, Listed, two_term}
 use Rattle.gos_witness.specs.inner.Keeping.{Keeps}
-use Rattle.gos_witness.specs.inner.Places.{pair, own, argument, child, with_child, and_part, part_at, replaced, At, fill, plug, FitsFrame, AreFrames}
+use Rattle.gos_witness.specs.inner.Places.{pair, own, argument, and_part, part_at, replaced, At, fill, plug, FitsFrame, AreFrames}
 use Rattle.gos_witness.proofs.KeepLemmas.{one_keeps, fits_one}
 
 -- a way begins among reached places, or among heads
@@ -227,74 +221,6 @@ pub changed_at : (z : Zone) → IsStart z → (R : Rel) (path : List ℕ) (m x y
 changed_at zones.Reached start R path m x y e r = reached_at R path m x y e r
 changed_at zones.Head start R path m x y e r = head_at R path m x y e r
 changed_at z start R path m x y e r = absurd start
-
--- forms have no other children
-pub leaf_child : (z : Zone) (a : Tables) (f : Leaf) (i : ℕ) → child z (leaf_term a f) i ≡ None
-leaf_child z a leaves.Skip i = refl
-leaf_child z a (leaves.Lit k w) i = refl
-leaf_child z a (leaves.Bound n) i = refl
-leaf_child z a (leaves.Import x) i = refl
-leaf_child z a (leaves.Loc p) i = refl
-leaf_child z a (leaves.Arr p) i = refl
-leaf_child z a (leaves.Wait x s) i = refl
-
-pub one_past : (z : Zone) (a : Tables) (f : OnePart) (m : Term) (i : ℕ) → 0 < i → child z (one_term a f m) i ≡ None
-one_past z a f m zero h = absurd (omega (arith, h))
-one_past z a (one.Lam t) m (suc i) h = refl
-one_past z a (one.New w) m (suc i) h = refl
-one_past z a (one.NewArray n w) m (suc i) h = refl
-one_past z a one.Fst m (suc i) h = refl
-one_past z a one.Snd m (suc i) h = refl
-one_past z a one.Deref m (suc i) h = refl
-one_past z a one.Not m (suc i) h = refl
-one_past z a (one.Scope p) m (suc i) h = refl
-one_past z a (one.Held k op) m (suc i) h = refl
-one_past z a (one.Put k) m (suc i) h = refl
-
-pub two_past : (z : Zone) (f : TwoParts) (m n : Term) (i : ℕ) → 1 < i → child z (two_term f m n) i ≡ None
-two_past z f m n zero h = absurd (omega (arith, h))
-two_past z f m n (suc zero) h = absurd (omega (arith, h))
-two_past z two.App m n (suc (suc i)) h = refl
-two_past z two.Both m n (suc (suc i)) h = refl
-two_past z two.Seq m n (suc (suc i)) h = refl
-two_past z two.Par m n (suc (suc i)) h = refl
-two_past z two.While m n (suc (suc i)) h = refl
-two_past z two.Assign m n (suc (suc i)) h = refl
-two_past z (two.Bin op) m n (suc (suc i)) h = refl
-
-pub if_past : (z : Zone) (m n p : Term) (i : ℕ) → 0 < i → child z (If m n p) i ≡ None
-if_past z m n p zero h = absurd (omega (arith, h))
-if_past z m n p (suc i) h = refl
-
-pub one_with : (a : Tables) (f : OnePart) (m x : Term) → with_child 0 (one_term a f m) x ≡ one_term a f x
-one_with a (one.Lam t) m x = refl
-one_with a (one.New w) m x = refl
-one_with a (one.NewArray n w) m x = refl
-one_with a one.Fst m x = refl
-one_with a one.Snd m x = refl
-one_with a one.Deref m x = refl
-one_with a one.Not m x = refl
-one_with a (one.Scope p) m x = refl
-one_with a (one.Held k op) m x = refl
-one_with a (one.Put k) m x = refl
-
-pub first_with : (f : TwoParts) (m n x : Term) → with_child 0 (two_term f m n) x ≡ two_term f x n
-first_with two.App m n x = refl
-first_with two.Both m n x = refl
-first_with two.Seq m n x = refl
-first_with two.Par m n x = refl
-first_with two.While m n x = refl
-first_with two.Assign m n x = refl
-first_with (two.Bin op) m n x = refl
-
-pub second_with : (f : TwoParts) (m n x : Term) → with_child 1 (two_term f m n) x ≡ two_term f m x
-second_with two.App m n x = refl
-second_with two.Both m n x = refl
-second_with two.Seq m n x = refl
-second_with two.Par m n x = refl
-second_with two.While m n x = refl
-second_with two.Assign m n x = refl
-second_with (two.Bin op) m n x = refl
 
 -- frames in a list that grows
 pub fill_keeps : (l l' : Listed) (f : Frame) (m : Term) → Keeps l l' → FitsFrame l.tables (length l.nodes) f → fill l' f m ≡ fill l f m

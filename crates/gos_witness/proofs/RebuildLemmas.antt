@@ -1,10 +1,10 @@
 -- A part is put in again, frame by frame.
-use Rattle.std.proofs.Common.{◌≡◌, ◌<◌, ℕ, List, [], ◌∷◌, ◌++◌, length, refl, sym, ap, ◌∙◌}
+use Rattle.std.proofs.Common.{◌≡◌, ◌<◌, ℕ, List, [], ◌∷◌, ◌++◌, length, sym, ap, ◌∙◌}
 use Rattle.gos_witness.specs.declared.walking.Frame.{Frame}
 use Rattle.gos_witness.specs.NodeLists.{Listed, seen}
 use Rattle.gos_witness.specs.inner.Keeping.{Keeps}
 use Rattle.gos_witness.specs.inner.Places.{fill, plug, AreFrames}
-use Rattle.gos_witness.proofs.KeepLemmas.{keeps_same, keeps_twice}
+use Rattle.gos_witness.proofs.KeepLemmas.{keeps_twice}
 use Rattle.gos_witness.proofs.PlaceLemmas.{plug_more, frames_less, fill_keeps}
 
 -- a list a became l, and the frames that are left stand around the whole so far as all did around the part
@@ -13,15 +13,6 @@ pub record IsRebuilding (a l : Listed) (whole part : ℕ) (now all : List Frame)
   pub there : whole < length l.nodes
   pub frames : AreFrames a.tables (length a.nodes) now
   pub term : plug a now (seen l whole) ≡ plug a all (seen a part)
-
-pub rebuilding_begins : (a : Listed) (part : ℕ) (all : List Frame) → part < length a.nodes → AreFrames a.tables (length a.nodes) all
-    → IsRebuilding a a part part all all
-rebuilding_begins a part all there frames = record {
-  keeps = keeps_same a;
-  there = there;
-  frames = frames;
-  term = refl;
-}
 
 pub rebuilding_goes_on : (a l l' : Listed) (whole next part : ℕ) (fs : List Frame) (f : Frame) (all : List Frame)
     → IsRebuilding a l whole part (fs ++ f ∷ []) all → Keeps l l' → next < length l'.nodes → seen l' next ≡ fill l f (seen l whole)

@@ -8,20 +8,18 @@ use Rattle.gos_types.specs.Types.{Type', Com, Exp, Var, Fun}
 use Rattle.gos_netlist.specs.declared.nets.Ground.{Ground}
 use Rattle.gos_netlist.specs.declared.nets.Ground.TheVariants as grounds
 use Rattle.gos_netlist.specs.Seen.{ground_type}
-use Rattle.gos_model.specs.Terms.{Name, Term, Skip, Lit, If, Import, Deref, Wait, Put}
+use Rattle.gos_model.specs.Terms.{Name, Term, Skip, Lit, Import, Deref, Wait, Put}
 use Rattle.gos_model.specs.Typing.{Imports, import_type}
 use Rattle.gos_model.specs.Accesses.{IsArrayImport}
 use Rattle.gos_model.specs.Labels as shown
-use Rattle.gos_model.specs.Labels.{Given, Taken, IsAnswer}
+use Rattle.gos_model.specs.Labels.{Taken, IsAnswer}
 use Rattle.gos_witness.specs.declared.labels.Label.{Label}
 use Rattle.gos_witness.specs.declared.nodes.Leaf.{Leaf}
 use Rattle.gos_witness.specs.declared.nodes.Leaf.TheVariants as leaves
 use Rattle.gos_witness.specs.declared.nodes.OnePart.{OnePart}
 use Rattle.gos_witness.specs.declared.nodes.OnePart.TheVariants as one
-use Rattle.gos_witness.specs.declared.nodes.TwoParts.{TwoParts}
-use Rattle.gos_witness.specs.declared.nodes.TwoParts.TheVariants as two
 use Rattle.gos_witness.specs.declared.program.ProgramPort.{ProgramPort}
-use Rattle.gos_witness.specs.NodeLists.{Tables, Listed, FitsLeaf, leaf_term, one_term, two_term}
+use Rattle.gos_witness.specs.NodeLists.{Tables, Listed, FitsLeaf, leaf_term, one_term}
 use Rattle.gos_witness.specs.inner.Rows.{IsPortOf, label_at, Shows, LeafShows, ShowsTo, IsAnswered, event_behind}
 
 no_function : (g : Ground) (a b : Type') → ground_type g ≡ Fun a b → ⊥
@@ -105,34 +103,6 @@ pub record Asks (p : ProgramPort) (o : Label) (x : Name) (t : Term) : Type 0 whe
   pub value : o.value ≡ 0
   pub term : t ≡ Wait x 1
 
-pub ask_is : (is : Imports) (p : ProgramPort) (o : Label) (x : Name) (t : Term) → IsPortOf is p → Shows is (label_at p o) (Import x) t → Asks p o x t
-ask_is is p o x t port (inl (inl (ty, eo, et))) =
-    let same = ap (λ (q : shown.Label). q.port) eo in
-    record {
-      name = port_name p x same;
-      type = inl (port_type is p x Com port same ty);
-      place = ap (λ (q : shown.Label). q.event) eo;
-      value = ap (λ (q : shown.Label). q.value) eo;
-      term = et;
-    }
-ask_is is p o x t port (inl (inr (w, ty, eo, et))) =
-    let same = ap (λ (q : shown.Label). q.port) eo in
-    record {
-      name = port_name p x same;
-      type = inr (w, port_type is p x (Exp w) port same ty);
-      place = ap (λ (q : shown.Label). q.event) eo;
-      value = ap (λ (q : shown.Label). q.value) eo;
-      term = et;
-    }
-ask_is is p o x t port (inr h) = absurd h
-
-pub ask_shows : (is : Imports) (p : ProgramPort) (o : Label) → IsPortOf is p → (ground_type p.ground ≡ Com) ⊎ ((w : ℕ) × (ground_type p.ground ≡ Exp w))
-    → o.place ≡ 0 → o.value ≡ 0 → Shows is (label_at p o) (Import p.name) (Wait p.name 1)
-ask_shows is p o port (inl ty) place value =
-    inl (inl (port ∙ ap (λ (t : Type'). Some t) ty, (λ i. shown.taken p.name (place i) (value i)), refl))
-ask_shows is p o port (inr (w, ty)) place value =
-    inl (inr (w, port ∙ ap (λ (t : Type'). Some t) ty, (λ i. shown.taken p.name (place i) (value i)), refl))
-
 -- an answer is taken
 pub record Answered (p : ProgramPort) (o : Label) (x : Name) (s : ℕ) (t : Term) : Type 0 where
   pub name : p.name ≡ x
@@ -152,44 +122,6 @@ answer_is is p o x s t port (inl h) = absurd h
 pub answer_shows : (is : Imports) (p : ProgramPort) (o : Label) (s : ℕ) (t : Term) → IsPortOf is p → o.place ≡ s → IsAnswer (Some (ground_type p.ground)) s o.value t
     → Shows is (label_at p o) (Wait p.name s) t
 answer_shows is p o s t port event h = inr (refl, event, subst (λ (ty : Option Type'). IsAnswer ty s o.value t) (sym port) h)
-
--- the root's port shows nothing at a place
-no_given : (o : shown.Label) (x : Name) → o.port ≡ Given → o.port ≡ Taken x → ⊥
-no_given o x e f = let same : Given ≡ Taken x = sym e ∙ f in cc same
-
-pub root_shows : (is : Imports) (o : shown.Label) (m t : Term) → o.port ≡ Given → Shows is o m t → ⊥
-root_shows is o (Import x) t g (inl (inl (ty, e, et))) = no_given o x g (ap (λ (q : shown.Label). q.port) e)
-root_shows is o (Import x) t g (inl (inr (w, ty, e, et))) = no_given o x g (ap (λ (q : shown.Label). q.port) e)
-root_shows is o (Deref m) t g (inl (inl (x, w, em, ty, e, et))) = no_given o x g (ap (λ (q : shown.Label). q.port) e)
-root_shows is o (Deref m) t g (inl (inr (x, port, h))) = no_given o x g port
-root_shows is o (Deref m) t g (inr (x, port, h)) = no_given o x g port
-root_shows is o (Put m k) t g (inl (inl (x, w, em, ty, e, et))) = no_given o x g (ap (λ (q : shown.Label). q.port) e)
-root_shows is o (Put m k) t g (inl (inr (x, port, h))) = no_given o x g port
-root_shows is o (Put m k) t g (inr (x, port, h)) = no_given o x g port
-root_shows is o (Wait x s) t g (inr (port, e, h)) = no_given o x g port
-root_shows is o m t g (inl h) = h
-root_shows is o m t g (inr h) = h
-
--- forms of two parts and choices show nothing, nor do most of one part
-pub two_shows : (is : Imports) (o : shown.Label) (f : TwoParts) (m n t : Term) → Shows is o (two_term f m n) t → ⊥
-two_shows is o two.App m n t (inl h) = h
-two_shows is o two.Both m n t (inl h) = h
-two_shows is o two.Seq m n t (inl h) = h
-two_shows is o two.Par m n t (inl h) = h
-two_shows is o two.While m n t (inl h) = h
-two_shows is o two.Assign m n t (inl h) = h
-two_shows is o (two.Bin op) m n t (inl h) = h
-two_shows is o two.App m n t (inr h) = h
-two_shows is o two.Both m n t (inr h) = h
-two_shows is o two.Seq m n t (inr h) = h
-two_shows is o two.Par m n t (inr h) = h
-two_shows is o two.While m n t (inr h) = h
-two_shows is o two.Assign m n t (inr h) = h
-two_shows is o (two.Bin op) m n t (inr h) = h
-
-pub if_shows : (is : Imports) (o : shown.Label) (m n p t : Term) → Shows is o (If m n p) t → ⊥
-if_shows is o m n p t (inl h) = h
-if_shows is o m n p t (inr h) = h
 
 -- what a label needs of a form of one part, and where it leads
 abbrev pub OneNeeds : ProgramPort → Label → OnePart → Term → Term → Type 0

@@ -1,14 +1,12 @@
 -- How many nodes and binders a form adds to those of its parts.
-use Rattle.std.proofs.Common.{◌≡◌, ◌+◌, ◌-◌, refl, arith}
-use Rattle.std.specs.Prelude.{max}
+use Rattle.std.proofs.Common.{◌≡◌, ◌+◌, refl}
 use Rattle.gos_model.specs.Terms.{Term}
 use Rattle.gos_witness.specs.Sizes.{size}
-use Rattle.gos_witness.specs.Needs.{needs}
 use Rattle.gos_witness.specs.declared.nodes.OnePart.{OnePart}
 use Rattle.gos_witness.specs.declared.nodes.OnePart.TheVariants as one
 use Rattle.gos_witness.specs.declared.nodes.TwoParts.{TwoParts}
 use Rattle.gos_witness.specs.declared.nodes.TwoParts.TheVariants as two
-use Rattle.gos_witness.specs.NodeLists.{Tables, one_term, two_term, binders_of}
+use Rattle.gos_witness.specs.NodeLists.{Tables, one_term, two_term}
 
 pub size_one : (a : Tables) (o : OnePart) (m : Term) → size (one_term a o m) ≡ 1 + size m
 size_one a (one.Lam t) m = refl
@@ -30,24 +28,3 @@ size_two two.Par m p = refl
 size_two two.While m p = refl
 size_two two.Assign m p = refl
 size_two (two.Bin op) m p = refl
-
-pub needs_one : (a : Tables) (o : OnePart) (m : Term) → needs (one_term a o m) ≡ needs m - binders_of o
-needs_one a (one.Lam t) m = refl
-needs_one a (one.New w) m = refl
-needs_one a (one.NewArray n w) m = refl
-needs_one a one.Fst m = omega arith
-needs_one a one.Snd m = omega arith
-needs_one a one.Deref m = omega arith
-needs_one a one.Not m = omega arith
-needs_one a (one.Scope p) m = omega arith
-needs_one a (one.Held j op) m = omega arith
-needs_one a (one.Put j) m = omega arith
-
-pub needs_two : (o : TwoParts) (m p : Term) → needs (two_term o m p) ≡ max (needs m) (needs p)
-needs_two two.App m p = refl
-needs_two two.Both m p = refl
-needs_two two.Seq m p = refl
-needs_two two.Par m p = refl
-needs_two two.While m p = refl
-needs_two two.Assign m p = refl
-needs_two (two.Bin op) m p = refl

@@ -4,7 +4,7 @@ use Rattle.std.specs.Prelude.{slice_get, IfSome}
 use Rattle.std.proofs.lemmas.Option.{slice_get_within, none-some}
 use Rattle.gos_model.specs.Terms.{Term, Lit}
 use Rattle.gos_model.specs.Labels as shown
-use Rattle.gos_model.specs.Labels.{Given, Taken, given}
+use Rattle.gos_model.specs.Labels.{Given, given}
 use Rattle.gos_model.specs.Moves.{Program, Config, Idle, Running, Answers}
 use Rattle.gos_witness.specs.declared.labels.Label.{Label}
 use Rattle.gos_witness.specs.declared.moves.Line.{Line}
@@ -18,7 +18,7 @@ use Rattle.gos_witness.specs.Programs.{SeenProgram, program_of}
 use Rattle.gos_witness.specs.Lines.{Stand, MakesFrom}
 use Rattle.gos_witness.specs.inner.Keeping.{Keeps}
 use Rattle.gos_witness.specs.inner.Rows.{AreNarrow, entries_of}
-use Rattle.gos_witness.specs.inner.Changes.{UnfoldsAt, StepsAt, ShowsAt}
+use Rattle.gos_witness.specs.inner.Changes.{ShowsAt}
 use Rattle.gos_witness.specs.inner.Stages.{HasValue, config_of, stand_of, IsStage, IsMade}
 use Rattle.gos_witness.proofs.KeepLemmas.{keeps_twice}
 
@@ -112,18 +112,6 @@ begin_made p labels g h o stage there none at ep es ek keeps er empty em =
         runs h.list h.running p.root h.store.items er
         ∙ (λ i. Running (known.program.terms p.root there i) (entries_of (empty i)))
 
--- from Idle nothing else is made
-pub begin_other : (p : SeenProgram) (labels : List Label) (g h : Stage) (line : Line) → g.running ≡ None → (line ≡ lines.Root → ⊥) → IsMade p labels line g h false
-begin_other p labels g h line none other b makes =
-    by line other (from_there (program_of p) line Idle (config_of g.list g.running g.store.items) (labels_of p.ports (drop g.matched labels))
-    (labels_of p.ports (drop g.matched labels)) b (sym (idles g.list g.running g.store.items none)) refl makes)
-  where
-    by : (x : Line) → (x ≡ lines.Root → ⊥) → MakesFrom (program_of p) x Idle (labels_of p.ports (drop g.matched labels)) b → ⊥
-    by (lines.Unfold path) never h = h
-    by (lines.Step path) never h = h
-    by (lines.Label path) never h = h
-    by lines.Root never h = never refl
-
 -- no label is left
 pub root_none : (p : SeenProgram) (labels : List Label) (g h : Stage) → slice_get labels g.matched ≡ None → IsMade p labels lines.Root g h false
 root_none p labels g h none b makes =
@@ -203,57 +191,6 @@ pub value_none : (p : SeenProgram) (labels : List Label) (g h : Stage) (root : �
     → ((k : ℕ) → HasValue (seen g.list root) k → ⊥) → IsMade p labels lines.Root g h false
 value_none p labels g h root o some at never =
     answer_wrong p labels g h root o some at (λ answers. let (j, value, same) = answers_have p.ports o (seen g.list root) answers in never j value)
-
--- an unfolding
-pub unfold_made : (p : SeenProgram) (labels : List Label) (g h : Stage) (root next : ℕ) (path : List ℕ) → IsStage p labels g → g.running ≡ Some root
-    → UnfoldsAt h.list path (seen g.list root) (Some next) → Keeps g.list h.list → h.running ≡ Some next → h.store.items ≡ g.store.items → h.matched ≡ g.matched
-    → IsMade p labels (lines.Unfold path) g h true
-unfold_made p labels g h root next path stage some (there, does) keeps er es em = (
-  staged p labels g h (Some next) stage er there (subst AreNarrow (sym es) stage.narrow) keeps (omega (arith, em, stage.matched)),
-  from_there (program_of p) (lines.Unfold path) (config_of g.list g.running g.store.items) (Running (seen g.list root) (entries_of g.store.items))
-      (labels_of p.ports (drop g.matched labels)) (labels_of p.ports (drop g.matched labels)) (stand_of p.ports labels h)
-      (runs g.list g.running root g.store.items some) refl
-      (seen h.list next, does, stands p labels h (Running (seen h.list next) (entries_of g.store.items)) g.matched config em),
-  keeps,
-)
-  where
-    config : config_of h.list h.running h.store.items ≡ Running (seen h.list next) (entries_of g.store.items)
-    config = runs h.list h.running next h.store.items er ∙ ap (λ (s : List Entry). Running (seen h.list next) (entries_of s)) es
-
-pub unfold_wrong : (p : SeenProgram) (labels : List Label) (g h : Stage) (l : Listed) (root : ℕ) (path : List ℕ) → g.running ≡ Some root
-    → UnfoldsAt l path (seen g.list root) None → IsMade p labels (lines.Unfold path) g h false
-unfold_wrong p labels g h l root path some never b makes =
-    let (t, does, is) =
-    from_there (program_of p) (lines.Unfold path) (Running (seen g.list root) (entries_of g.store.items)) (config_of g.list g.running g.store.items)
-    (labels_of p.ports (drop g.matched labels)) (labels_of p.ports (drop g.matched labels)) b
-    (sym (runs g.list g.running root g.store.items some)) refl makes in
-    never t does
-
--- a step
-pub step_made : (p : SeenProgram) (labels : List Label) (g h : Stage) (root next : ℕ) (path : List ℕ) → IsStage p labels g → g.running ≡ Some root
-    → StepsAt h.list path g.store.items h.store.items (seen g.list root) (Some next) → Keeps g.list h.list → h.running ≡ Some next → AreNarrow h.store.items → h.matched ≡ g.matched
-    → IsMade p labels (lines.Step path) g h true
-step_made p labels g h root next path stage some (there, does) keeps er narrow em = (
-  staged p labels g h (Some next) stage er there narrow keeps (omega (arith, em, stage.matched)),
-  from_there (program_of p) (lines.Step path) (config_of g.list g.running g.store.items) (Running (seen g.list root) (entries_of g.store.items))
-      (labels_of p.ports (drop g.matched labels)) (labels_of p.ports (drop g.matched labels)) (stand_of p.ports labels h)
-      (runs g.list g.running root g.store.items some) refl (
-        seen h.list next,
-        entries_of h.store.items,
-        does,
-        stands p labels h (Running (seen h.list next) (entries_of h.store.items)) g.matched (runs h.list h.running next h.store.items er) em,
-      ),
-  keeps,
-)
-
-pub step_wrong : (p : SeenProgram) (labels : List Label) (g h : Stage) (l : Listed) (s : List Entry) (root : ℕ) (path : List ℕ) → g.running ≡ Some root
-    → StepsAt l path g.store.items s (seen g.list root) None → IsMade p labels (lines.Step path) g h false
-step_wrong p labels g h l s root path some never b makes =
-    let (t, r, does, is) =
-    from_there (program_of p) (lines.Step path) (Running (seen g.list root) (entries_of g.store.items)) (config_of g.list g.running g.store.items)
-    (labels_of p.ports (drop g.matched labels)) (labels_of p.ports (drop g.matched labels)) b
-    (sym (runs g.list g.running root g.store.items some)) refl makes in
-    never r t does
 
 -- a label
 pub show_made : (p : SeenProgram) (labels : List Label) (g h : Stage) (root next : ℕ) (path : List ℕ) (o : Label) → IsStage p labels g → g.running ≡ Some root

@@ -1,17 +1,14 @@
 -- What serves the imports of a module, from the nodes of its givers.
 use Rattle.std.proofs.Common.{◌≡◌, ℕ, Bool, true, false, List, [], ◌∷◌, ◌++◌, length, refl, sym, ap, Option, Some, None, ◌∙◌}
-use Rattle.std.specs.Prelude.{if◌then◌else◌, ◌&&◌, slice_get, Result, Ok, Err, IfOk}
+use Rattle.std.specs.Prelude.{if◌then◌else◌, ◌&&◌, slice_get}
 use Rattle.std.specs.Str.{bytes_eq}
-use Rattle.gos_types.specs.declared.fault.NoMemory.{NoMemory}
-use Rattle.gos_syntax.specs.Modules.{SeenImport, SeenModule}
+use Rattle.gos_syntax.specs.Modules.{SeenImport}
 use Rattle.gos_model.specs.Terms.{Name}
-use Rattle.gos_model.specs.Linking.{with_giver}
 use Rattle.gos_witness.specs.declared.adding.Supply.{Supply}
 use Rattle.gos_witness.specs.declared.binding.Bound.{Bound}
-use Rattle.gos_witness.specs.NodeLists.{Listed, seen}
 use Rattle.gos_witness.specs.Substituted.{import_name, name_if}
-use Rattle.gos_witness.specs.inner.Adding.{node_for, AreThere, IsAdded, meant, tree}
-use Rattle.gos_witness.specs.inner.Built.{or_else, is_made, node_if, node_of, giver_in, is_ready, AreBelow, AreImports, AreMade, IsModuleNode}
+use Rattle.gos_witness.specs.inner.Adding.{node_for}
+use Rattle.gos_witness.specs.inner.Built.{or_else, is_made, node_if, node_of, giver_in, is_ready, AreBelow, AreImports}
 
 -- a supply more
 last_supply : (ss : List Supply) (s : Supply) (o : Option ℕ) (x : Name)
@@ -40,30 +37,6 @@ supply_more is nodes ss s b bs x named at =
     by : (c : Bool) → (if c then Some s.node else node_of nodes (giver_in is bs x)) ≡ node_of nodes (if c then Some b.giver else giver_in is bs x)
     by true = sym at
     by false = refl
-
--- the supplies are nodes
-there_of : (nodes : List (Option ℕ)) (g : Option ℕ) (n : ℕ) → node_of nodes g ≡ Some n → (u : ℕ) × (slice_get nodes u ≡ Some (Some n))
-there_of nodes None n e = absurd (cc e)
-there_of nodes (Some g) n e = (g, by (slice_get nodes g) e)
-  where
-    by : (o : Option (Option ℕ)) → node_if o ≡ Some n → o ≡ Some (Some n)
-    by None h = absurd (cc h)
-    by (Some o) h = ap Some h
-
-pub supplies_there : (l : Listed) (nodes : List (Option ℕ)) (is : List SeenImport) (bs : List Bound) (ss : List Supply) → AreMade l nodes
-    → ((x : Name) → node_for ss x ≡ node_of nodes (giver_in is bs x)) → AreThere l ss
-supplies_there l nodes is bs ss made serves x n e =
-    let (u, at) = there_of nodes (giver_in is bs x) n (sym (serves x) ∙ e) in made u n at
-
--- and serve the terms of the givers
-pub module_node : (old new : Listed) (m : SeenModule) (bs : List Bound) (nodes : List (Option ℕ)) (ss : List Supply) (r : Result ℕ NoMemory)
-    → ((x : Name) → node_for ss x ≡ node_of nodes (giver_in m.imports bs x))
-    → IfOk r (IsAdded old new ss (meant [] (tree m.body))) → IfOk r (IsModuleNode old new m bs nodes)
-module_node old new m bs nodes ss (Ok n) serves added = record {
-  there = added.there;
-  term = λ f givers. added.term f (λ x. ap (with_giver (seen old)) (serves x) ∙ givers x);
-}
-module_node old new m bs nodes ss (Err e) serves added = tt
 
 -- the supplies so far, or else those of the rest, are those of all binds
 abbrev pub AreSupplies : List SeenImport → List (Option ℕ) → List Bound → List Supply → List Bound → Type 0

@@ -8,7 +8,7 @@ use Rattle.gos_model.specs.Terms.{Name, Term, Skip}
 use Rattle.gos_witness.specs.declared.nodes.Form.{Form}
 use Rattle.gos_witness.specs.declared.nodes.Form.TheVariants as forms
 use Rattle.gos_witness.specs.declared.nodes.Node.{Node}
-use Rattle.gos_witness.specs.NodeLists.{Tables, Listed, type_or_com, name_or_none, type_at, name_at, form_term, grown, terms, Fits, IsKept}
+use Rattle.gos_witness.specs.NodeLists.{Tables, Listed, type_or_com, name_or_none, form_term, grown, terms, Fits, IsKept}
 use Rattle.gos_witness.specs.inner.Keeping.{KeepsTables, Keeps}
 use Rattle.gos_witness.proofs.KeepLemmas.{leaf_keeps, one_keeps, right_keeps, one_longer}
 
@@ -48,10 +48,6 @@ get_more : {A : Type 0} (xs : List A) (x : A) (i : ℕ) → i < length xs → sl
 get_more [] x i h = absurd (omega (arith, h))
 get_more (y ∷ xs) x zero h = refl
 get_more (y ∷ xs) x (suc i) h = get_more xs x i (omega (arith, h))
-
-pub get_last : {A : Type 0} (xs : List A) (x : A) → slice_get (xs ++ x ∷ []) (length xs) ≡ Some x
-get_last [] x = refl
-get_last (y ∷ xs) x = get_last xs x
 
 pub type_more : (a : Tables) (t : Ty) → KeepsTables a (record a { types = a.types ++ t ∷ [] })
 type_more a t =
@@ -96,10 +92,3 @@ tables_copied a types e =
       more_names = omega arith;
       names = λ i h. refl;
     }
-
--- the last type, and the last name
-pub type_last : (a : Tables) (t : Ty) → type_at (record a { types = a.types ++ t ∷ [] }) (length a.types) ≡ type_of t
-type_last a t = ap type_or_com (get_last a.types t)
-
-pub name_last : (a : Tables) (x : Name) → name_at (record a { names = a.names ++ x ∷ [] }) (length a.names) ≡ x
-name_last a x = ap name_or_none (get_last a.names x)

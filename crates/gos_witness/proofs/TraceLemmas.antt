@@ -45,7 +45,7 @@ cycle_stage ports from are =
     record {
       to = to;
       from = back;
-      code = number_code from 999999 32 (omega arith) (inr refl);
+      code = number_code from 999999 32 (omega arith) refl;
       completes = λ t range.
           let o = some_label ports are in
           (line (label_text ports o.0), (Pulse t o.0, (refl, o.1, refl)));
@@ -106,7 +106,7 @@ number_stage from =
     record {
       to = to;
       from = back;
-      code = number_code (from + 1) 1000000 10 (omega arith) (inl refl);
+      code = number_code (from + 1) 1000000 10 (omega arith) refl;
       completes = λ n range. ([], (Last n, (refl, refl)));
     }
   where
@@ -322,14 +322,14 @@ entry_code ports from named are v w x y is_v is_w same = by v w is_v is_w same
     by (Pulse t o) (Pulse u q) is_v is_w same =
         let one = ap (λ bytes. bytes ++ x) (pulse_parts ports t o) ∙ append_assoc (cycle_text t) (line (label_text ports o)) x in
         let other = ap (λ bytes. bytes ++ y) (pulse_parts ports u q) ∙ append_assoc (cycle_text u) (line (label_text ports q)) y in
-        let cycle = number_code 0 999999 32 (omega arith) (inr refl) t u (line (label_text ports o) ++ x) (line (label_text ports q) ++ y) (omega arith, is_v.1) (omega arith, is_w.1) (sym one ∙ (same ∙ other)) in
+        let cycle = number_code 0 999999 32 (omega arith) refl t u (line (label_text ports o) ++ x) (line (label_text ports q) ++ y) (omega arith, is_v.1) (omega arith, is_w.1) (sym one ∙ (same ∙ other)) in
         let label = label_code ports named are o q x y is_v.2 is_w.2 cycle.1 in
         ((λ i. Pulse (cycle.0 i) (label.0 i)), label.1)
     by (Pulse t o) (Last m) is_v is_w same = absurd (apart t m o x y is_v.1 same)
     by (Last n) (Pulse u q) is_v is_w same = absurd (apart u n q y x is_w.1 (sym same))
     by (Last n) (Last m) is_v is_w same =
         let rest = append_cancel_left (codes "cycles ") (count_text n ++ x) (count_text m ++ y) same in
-        let known = number_code 0 1000000 10 (omega arith) (inl refl) n m x y (omega arith, is_v.1) (omega arith, is_w.1) rest in
+        let known = number_code 0 1000000 10 (omega arith) refl n m x y (omega arith, is_v.1) (omega arith, is_w.1) rest in
         (ap Last known.0, known.1)
 
 -- a line, and what is left behind it

@@ -1,9 +1,8 @@
 -- A way, step by step, and the line at its end.
 use Rattle.std.proofs.Common.{◌≡◌, ℕ, zero, suc, List, [], ◌∷◌, ◌++◌, refl, sym, ap, subst, ◌∙◌, append_assoc, append-nil}
 use Rattle.std.specs.Prelude.{IfOk, Result, Ok, Err}
-use Rattle.gos_model.specs.Terms.{Term, Arr, App, Both, Fst, Snd, Deref, Wait, Put}
+use Rattle.gos_model.specs.Terms.{Term, Arr, App, Fst, Snd, Deref, Wait, Put}
 use Rattle.gos_model.specs.Reach.{Rewrites}
-use Rattle.gos_model.specs.Steps.{IsValue}
 use Rattle.gos_model.specs.Labels.{Port}
 use Rattle.gos_programs.specs.contexts.Contexts.{Context, plug, plug_all}
 use Rattle.gos_swaps.specs.doings.Doings.{Unfolding}
@@ -39,9 +38,6 @@ path_with (d ∷ cs) c = ap (λ (z : List ℕ). way d ++ z) (path_with cs c) ∙
 out_more : (o : Port) (cs : List Context) (c : Context) → AreOut o cs → IsOut o c → AreOut o (cs ++ c ∷ [])
 out_more o [] c out one = (one, tt)
 out_more o (d ∷ cs) c out one = (out.0, out_more o cs c out.1 one)
-
-pub way_begins : (o : Port) (m : Term) → (IsValue m → ⊥) → IsOnWay o [] m m
-way_begins o m alive = record { around = []; whole = refl; path = refl; out = tt; alive = alive }
 
 pub way_goes : (l : Listed) (o : Port) (steps more : List ℕ) (m x : Term) (part : ℕ) → IsOnWay o steps m x → GoesInto l o x more part → IsOnWay o (steps ++ more) m (seen l part)
 way_goes l o steps more m x part on (c, ex, at, out, alive) = record {

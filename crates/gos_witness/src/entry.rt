@@ -11,7 +11,6 @@ ghost use Rattle.gos_witness.specs.Ports.{ArePorts};
 ghost use Rattle.gos_witness.specs.inner.Left.{End, Leads, Breaks};
 ghost use Rattle.gos_witness.specs.inner.TraceParts.{names_of, type_at, event_heads, head_at, value_width, IsValue, value_text, IsValueText, LabelLeft, PulseLeft, LastLeft, IsEntry, IsEntryText, entry_text};
 
-use crate::item::number;
 use crate::labels::Label;
 use crate::port_table::PortTable;
 use crate::program::ProgramPort;
@@ -73,7 +72,7 @@ fn last(cursor: &mut Cursor, from: u64) -> Result<Entry, usize>
     ensures wrong { IfErr result (Breaks seen.Entry (LastLeft from) cursor.old) }
 {
     cursor.word(b"cycles ")?;
-    let cycles = number(cursor, from + 1, MOST_CYCLES, b'\n')?;
+    let cycles = cursor.ended_number(from + 1, MOST_CYCLES, b'\n')?;
     Ok(Entry::Last(cycles))
 }
 
@@ -90,7 +89,7 @@ fn pulse(
     ensures passed { IfOk result (λ entry. Leads seen.Entry (PulseLeft ports.now from) (End seen.Entry entry) cursor.old cursor.new) }
     ensures wrong { IfErr result (Breaks seen.Entry (PulseLeft ports.now from) cursor.old) }
 {
-    let cycle = number(cursor, from, LAST_CYCLE, b' ')?;
+    let cycle = cursor.ended_number(from, LAST_CYCLE, b' ')?;
     let label = label_line(cursor, table, ports)?;
     Ok(Entry::Pulse(cycle, label))
 }
@@ -198,7 +197,7 @@ fn value(cursor: &mut Cursor, ground: Ground, place: usize) -> Result<u64, usize
 {
     match value_width(ground, place) {
         None => Ok(0),
-        Some(width) => number(cursor, 0, greatest(width), b'\n'),
+        Some(width) => cursor.ended_number(0, greatest(width), b'\n'),
     }
 }
 

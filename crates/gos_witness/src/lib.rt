@@ -19,7 +19,6 @@ mod compacting;
 mod entry;
 mod fault;
 mod finding;
-mod item;
 mod labels;
 mod laws;
 mod link_laws;

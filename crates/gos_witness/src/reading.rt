@@ -7,7 +7,6 @@ ghost use Rattle.gos_witness.specs.inner.Left.{End, Leads, Breaks};
 ghost use Rattle.gos_witness.specs.inner.Parts.{BreaksOff, WholeLeft, LinesLeft};
 
 use crate::fault::ExplainFault;
-use crate::item::number;
 use crate::move_line::lines;
 use crate::moves::Line;
 use gos_lex::Cursor;
@@ -42,6 +41,6 @@ fn head(cursor: &mut Cursor) -> Result<u64, usize>
     ensures wrong { IfErr result (Breaks (List seen.Line) WholeLeft cursor.old) }
 {
     cursor.word(b"gosmoves 1\nlines ")?;
-    let count = number(cursor, 0, u64::MAX, b'\n')?;
+    let count = cursor.ended_number(0, u64::MAX, b'\n')?;
     Ok(count)
 }

@@ -5,8 +5,8 @@ use Rattle.std.specs.Prelude.{ℕ, ◌+◌, if◌then◌else◌, nat_eq, List, [
 use Rattle.gos_plan.specs.declared.contacts.Contact as held
 use Rattle.gos_plan.specs.Kinds.{Part, Contact, part_contacts}
 use Rattle.gos_plan.specs.Contacts.{contact_held}
-use Rattle.gos_gates.specs.declared.gates.Wire.{Wire}
-use Rattle.gos_gates.specs.Gates.{Outgoing, bits_out}
+use Rattle.gos_macro.specs.declared.gates.Wire.{Wire}
+use Rattle.gos_macro.specs.Gates.{Outgoing, bits_out}
 use Rattle.gos_expand.specs.Blocks.{Nets}
 use Rattle.gos_expand.specs.Gates.{outs_of, part_size}
 use Rattle.gos_expand.specs.Laid.{nets_out}

@@ -1,6 +1,6 @@
 -- The gates of a part as the program holds them, and the laws that they keep.
 --
--- Read first: Gates; Kept of gos_gates and of each of its folders.
+-- Read first: Gates; Kept of gos_macro, and those of gos_control, gos_data and gos_share.
 use Rattle.std.specs.Prelude.{ℕ, Bool, List}
 use Rattle.gos_netlist.specs.Nets.{Cell}
 use Rattle.gos_netlist.specs.Settling.{Numbers}
@@ -10,21 +10,21 @@ use Rattle.gos_plan.specs.declared.kinds.Kind.TheVariants as kinds
 use Rattle.gos_plan.specs.Seen.{part_of}
 use Rattle.gos_plan.specs.Kinds.{Part, Share}
 use Rattle.gos_plan.specs.Firing.{State, Token}
-use Rattle.gos_gates.specs.Gates.{Incoming, Outgoing}
+use Rattle.gos_macro.specs.Gates.{Incoming, Outgoing}
 use Rattle.gos_plan.specs.Ranges.{IsSmall}
-use Rattle.gos_gates.specs.Kept.{KeepLaws}
-use Rattle.gos_gates.specs.Paths.{KeepPaths}
-use Rattle.gos_gates.specs.control.Layout as control
-use Rattle.gos_gates.specs.control.Ranges.{IsControl}
-use Rattle.gos_gates.specs.control.laws.Kept.{control_gates}
-use Rattle.gos_gates.specs.control.laws.Paths.{control_paths}
-use Rattle.gos_gates.specs.values.Layout as arith
-use Rattle.gos_gates.specs.values.Ranges.{IsArith}
-use Rattle.gos_gates.specs.values.laws.Kept.{arith_gates}
-use Rattle.gos_gates.specs.values.laws.Paths.{arith_paths}
-use Rattle.gos_gates.specs.share.Layout as sharing
-use Rattle.gos_gates.specs.share.laws.Kept.{share_gates}
-use Rattle.gos_gates.specs.share.laws.Paths.{share_paths}
+use Rattle.gos_macro.specs.Kept.{KeepLaws}
+use Rattle.gos_macro.specs.Paths.{KeepPaths}
+use Rattle.gos_control.specs.Layout as control
+use Rattle.gos_control.specs.Ranges.{IsControl}
+use Rattle.gos_control.specs.laws.Kept.{control_gates}
+use Rattle.gos_control.specs.laws.Paths.{control_paths}
+use Rattle.gos_data.specs.Layout as arith
+use Rattle.gos_data.specs.Ranges.{IsArith}
+use Rattle.gos_data.specs.laws.Kept.{arith_gates}
+use Rattle.gos_data.specs.laws.Paths.{arith_paths}
+use Rattle.gos_share.specs.Layout as sharing
+use Rattle.gos_share.specs.laws.Kept.{share_gates}
+use Rattle.gos_share.specs.laws.Paths.{share_paths}
 use Rattle.gos_expand.specs.declared.gates.Gates.{Gates}
 use Rattle.gos_expand.specs.declared.gates.Gates.TheVariants as held
 

@@ -3,7 +3,7 @@
 -- Read first: Blocks; Pools of gos_netlist.
 use Rattle.std.specs.Prelude.{◌≡◌, ℕ, ◌+◌, ◌++◌, List, length}
 use Rattle.gos_netlist.specs.Nets.{Cell}
-use Rattle.gos_netlist.specs.Pools.{Pool}
+use Rattle.gos_pool.specs.Pools.{Pool}
 use Rattle.gos_expand.specs.declared.tokens.Nets as held
 use Rattle.gos_expand.specs.Blocks.{Nets}
 

@@ -11,7 +11,7 @@ use Rattle.gos_plan.proofs.WiringLemmas.{place_is}
 use Rattle.gos_realises.specs.realises.Links.{contact_in}
 use Rattle.gos_realises.proofs.joined.OriginLemmas.{at_import}
 use Rattle.gos_joining.specs.unions.Unions.{IsThere}
-use Rattle.gos_joining.specs.unions.Flat.{first_of, later, later_link, inner_links, deeper_link, flat}
+use Rattle.gos_joining.specs.unions.Flat.{first_of, later_link, inner_links, deeper_link, flat}
 use Rattle.gos_joining.proofs.unions.UnionLemmas.{Image, of_image, in_image}
 
 -- a place where there is a handshake is one of a plan that there is
@@ -86,13 +86,6 @@ of_flat w vs m has =
     plain : OfInner 0 vs m → OfWiring vs m
     plain (k, v, l, is, is_in, same) =
         let sum : first_of vs k ≡ 0 + first_of vs k = omega arith in (k, v, l, is, is_in, ap (λ (x : ℕ). later_link x l) sum ∙ same)
-
--- a place later is one of so many plans later
-pub later_is : (n : ℕ) (a b : Place) → later n a ≡ later n b → a ≡ b
-later_is n a b e =
-    let sums : n + a.plan ≡ n + b.plan = ap (λ (x : Place). x.plan) e in
-    let plans : a.plan ≡ b.plan = omega (arith, sums) in
-    place_is a b plans (ap (λ (x : Place). x.end) e)
 
 -- imports that are joined
 abbrev pub IsAt : ℕ → ℕ → Place → Type 0

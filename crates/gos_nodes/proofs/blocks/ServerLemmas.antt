@@ -3,7 +3,7 @@ use Rattle.std.specs.Prelude.{◌≡◌, ℕ, zero, suc, ◌+◌, not, ◌&&◌,
 use Rattle.std.proofs.Common.{arith, refl, sym, ap, inl, inr, ◌∙◌}
 use Rattle.std.proofs.lemmas.Option.{none-some, same_Some, slice_get_within}
 use Rattle.gos_types.specs.Events.{Direction, Request, Answer}
-use Rattle.gos_types.proofs.ListLemmas.{found_in_front, found_behind}
+use Rattle.gos_types.proofs.ListLemmas.{found_in_front}
 use Rattle.gos_model.proofs.NumberLemmas.{nat_eq_itself}
 use Rattle.gos_plan.specs.Kinds.{Contact, asks, serves, contacts_of, part_contacts}
 use Rattle.gos_plan.specs.Firing.{Slot, Req, Ans}
@@ -21,12 +21,6 @@ request_slot (Ans h) way = absurd (cc way)
 pub answer_slot : (t : Slot) → way_of t ≡ Answer → t ≡ Ans (shake_of t)
 answer_slot (Req h) way = absurd (cc way)
 answer_slot (Ans h) way = refl
-
--- the last of a list with one behind
-found_last : (xs : List Contact) (c : Contact) → slice_get (xs ++ c ∷ []) (length xs) ≡ Some c
-found_last xs c =
-    let same : length xs ≡ length xs + 0 = omega arith in
-    ap (slice_get (xs ++ c ∷ [])) same ∙ found_behind xs (c ∷ []) 0
 
 -- which of its handshakes one is
 pub data WhichContact (a : Server) (v h : ℕ) (c : Contact) : Type 0 where

@@ -50,9 +50,6 @@ pub record Inner (d : ℕ) (f : Form) (g : Stage) (ys : List Element) (s : Token
   pub ran : Moves (child g e) acts Idle (Running m st)
   pub matched : IsMatched g.plan (child g e) ys (seen g s) (Running m st)
 
-no_idle : (m : Term) (s : Store) → Running m s ≡ Idle → ⊥
-no_idle m s e = cc e
-
 -- the imports of a stage are among those of the whole
 pub stage_among : (r : Plan) (d : ℕ) (g : Stage) → NamesDiffer r.imports → IsStage r d g → AreAmong g.plan.imports r.imports
 stage_among r d g differ is = among g.plan.imports r.imports differ is.imports

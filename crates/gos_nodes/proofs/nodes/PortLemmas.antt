@@ -36,14 +36,8 @@ answer_shown p v d = refl
 passes_nothing : (p : Plan) (e : End) (v : ℕ) (o : Option Contact) (s t : Tokens) → o ≡ None → Passes p (Out e v) o s t → ⊥
 passes_nothing p e v o s t none h = subst (λ (x : Option Contact). Passes p (Out e v) x s t) none h
 
-comes_nothing : (p : Plan) (e : End) (v : ℕ) (o : Option Contact) (s t : Tokens) → o ≡ None → Passes p (In e v) o s t → ⊥
-comes_nothing p e v o s t none h = subst (λ (x : Option Contact). Passes p (In e v) x s t) none h
-
 pub no_other_out : (p : Plan) (h v : ℕ) (s t : Tokens) → IsDone p.outcome → Does p (Out (ResultEnd (suc h)) v) s t → ⊥
 no_other_out p h v s t d (port, passes) = passes_nothing p (ResultEnd (suc h)) v (contact_at p (ResultEnd (suc h))) s t (no_more p.outcome h d) passes
-
-pub no_other_in : (p : Plan) (h v : ℕ) (s t : Tokens) → IsDone p.outcome → Does p (In (ResultEnd (suc h)) v) s t → ⊥
-no_other_in p h v s t d (port, passes) = comes_nothing p (ResultEnd (suc h)) v (contact_at p (ResultEnd (suc h))) s t (no_more p.outcome h d) passes
 
 -- what passes is a handshake
 pub out_held : (p : Plan) (e : End) (v : ℕ) (s t : Tokens) → Does p (Out e v) s t

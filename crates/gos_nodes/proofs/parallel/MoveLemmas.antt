@@ -3,7 +3,7 @@ use Rattle.std.specs.Prelude.{◌≡◌, ◌≢◌, ℕ, List, [], ◌∷◌, �
 use Rattle.std.proofs.Common.{refl, sym, ap, subst, ◌∙◌}
 use Rattle.gos_model.specs.Terms.{Term}
 use Rattle.gos_model.specs.Stores.{Store}
-use Rattle.gos_model.specs.Labels.{Given, Label, given, taken}
+use Rattle.gos_model.specs.Labels.{Given, Label, taken}
 use Rattle.gos_model.specs.Moves.{Program, Config, Idle, Running, Act, Computing, Showing, Acts, Answers, Unfoldings, Moves, labels}
 use Rattle.gos_model.proofs.MoveLemmas.{moves_then}
 use Rattle.gos_programs.specs.contexts.Plugged.{AreInner}
@@ -30,14 +30,6 @@ pub idle_silent : (g : Program) (acts : List Act) (c : Config) → Moves g acts 
 idle_silent g [] c moves none = (refl, sym moves)
 idle_silent g (Computing ∷ acts) c (b, (is, to), moves) none = absurd (cc is)
 idle_silent g (Showing o ∷ acts) c (b, move, moves) none = absurd (cc none)
-
-pub idle_taken : (g : Program) (acts : List Act) (c : Config) (l : Label) → Moves g acts Idle c → labels acts ≡ l ∷ [] → l.port ≢ Given → ⊥
-idle_taken g [] c l moves none taken = cc none
-idle_taken g (Computing ∷ acts) c l (b, (is, to), moves) none taken = cc is
-idle_taken g (Showing o ∷ acts) c l (b, (is, to), moves) none taken =
-    let one : o ≡ given 0 0 = cc is in
-    let same : o ≡ l = cc none in
-    taken (sym (ap (λ (x : Label). x.port) same) ∙ ap (λ (x : Label). x.port) one)
 
 -- a program that was idle has come so far
 abbrev pub Came : Program → Config → Type 0

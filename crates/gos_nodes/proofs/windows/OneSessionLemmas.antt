@@ -1,10 +1,9 @@
 -- Lists of one session, element by element.
-use Rattle.std.specs.Prelude.{ℕ, List, [], ◌∷◌, ◌++◌, ◌⊎◌}
+use Rattle.std.specs.Prelude.{ℕ, List, [], ◌∷◌, ◌++◌}
 use Rattle.std.proofs.Common.{inl, inr, refl, ap}
-use Rattle.gos_plan.specs.Plans.{End, PartEnd, ImportEnd, ResultEnd, Plan}
+use Rattle.gos_plan.specs.Plans.{ResultEnd, Plan}
 use Rattle.gos_plan.specs.Tokens.{Element, Fire, Out, In}
-use Rattle.gos_joining.specs.webs.Cutting.{StandsIn}
-use Rattle.gos_nodes.specs.windows.OneSession.{IsAsked, Stays, AllStay, EndsWell, IsOpenSession, IsOneSession}
+use Rattle.gos_nodes.specs.windows.OneSession.{Stays, AllStay, EndsWell, IsOpenSession, IsOneSession}
 
 stay_then : (p : Plan) (xs : List Element) (y : Element) → AllStay p xs → Stays p y → AllStay p (xs ++ y ∷ [])
 stay_then p [] y all one = (one, tt)
@@ -34,14 +33,3 @@ then_one h p xs y begun one = open_is_one h p (xs ++ y ∷ []) (open_then h p xs
 pub well_before : (h : ℕ) (p : Plan) (y : Element) (ys : List Element) → Stays p y → EndsWell h p ys → EndsWell h p (y ∷ ys)
 well_before h p y ys one (inl all) = inl (one, all)
 well_before h p y ys one (inr (zs, v, all, is)) = inr (y ∷ zs, v, (one, all), ap (λ (l : List Element). y ∷ l) is)
-
--- where it passes an end, this stands in a joint
-pub out_stands : (p : Plan) (e : End) (v : ℕ) → Stays p (Out e v) → StandsIn p e
-out_stands p (PartEnd i h) v stays = absurd stays
-out_stands p (ImportEnd i h) v stays = stays
-out_stands p (ResultEnd h) v stays = absurd stays
-
-pub in_stands : (p : Plan) (e : End) (v : ℕ) → Stays p (In e v) → StandsIn p e ⊎ IsAsked p e
-in_stands p (PartEnd i h) v stays = absurd stays
-in_stands p (ImportEnd i h) v stays = stays
-in_stands p (ResultEnd h) v stays = absurd stays

@@ -12,7 +12,6 @@ use Rattle.gos_plan.proofs.JointLemmas.{joined, stands_there, contained}
 use Rattle.gos_realises.specs.realises.Realises.{AllGround, NamesDiffer}
 use Rattle.gos_realises.proofs.realises.InputLemmas.{result_asks, import_serves, one_ground}
 use Rattle.gos_realises.proofs.realises.ToldLemmas.{there_is, contains_at}
-use Rattle.gos_nodes.specs.sessions.Sessions.{bits}
 use Rattle.gos_joining.specs.webs.Cutting.{StandsIn}
 
 -- which ports there are
@@ -41,14 +40,6 @@ stands_contact p right e (j, listing, stands) =
 
 pub stands_place : (p : Plan) → IsRight p → (e : End) → StandsIn p e → (a : End) × (places_of p e ≡ Some a)
 stands_place p right e (j, listing, stands) = (j.asking, stands_there p j e right (contained p.joints j listing) stands)
-
--- the handshake of a command or an expression, and its bits
-pub result_bits : (t : Type') → IsDone t → (c : Contact) → turned_if (slice_get (contacts_of t) 0) ≡ Some c → c.answer_bits ≡ bits t
-result_bits Com done c is = ap (λ (x : Contact). x.answer_bits) (sym (same_Some _ c is))
-result_bits (Exp w) done c is = ap (λ (x : Contact). x.answer_bits) (sym (same_Some _ c is))
-result_bits (Var w) done c is = absurd done
-result_bits (Pair a b) done c is = absurd done
-result_bits (Fun a b) done c is = absurd done
 
 pub result_there : (t : Type') → IsDone t → turned_if (slice_get (contacts_of t) 0) ≡ None → ⊥
 result_there Com done none = cc none

@@ -10,7 +10,7 @@ use Rattle.gos_types.specs.Events.{Direction, Request, Answer}
 use Rattle.gos_model.specs.Typing.{Imported}
 use Rattle.gos_plan.specs.Kinds.{Contact, contacts_of}
 use Rattle.gos_plan.specs.Plans.{End, ImportEnd, ResultEnd, Plan, contact_at, contacts_of_import, turned_if, same_end}
-use Rattle.gos_plan.specs.Tokens.{Element, Fire, Out, In, way_taken, way_put}
+use Rattle.gos_plan.specs.Tokens.{Element, Fire, Out, In, way_put}
 use Rattle.gos_plan.proofs.JointLemmas.{same_is, same_itself}
 use Rattle.gos_realises.specs.realises.Regular.{count, some_open, Pass, pass, way_in, way_out, is_open, KeepsTurnsOf, whole_type, whole_end, ComesInTurn, KeepsTurns, InputsKeepTurns}
 use Rattle.gos_realises.proofs.realises.GroundTurnLemmas.{width, width_small, some_there, there_some, done_kept, result_open, result_end}
@@ -44,9 +44,6 @@ result_out p done = result_way_out p.outcome done
 
 pub way_in_of : (p : Plan) (e : End) (c : Contact) → contact_at p e ≡ Some c → way_in (contact_at p e) ≡ way_put c.role
 way_in_of p e c is = ap way_in is
-
-pub way_out_of : (p : Plan) (e : End) (c : Contact) → contact_at p e ≡ Some c → way_out (contact_at p e) ≡ way_taken c.role
-way_out_of p e c is = ap way_out is
 
 -- what is open at a plan's ports keeps its turns
 abbrev pub Turned : Plan → List Pass → Type 0

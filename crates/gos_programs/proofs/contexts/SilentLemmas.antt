@@ -1,11 +1,11 @@
 -- Lists of moves by what they show: nothing, a request, one label, an answer.
 use Rattle.std.specs.Prelude.{◌≡◌, ◌≢◌, ℕ, List, [], ◌∷◌}
-use Rattle.std.proofs.Common.{arith, refl, sym, ap, subst, inl, inr, ◌∙◌}
+use Rattle.std.proofs.Common.{refl, sym, ap, subst, inl, inr, ◌∙◌}
 use Rattle.gos_model.specs.Terms.{Term, Import, Deref, Wait, Put}
 use Rattle.gos_model.specs.Typing.{Imports}
 use Rattle.gos_model.specs.Stores.{Store}
 use Rattle.gos_model.specs.Labels.{Given, Taken, Label, given}
-use Rattle.gos_model.specs.Moves.{Program, Config, Idle, Running, Act, Computing, Showing, Unfoldings, Answers, Move, Moves, labels}
+use Rattle.gos_model.specs.Moves.{Program, Config, Idle, Running, Act, Computing, Showing, Unfoldings, Move, Moves, labels}
 use Rattle.gos_model.proofs.MoveLemmas.{unfoldings_then}
 use Rattle.gos_programs.specs.contexts.Plugged.{AreInner}
 use Rattle.gos_programs.proofs.contexts.BackwardLemmas.{OneLabel}
@@ -96,26 +96,6 @@ answer_last p (Showing o ∷ acts) m s d v (Idle, h, hs) e =
     ([], m, s, refl, refl, subst (λ (l : Label). Move p (Showing l) (Running m s) Idle) same.0 h, idle_silent p acts d same.1 hs)
 answer_last p (Showing o ∷ acts) m s d v (Running t u, h, hs) e =
     absurd (shown_taken p o s u m t h (ap (λ l. l.port) (same_head o (given 1 v) (labels acts) [] e).0))
-
--- it shows no request
-pub no_request : (p : Program) (acts : List Act) (m : Term) (s : Store) (d : Config) (v : ℕ)
-    → Moves p acts (Running m s) d → labels acts ≡ given 0 v ∷ [] → ⊥
-no_request p [] m s d v h e = no_tail (given 0 v) [] e
-no_request p (Computing ∷ acts) m s d v (Idle, (n, w, us, none), hs) e = none
-no_request p (Computing ∷ acts) m s d v (Running t u, h, hs) e = no_request p acts t u d v hs e
-no_request p (Showing o ∷ acts) m s d v (Idle, (n, w, us, h), hs) e = by_answer h
-  where
-    same : o ≡ given 0 v
-    same = (same_head o (given 0 v) (labels acts) [] e).0
-
-    zero_one : (k : ℕ) → o ≡ given 1 k → ⊥
-    zero_one k is = let eq : 0 ≡ 1 = ap (λ l. l.event) (sym same ∙ is) in omega (arith, eq)
-
-    by_answer : Answers o w → ⊥
-    by_answer (inl (is, one)) = zero_one 0 one
-    by_answer (inr (k, x, is, one)) = zero_one k one
-no_request p (Showing o ∷ acts) m s d v (Running t u, h, hs) e =
-    shown_taken p o s u m t h (ap (λ l. l.port) (same_head o (given 0 v) (labels acts) [] e).0)
 
 -- unfoldings before a move
 pub unfold_first : (p : Program) (a : Act) (acts : List Act) (n : ℕ) (m t : Term) (s : Store) (c : Config)

@@ -32,9 +32,6 @@ first_agree m n k f g sum agree h low = agree h (omega (arith, low, sum))
 beyond_agree : (m n k : ℕ) (f g : ℕ → Bool) → k ≡ m + n → Agree k f g → Agree n (beyond m f) (beyond m g)
 beyond_agree m n k f g sum agree h low = agree (m + h) (omega (arith, low, sum))
 
-one_agree : (n k : ℕ) → n ≡ k → (f g : ℕ → Bool) → Agree n f g → Agree k f g
-one_agree n k same f g agree h low = agree h (omega (arith, low, same))
-
 pub turns_agree : (t : Type') (f g : ℕ → Bool) → Agree (count t) f g → KeepsTurnsOf t f → KeepsTurnsOf t g
 turns_agree Com f g agree keeps = tt
 turns_agree (Exp w) f g agree keeps = tt

@@ -8,7 +8,7 @@ use Rattle.std.proofs.lemmas.Bool.Decides.{nat_tests}
 use Rattle.std.proofs.lemmas.Bool.{or_right}
 use Rattle.gos_types.specs.Types.{Type', Com, Exp, Var, Pair, Fun, IsGround, IsDone}
 use Rattle.gos_model.specs.Typing.{Imported}
-use Rattle.gos_plan.specs.Plans.{ImportEnd, ResultEnd}
+use Rattle.gos_plan.specs.Plans.{ResultEnd}
 use Rattle.gos_realises.specs.realises.Regular.{count, some_open, beyond, KeepsTurnsOf, whole_type, whole_end}
 pub use Rattle.gos_realises.proofs.realises.CountLemmas.{count_fun}
 use Rattle.gos_realises.proofs.realises.CountLemmas.{some_shake}
@@ -102,15 +102,3 @@ result_end k (i ∷ is) =
     let past : nat_lt (count i.ty + width is) (count i.ty) ≡ false = grind (arith, nat_tests) in
     let less : count i.ty + width is - count i.ty ≡ width is = omega arith in
     rw (past, less) (result_end (suc k) is)
-
-pub import_end : (k : ℕ) (is : List Imported) (h : ℕ) → h < width is → (i : ℕ) × (g : ℕ) × (whole_end k is h ≡ ImportEnd i g)
-import_end k [] h low = absurd (omega (arith, low))
-import_end k (x ∷ is) h low = by_test (nat_lt h (count x.ty)) refl (λ small. import_end (suc k) is (h - count x.ty) small)
-  where
-    by_test : (b : Bool) → nat_lt h (count x.ty) ≡ b
-        → (h - count x.ty < width is → (i : ℕ) × (g : ℕ) × (whole_end (suc k) is (h - count x.ty) ≡ ImportEnd i g))
-        → (i : ℕ) × (g : ℕ) × (whole_end k (x ∷ is) h ≡ ImportEnd i g)
-    by_test true t further = (k, h, rw t refl)
-    by_test false t further =
-        let past : count x.ty + (h - count x.ty) ≡ h = grind (arith, nat_tests, t) in
-        let (i, g, at) = further (omega (arith, low, past)) in (i, g, rw t at)

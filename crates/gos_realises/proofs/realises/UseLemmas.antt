@@ -83,9 +83,6 @@ asking_moved f g returns (j ∷ js) e = by_test (stands_in e j) refl (asking_mov
 abbrev pub Reach : Wiring → Place → Place → Type 0
 Reach w a b = (n : ℕ) × Path w n a b
 
-stay : (w : Wiring) (a b : Place) → a ≡ b → Reach w a b
-stay w a b e = (0, e)
-
 pub follow : (w : Wiring) (n : ℕ) (a b c : Place) → Path w n a b → Reach w b c → Reach w a c
 follow w zero a b c e rest = subst (λ x. Reach w x c) (sym e) rest
 follow w (suc n) a b c (d, step, path) rest = let (m, whole) = follow w n d b c path rest in (suc m, (d, step, whole))

@@ -7,7 +7,7 @@ use Rattle.gos_types.specs.Types.{Type'}
 use Rattle.gos_types.specs.Events.{Direction, Request, Answer}
 use Rattle.gos_plan.specs.Kinds.{Part, Share, Contact, contacts_of, turned_contact}
 use Rattle.gos_plan.specs.Firing.{Slot, Req, Ans, Row}
-use Rattle.gos_plan.specs.Plans.{End, PartEnd, ImportEnd, ResultEnd, Plan, contact_at, contacts_of_part}
+use Rattle.gos_plan.specs.Plans.{PartEnd, ImportEnd, ResultEnd, Plan, contact_at, contacts_of_part}
 use Rattle.gos_plan.specs.Tokens.{Tokens, Element, Fire, Out, In, token_at, end_of, way_of, shake_of, way_taken, way_put, firing_of, Does, Runs, IsIdle}
 use Rattle.gos_plan.specs.TokenBits.{LiteralFits}
 use Rattle.gos_plan.specs.Orderly.{Open, none_open, AllWelcome}
@@ -41,9 +41,6 @@ slot_is (Req g) Request h same number = ap Req number
 slot_is (Req g) Answer h same number = absurd (cc same)
 slot_is (Ans g) Request h same number = absurd (cc same)
 slot_is (Ans g) Answer h same number = ap Ans number
-
-none_at : (n : ℕ) (past : List Pass) (e : End) → past ≡ [] → is_open past e ≡ false
-none_at n past e none = ap (λ (x : List Pass). is_open x e) none
 
 module _ (i : ℕ) (t : Type') (c : ℕ) (r p : Plan) (is : IsBehind i t c r p) (literals : All LiteralFits p.parts) where
   -- a part is one behind the Share, or the Share

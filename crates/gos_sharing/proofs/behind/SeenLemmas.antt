@@ -12,7 +12,7 @@ use Rattle.gos_plan.specs.Firing.{Rest, State, at, Slot, Token, Row}
 use Rattle.gos_plan.specs.Plans.{End, ResultEnd, Plan, contact_at, same_end}
 use Rattle.gos_plan.specs.Tokens.{Tokens, Element, Fire, Out, In, places_of, same_way, with_place, with_state, held_at, with_held, token_at, with_token, with_puts, end_of, way_of, way_taken, way_put, firing_of, fired, Does}
 use Rattle.gos_plan.specs.Orderly.{Open, named_by, handshake_at, with_open, after_taken, after_put, after_puts, ComesWell, AllComeWell, ComesInOrder}
-use Rattle.gos_plan.proofs.JointLemmas.{same_itself, same_is, joined}
+use Rattle.gos_plan.proofs.JointLemmas.{same_is, joined}
 use Rattle.gos_plan.proofs.HeldLemmas.{takes_of}
 use Rattle.gos_plan.proofs.ElementLemmas.{firing_part}
 use Rattle.gos_realises.specs.realises.Regular.{count}
@@ -39,10 +39,6 @@ other_place x d way w held s apart = by_test (same_end d x) refl
     by_test : (b : Bool) → same_end d x ≡ b → (if same_way w way && same_end d x then held else s.in_place w d) ≡ s.in_place w d
     by_test true h = absurd (apart (same_is d x h))
     by_test false h = let no : same_way w way && same_end d x ≡ false = grind (arith, h) in ap (λ (b : Bool). if b then held else s.in_place w d) no
-
-pub this_place : (x : End) (way : Direction) (held : Option ℕ) (s : Tokens) → (with_place way x held s).in_place way x ≡ held
-this_place x Request held s = ap (λ (a : Bool). if a then held else s.in_place Request x) (same_itself x)
-this_place x Answer held s = ap (λ (a : Bool). if a then held else s.in_place Answer x) (same_itself x)
 
 module _ (i : ℕ) (t : Type') (c : ℕ) (r p : Plan) (is : IsBehind i t c r p) where
   abbrev behind : End → End

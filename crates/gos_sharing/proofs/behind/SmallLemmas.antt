@@ -38,9 +38,6 @@ not_among j a b c one two three (inr (inr (inr none))) = none
 result_part : (j k h : ℕ) → ResultEnd j ≡ PartEnd k h → ⊥
 result_part j k h e = cc e
 
-part_result : (j k h : ℕ) → PartEnd k h ≡ ResultEnd j → ⊥
-part_result j k h e = cc e
-
 part_part : (k h g : ℕ) → PartEnd k h ≡ PartEnd k g → h ≡ g
 part_part k h g e = cc e
 

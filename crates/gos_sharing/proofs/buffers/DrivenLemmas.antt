@@ -61,9 +61,6 @@ past_end (x ∷ xs) ys (suc i) j e = past_end xs ys i j (omega (arith, e))
 pub one_longer : (xs : List Part) (y : Part) → length (xs ++ (y ∷ [])) ≡ suc (length xs)
 one_longer xs y = let e = length-append xs (y ∷ []) in omega (arith, e)
 
-of_nat : (i n : ℕ) (e : End) (h : ℕ) → e ≡ PartEnd n h → IsOfPart i e → n ≡ i
-of_nat i n e h same of = subst (λ (x : End). IsOfPart i x) same of
-
 -- A plan behind a Share, driven, is a buffer before the plan with a loose part, driven.
 module _
     (v f : ℕ) (ds : List Part) (Own : ℕ → End → End → Type 0) (own : IsOwn Own) (c : ℕ) (p : Plan) (two : c < 2) (right : IsRight p)

@@ -60,11 +60,6 @@ no_import n (suc m) k j = neither ((nat_eq 0 k && false) || (nat_eq 1 k && false
     both false true = refl
     both false false = refl
 
--- one of a link's two places
-ends_of : (l m : Link) (a : Place) → l ≡ m → StandsIn a l → (a ≡ m.one) ⊎ (a ≡ m.other)
-ends_of l m a e (inl h) = inl (h ∙ ap (λ (x : Link). x.one) e)
-ends_of l m a e (inr h) = inr (h ∙ ap (λ (x : Link). x.other) e)
-
 -- where a place of the plans stands
 abbrev home_in : ℕ → ℕ → End → End
 home_in n zero e = end_behind n e

@@ -8,7 +8,7 @@ use Rattle.gos_model.specs.Terms as terms
 use Rattle.gos_model.specs.Terms.{Name, Term, Import, App, Lit}
 use Rattle.gos_model.specs.Stores.{Store}
 use Rattle.gos_model.specs.Accesses.{IsArrayImport}
-use Rattle.gos_model.specs.Labels.{Given, Taken, Label, given, taken, is_answer}
+use Rattle.gos_model.specs.Labels.{Taken, Label, given, taken, is_answer}
 use Rattle.gos_model.specs.Protocol.{is_open, shake_of, same_port}
 use Rattle.gos_model.specs.ArrayPorts.{is_asked}
 use Rattle.gos_model.specs.Moves.{Program, Config, Idle, Running, Act, Computing, Showing, Moves, labels}
@@ -17,15 +17,11 @@ use Rattle.gos_plan.specs.Plans.{PartEnd, ImportEnd, ResultEnd}
 use Rattle.gos_plan.specs.Tokens.{Element, Fire, Out, In}
 use Rattle.gos_realises.specs.realises.Matched.{event_number}
 use Rattle.gos_supplies.specs.arrays.Accesses.{Access, Read, Write, accessing, accessed, waiting, asks_with, ended}
-use Rattle.gos_supplies.proofs.arrays.IndexLemmas.{index_begins, index_moves, index_waits_so, index_ends_so, read_ends, write_ends, waiting_is_stalled}
+use Rattle.gos_supplies.proofs.arrays.IndexLemmas.{read_ends, write_ends}
 use Rattle.gos_supplies.proofs.arrays.IndexLemmas as programs
 use Rattle.gos_supplies.proofs.arrays.LabelLemmas.{name_itself}
 use Rattle.gos_supplies.proofs.arrays.ElementLemmas.{Own, Index}
 use Rattle.gos_supplies.proofs.arrays.StandLemmas.{Stand, Resting, Begun, Ready, Away, Ended, is_away, shake, other_shake, begun, Ends, Goes, stays, runs, computes, asks, ends, answers}
-
--- the place of a port's label is what a list shows there
-no_given : (y : Name) → Taken y ≡ Given → ⊥
-no_given y e = cc e
 
 pub running_apart : (m : Term) (s : Store) → Running m s ≡ Idle → ⊥
 running_apart m s e = cc e

@@ -63,9 +63,6 @@ idle_puts q s t e v idle (port, passes) = by_contact (contact_at q e) refl
     by_contact (Some k) there =
         idle_token q s idle e (way_taken k.role) v (subst (λ (o : Option Contact). Passes q (Out e v) o s t) there passes).0
 
-pub keeps_later : (us : Imports) (past ls : List Label) (l : Label) → KeepsPortsAfter us past (l ∷ ls) → KeepsPortsAfter us (l ∷ past) ls
-keeps_later us past ls l keeps = keeps.1
-
 module _
     (a : Access) (i w : ℕ) (x : Name) (n : Term) (f g : Cut) (r p q : Plan) (is : IsAccess i w x f g r p q) (differ : NamesDiffer r.imports)
     (literals : All LiteralFits r.parts) (typed : Typed q.imports [] n (Exp i)) where

@@ -27,9 +27,6 @@ used_twice (suc zero) small = refl
 used_twice (suc (suc zero)) small = refl
 used_twice (suc (suc (suc k))) small = let none = none_large k in absurd (omega (arith, small, none))
 
-none_once : (k : ℕ) → 0 < times k [] → times k (1 ∷ []) ≡ 1
-none_once k small = absurd (omega (arith, small))
-
 pub twice_is_split : TwiceIsSplit
 twice_is_split = ((used_twice, ((λ k small. absurd (omega (arith, small))), refl), ((λ k small. absurd (omega (arith, small))), refl)), (refl, refl))
 

@@ -349,12 +349,6 @@ module _ (P : Point → Type 0) where
       (ties_both (ties_of types l (suc j + nodes m) n (at 1)) (ties_of types o (suc j + nodes m + nodes n) p (at 2))
       (spans types l (suc j + nodes m) n (at 1) left (mine 1, tt)) (spans types o (suc j + nodes m + nodes n) p (at 2) right (mine 2, tt)))))
 
--- one of a list of which each is so
-pub one_point : (P : Point → Type 0) (ps : List Point) (p : Point) → EachPoint P ps → Contains ps p → P p
-one_point P [] p all (n, lt, e) = absurd (omega (arith, lt))
-one_point P (q ∷ ps) p (x, all) (zero, lt, e) = subst P e x
-one_point P (q ∷ ps) p (x, all) (suc n, lt, e) = one_point P ps p all (n, omega (arith, lt), e)
-
 pub one_tie : (Q : Tie → Type 0) (ts : List Tie) (t : Tie) → EachTie Q ts → Contains ts t → Q t
 one_tie Q [] t all (n, lt, e) = absurd (omega (arith, lt))
 one_tie Q (q ∷ ts) t (x, all) (zero, lt, e) = subst Q e x

@@ -31,7 +31,7 @@ use Rattle.gos_terms.specs.wired.NodeFitting.{AreOfTypes}
 use Rattle.gos_terms.specs.stages.Leading.{or_point, leading}
 use Rattle.gos_terms.specs.stages.Ranges.{IsWithin}
 use Rattle.gos_terms.specs.stages.Lodging.{AreTidy}
-use Rattle.gos_terms.specs.stages.Folding.{Lead, AtResult, lead_point, of_own, of_result, Child, is_used, child_out, in_range, child_back, own_ties, IsForeign, IsChild, AreDistinct}
+use Rattle.gos_terms.specs.stages.Folding.{Lead, AtResult, lead_point, of_result, Child, is_used, child_out, in_range, child_back, own_ties, IsForeign, IsChild, AreDistinct}
 use Rattle.gos_terms.specs.stages.Folded.{Sees}
 use Rattle.gos_terms.specs.stages.Regions.{HasParts}
 use Rattle.gos_terms.proofs.stages.FollowLemmas.{result_leads as led_elsewhere}
@@ -88,10 +88,6 @@ lead_is c (suc n) (suc h) l at =
 leads_distinct : (c n : ℕ) → AreDistinct (result_leads c n)
 leads_distinct c n h k l at_h at_k =
     let same = same_shake (c + h) (c + k) (sym (lead_is c n h l at_h).0 ∙ (lead_is c n k l at_k).0) in omega (arith, same)
-
-own_none : (c n k h : ℕ) → of_own (result_leads c n) k h ≡ None
-own_none c zero k h = refl
-own_none c (suc n) k h = own_none (suc c) n (suc k) h
 
 result_none : (c n k h : ℕ) → (h < c) ⊎ (c + n ≤ h) → of_result (result_leads c n) k h ≡ None
 result_none c zero k h out = refl

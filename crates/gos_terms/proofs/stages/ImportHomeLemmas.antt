@@ -93,6 +93,3 @@ imports_are_there types i inner ss env ns m k h z tidy there e =
         by_live true e =
             let same : spot m (ImportEnd k h) ≡ z = cc e in
             subst (λ (w : Spot). IsImport (first_lodging (live ss inner) env) m k h w × IsOld ss (Some w)) same (record { end = refl; root = refl }, tidy.outside m there)
-
-pub result_is_nowhere : (types : Types) (i : ℕ) (inner : ℕ → Bool) (ss : List Split) (env : Supplies) (h : ℕ) → (lodged types i inner ss env).home (Within 0 (Of (ResultEnd h))) ≡ None
-result_is_nowhere types i inner ss env h = final_result types inner ss i 0 (first_lodging (live ss inner) env) h refl

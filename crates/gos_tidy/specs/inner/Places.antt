@@ -5,7 +5,7 @@ use Rattle.std.specs.Prelude.{◌≡◌, ℕ, ◌<◌, ◌≤◌, Bool, List, So
 use Rattle.std.specs.List.{flat_map}
 use Rattle.gos_netlist.specs.Nets.{Cell, NetPort}
 use Rattle.gos_netlist.specs.Settling.{at}
-use Rattle.gos_tidy.specs.inner.Reading.{read}
+use Rattle.gos_netlist.specs.Renamed.{with_renamed}
 use Rattle.gos_tidy.specs.inner.Marks.{IsMarked}
 
 -- the nets of all ports
@@ -23,4 +23,4 @@ pub record AreNumbers (marks : List Bool) (n : ℕ) (numbers places : List ℕ) 
 -- the first n cells of others are those at these places, with their nets renamed
 pub record ArePlaced (cells others : List Cell) (numbers places : List ℕ) (n : ℕ) : Type 0 where
   pub count : length others ≡ n
-  pub each : (i p : ℕ) (c : Cell) → i < n → slice_get places i ≡ Some p → slice_get cells p ≡ Some c → slice_get others i ≡ Some (read (at numbers) c)
+  pub each : (i p : ℕ) (c : Cell) → i < n → slice_get places i ≡ Some p → slice_get cells p ≡ Some c → slice_get others i ≡ Some (with_renamed (at numbers) c)

@@ -4,12 +4,8 @@
 use Rattle.std.specs.Prelude.{◌≡◌, ◌≢◌, ◌⊎◌, ℕ, ◌+◌, ◌-◌, ◌^◌, ◌%◌, List, Option, Some, None, slice_get, Contains, bit_and, bit_or, bit_xor, nat_eq, nat_lt, if◌then◌else◌}
 use Rattle.gos_netlist.specs.Nets.{Function, Const, Not, And, Or, Xor, Mux, Add, Sub, Eq, Less, Gate, Cell, pins}
 use Rattle.gos_netlist.specs.Settling.{shown}
-use Rattle.gos_tidy.specs.Mapped.{renamed, IsConst}
+use Rattle.gos_tidy.specs.Mapped.{IsConst}
 use Rattle.gos_tidy.specs.Tidy.{Folds}
-
--- the cell, with the nets in the place of its own that they are mapped to
-abbrev pub read : (ℕ → ℕ) → Cell → Cell
-read f c = record { width = c.width; gate = renamed f c.gate }
 
 -- the nets of a gate that may fold, where the last one stands for those that it lacks
 abbrev pub first_of : Function → ℕ

@@ -5,7 +5,7 @@ use Rattle.std.specs.Prelude.{ℕ, ◌≤◌, List}
 use Rattle.gos_outside.specs.Files.{Files, bytes_at}
 use Rattle.gos_lex.specs.Lines.{Word}
 use Rattle.gos_netlist.specs.Nets.{Netlist}
-use Rattle.gos_aiger.specs.Lowered.{bits_in}
+use Rattle.gos_gates.specs.Lowered.{bits_in}
 use Rattle.gos_command.specs.declared.status.Fault.{Fault}
 use Rattle.gos_tool.specs.netlists.Netlist.{SaysNet, IsNetFault}
 use Rattle.gos_tool.specs.netlists.Gates.{IsGatesFault}

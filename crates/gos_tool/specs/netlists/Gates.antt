@@ -1,15 +1,15 @@
 -- The command `gates NET OUT`.
 --
--- Read first: Netlist; Gates, AagText and Lowered of gos_aiger.
+-- Read first: Netlist; Gates, AagText and Lowered of gos_gates.
 use Rattle.std.specs.Prelude.{◌≡◌, ◌⊎◌, ℕ, ◌<◌, ◌≤◌, List, length, Option, None, IfSome}
 use Rattle.gos_outside.specs.Files.{Files, SameBut, bytes_at, with_file}
 use Rattle.gos_outside.specs.Faults.{LastFault, ReadFault, WriteFault}
 use Rattle.gos_lex.specs.Lines.{Word}
 use Rattle.gos_netlist.specs.Nets.{Netlist}
-use Rattle.gos_aiger.specs.Gates as circuits
-use Rattle.gos_aiger.specs.AagText.{aag_text}
-use Rattle.gos_aiger.specs.Lowered.{IsLowered, bits_in}
-use Rattle.gos_aiger.specs.declared.fault.GateFault.TheVariants as gates
+use Rattle.gos_gates.specs.Gates as circuits
+use Rattle.gos_gates.specs.AagText.{aag_text}
+use Rattle.gos_gates.specs.Lowered.{IsLowered, bits_in}
+use Rattle.gos_gates.specs.declared.fault.GateFault.TheVariants as gates
 use Rattle.gos_command.specs.Lines.{fault_line}
 use Rattle.gos_command.specs.declared.report.Report.{Report}
 use Rattle.gos_command.specs.declared.report.Report.TheVariants as reports

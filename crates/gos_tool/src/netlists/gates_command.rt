@@ -5,8 +5,8 @@ ghost use Rattle.gos_outside.specs.FileName.{IsFileName};
 ghost use Rattle.gos_outside.specs.Files.{SameBut, with_file};
 ghost use Rattle.gos_outside.specs.Faults.{CountsFaults, WriteFault};
 ghost use Rattle.gos_outside.specs.Calls.{Write, AreMade};
-ghost use Rattle.gos_aiger.specs.AagText.{aag_text};
-ghost use Rattle.gos_aiger.specs.Gates.{AreGates};
+ghost use Rattle.gos_gates.specs.AagText.{aag_text};
+ghost use Rattle.gos_gates.specs.Gates.{AreGates};
 ghost use Rattle.gos_command.specs.Ends.{IfStopped, IsTold, ending};
 ghost use Rattle.gos_command.specs.declared.report.Report.TheVariants as reports;
 ghost use Rattle.gos_tool.specs.Causes.{OfNetlist, StopsFor, TellsGates};
@@ -14,8 +14,8 @@ ghost use Rattle.gos_tool.specs.Calls.{rewrite_calls};
 ghost use Rattle.gos_tool.specs.netlists.Gates.{AreGatesDone, IsGatesFault, IsGatesCall};
 
 use crate::netlists::reading::checked_net;
-use gos_aiger::{Aig, lower, print_aag};
 use gos_command::{Cause, GateCounts, Report, Stop, reject, write_file};
+use gos_gates::{Aig, lower, print_aag};
 use gos_outside::Store;
 use std::alloc::Global;
 

@@ -3,9 +3,9 @@ use Rattle.gos_netlist.specs.Nets.{Cell}
 use Rattle.gos_plan.specs.declared.contacts.Contact as held
 use Rattle.gos_plan.specs.declared.kinds.Kind.{Kind}
 use Rattle.gos_plan.specs.Kinds.{part_contacts}
-use Rattle.gos_gates.specs.Gates.{Incoming, Outgoing}
+use Rattle.gos_macro.specs.Gates.{Incoming, Outgoing}
 use Rattle.gos_plan.specs.Seen.{part_of}
-use Rattle.gos_gates.specs.Wires.{HoldNets}
+use Rattle.gos_macro.specs.Wires.{HoldNets}
 use Rattle.gos_expand.specs.declared.gates.Gates.{Gates}
 use Rattle.gos_expand.specs.Gates.{outs_of, part_size}
 use Rattle.gos_expand.specs.inner.Dispatch.{gates_for, cells_in, outs_in, IsLaidOut}

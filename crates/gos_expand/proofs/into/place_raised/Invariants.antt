@@ -1,6 +1,6 @@
 use Rattle.std.proofs.Common.{◌≡◌, ◌+◌, ◌++◌, map, take}
 use Rattle.gos_netlist.specs.Seen.{cell_of}
-use Rattle.gos_netlist.specs.Pools.{KeepsClosed}
+use Rattle.gos_pool.specs.Pools.{KeepsClosed}
 use Rattle.gos_expand.specs.Into.{raised_cell}
 use Rattle.gos_expand.proofs.into.place_raised.Given as goal
 

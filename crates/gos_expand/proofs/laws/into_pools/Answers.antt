@@ -1,7 +1,7 @@
 use Rattle.std.proofs.Common.{◌≡◌, ◌∙◌, ℕ, List, [], ◌++◌, map, refl, ap, sum, get_or, arith}
 use Rattle.gos_netlist.specs.Nets.{Netlist, Input, Cell, Give, NetPort, pins}
 use Rattle.gos_types.specs.Types.{Com}
-use Rattle.gos_gates.specs.Cells.{bit}
+use Rattle.gos_macro.specs.Cells.{bit}
 use Rattle.gos_expand.specs.SmallNets.{skip_netlist}
 use Rattle.gos_expand.specs.Into.{raised_cell, raised_port}
 use Rattle.gos_expand.proofs.IntoLemmas.{behind_none}

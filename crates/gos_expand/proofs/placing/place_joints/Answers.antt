@@ -1,6 +1,6 @@
 use Rattle.std.proofs.Common.{◌≡◌, ◌∙◌, ℕ, List, length, ap, arith, slice_index_or}
 use Rattle.std.proofs.lemmas.List.{length-map}
-use Rattle.gos_netlist.specs.Pools.{Pool}
+use Rattle.gos_pool.specs.Pools.{Pool}
 use Rattle.gos_plan.specs.declared.plan.Joint as declared
 use Rattle.gos_plan.specs.declared.plan.End.TheVariants as ends
 use Rattle.gos_plan.specs.Plans.{Joint, Plan}

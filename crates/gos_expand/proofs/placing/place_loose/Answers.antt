@@ -1,5 +1,5 @@
 use Rattle.std.proofs.Common.{◌≡◌, ◌∙◌, ℕ, List, ap, subst, arith, slice_index_or, map, length}
-use Rattle.gos_netlist.specs.Pools.{Pool}
+use Rattle.gos_pool.specs.Pools.{Pool}
 use Rattle.gos_plan.specs.declared.plan.End.TheVariants as ends
 use Rattle.gos_plan.specs.Plans.{End, Plan}
 use Rattle.gos_plan.specs.Seen.{plan_of, end_of}

@@ -1,11 +1,11 @@
 use Rattle.std.proofs.Common.{◌≡◌, ◌++◌, ◌∙◌, ℕ, List, Some, length, sym, ap, subst, arith}
 use Rattle.gos_netlist.specs.Nets.{Cell}
-use Rattle.gos_netlist.specs.Pools.{Pool}
+use Rattle.gos_pool.specs.Pools.{Pool}
 use Rattle.gos_plan.specs.declared.kinds.Kind.{Kind}
 use Rattle.gos_plan.specs.Kinds.{Part}
-use Rattle.gos_gates.specs.Gates.{Incoming}
+use Rattle.gos_macro.specs.Gates.{Incoming}
 use Rattle.gos_plan.specs.Plans.{Plan}
-use Rattle.gos_gates.specs.Wires.{incoming_of}
+use Rattle.gos_macro.specs.Wires.{incoming_of}
 use Rattle.gos_plan.specs.Seen.{plan_of, part_of}
 use Rattle.gos_expand.specs.declared.gates.Gates.{Gates}
 use Rattle.gos_expand.specs.Gates.{layout, part_size}

@@ -1,6 +1,6 @@
 use Rattle.std.proofs.Common.{◌++◌, List, ap, subst, arith}
 use Rattle.gos_netlist.specs.Nets.{Cell}
-use Rattle.gos_netlist.specs.Pools.{Pool}
+use Rattle.gos_pool.specs.Pools.{Pool}
 use Rattle.gos_plan.specs.Plans.{Plan}
 use Rattle.gos_plan.specs.Seen.{plan_of}
 use Rattle.gos_expand.specs.declared.places.Place.TheVariants as places

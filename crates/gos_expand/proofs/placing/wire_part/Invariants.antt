@@ -1,5 +1,5 @@
 use Rattle.std.proofs.Common.{◌≡◌, ◌<◌, ℕ, Some, length, slice_get}
-use Rattle.gos_gates.specs.declared.gates.Wire.{Wire}
+use Rattle.gos_macro.specs.declared.gates.Wire.{Wire}
 use Rattle.gos_plan.specs.Plans.{PartEnd}
 use Rattle.gos_plan.specs.Seen.{plan_of}
 use Rattle.gos_expand.specs.Laid.{arrives}

@@ -24,12 +24,12 @@ returns-in_err-width-clause-wrong c =
 
 pub returns-in_err-gate-clause-wrong : goal.returns-in_err-gate-clause-wrong
 returns-in_err-gate-clause-wrong c =
-    let width = subst (λ (end : ℕ). Passed c.gate_word.new.cursor c.number.new.cursor (ended end (decimal c.in_ok-width.field-0))) c.width_end.ensures c.in_ok-width.ensures.passed in
-    let known = no_operands c.args.cursor.now c.gate_word.new.cursor c.number.new.cursor c.in_ok-word.word c.in_ok-width.field-0 c.in_err-gate.field-0.0 c.in_ok-word.ensures.passed c.in_ok-width.ensures.range width c.in_err-gate.ensures.wrong in
+    let width = subst (λ (end : ℕ). Passed c.gate_word.new.cursor c.ended_number.new.self (ended end (decimal c.in_ok-width.field-0))) c.width_end.ensures c.in_ok-width.ensures.passed in
+    let known = no_operands c.args.cursor.now c.gate_word.new.cursor c.ended_number.new.self c.in_ok-word.word c.in_ok-width.field-0 c.in_err-gate.field-0.0 c.in_ok-word.ensures.passed c.in_ok-width.ensures.range width c.in_err-gate.ensures.wrong in
     let p = err_from_is_err_and c.from_residual-in_err-gate.result c.from_residual-in_err-gate.ensures.1 in
     rw (p.1, p.2) known
 
 pub returns-clause-passed : goal.returns-clause-passed
 returns-clause-passed c =
-    let width = subst (λ (end : ℕ). Passed c.gate_word.new.cursor c.number.new.cursor (ended end (decimal c.in_ok-width.field-0))) c.width_end.ensures c.in_ok-width.ensures.passed in
-    cell_passed c.args.cursor.now c.gate_word.new.cursor c.number.new.cursor c.gate.new.cursor c.in_ok-word.word c.in_ok-width.field-0 (function_of c.in_ok-gate.gate) c.in_ok-gate.ensures.word.0 c.in_ok-word.ensures.passed width c.in_ok-gate.ensures.passed
+    let width = subst (λ (end : ℕ). Passed c.gate_word.new.cursor c.ended_number.new.self (ended end (decimal c.in_ok-width.field-0))) c.width_end.ensures c.in_ok-width.ensures.passed in
+    cell_passed c.args.cursor.now c.gate_word.new.cursor c.ended_number.new.self c.gate.new.cursor c.in_ok-word.word c.in_ok-width.field-0 (function_of c.in_ok-gate.gate) c.in_ok-gate.ensures.word.0 c.in_ok-word.ensures.passed width c.in_ok-gate.ensures.passed

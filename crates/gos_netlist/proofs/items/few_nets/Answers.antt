@@ -18,7 +18,7 @@ returns-in_err-a-clause-wrong c =
 pub returns-in_err-b-clause-wrong : goal.returns-in_err-b-clause-wrong
 returns-in_err-b-clause-wrong c =
     let old = c.args.cursor.now in
-    let one = c.number.new.cursor in
+    let one = c.ended_number.new.self in
     let count : ℕ = c.args.count in
     let a : ℕ = c.in_ok-a.a in
     let first = subst (λ (end : ℕ). Passed old one (ended end (decimal a))) c.end_with.ensures.end c.in_ok-a.ensures.passed in
@@ -31,8 +31,8 @@ returns-in_err-b-clause-wrong c =
 pub returns-then-count-eq2-clause-passed : goal.returns-then-count-eq2-clause-passed
 returns-then-count-eq2-clause-passed c =
     let old = c.args.cursor.now in
-    let one = c.number.new.cursor in
-    let two = c.number-2.new.cursor in
+    let one = c.ended_number.new.self in
+    let two = c.ended_number-2.new.self in
     let count : ℕ = c.args.count in
     let a : ℕ = c.in_ok-a.a in
     let b : ℕ = c.in_ok-b.b in
@@ -47,8 +47,8 @@ returns-then-count-eq2-clause-passed c =
 pub returns-in_err-c-clause-wrong : goal.returns-in_err-c-clause-wrong
 returns-in_err-c-clause-wrong c =
     let old = c.args.cursor.now in
-    let one = c.number.new.cursor in
-    let two = c.number-2.new.cursor in
+    let one = c.ended_number.new.self in
+    let two = c.ended_number-2.new.self in
     let count : ℕ = c.args.count in
     let a : ℕ = c.in_ok-a.a in
     let b : ℕ = c.in_ok-b.b in
@@ -63,9 +63,9 @@ returns-in_err-c-clause-wrong c =
 pub returns-clause-passed : goal.returns-clause-passed
 returns-clause-passed c =
     let old = c.args.cursor.now in
-    let one = c.number.new.cursor in
-    let two = c.number-2.new.cursor in
-    let new = c.number-3.new.cursor in
+    let one = c.ended_number.new.self in
+    let two = c.ended_number-2.new.self in
+    let new = c.ended_number-3.new.self in
     let count : ℕ = c.args.count in
     let a : ℕ = c.in_ok-a.a in
     let b : ℕ = c.in_ok-b.b in

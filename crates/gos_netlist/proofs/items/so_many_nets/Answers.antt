@@ -31,12 +31,12 @@ loop-left-preserved c =
     let left : ℕ = c.loop-left.left - 1 in
     let fewer : c.loop-left.left ≡ suc left = omega (arith, c.loop-left-test.true) in
     let n : ℕ = c.in_ok-n.n in
-    let here = subst (λ (end : ℕ). Passed c.loop-left.cursor c.number.new.cursor (ended end (decimal n))) c.end_with.ensures.end c.in_ok-n.ensures.passed in
-    let known = one_more c.args.count c.args.cursor.now c.loop-left.cursor c.number.new.cursor (map number_of c.loop-left.nets.items) c.loop-left.left left n fewer far c.in_ok-n.ensures.range.1 here in
+    let here = subst (λ (end : ℕ). Passed c.loop-left.cursor c.ended_number.new.self (ended end (decimal n))) c.end_with.ensures.end c.in_ok-n.ensures.passed in
+    let known = one_more c.args.count c.args.cursor.now c.loop-left.cursor c.ended_number.new.self (map number_of c.loop-left.nets.items) c.loop-left.left left n fewer far c.in_ok-n.ensures.range.1 here in
     let room : c.push_reserved.new.self.capacity ≡ 6 = search rules in
     let longer : map number_of c.push_reserved.new.self.items ≡ map number_of c.loop-left.nets.items ++ n ∷ [] =
     ap (map number_of) c.push_reserved.ensures.items ∙ map-append number_of c.loop-left.nets.items (record { 0 = n } ∷ []) in
-    (subst (λ (ns : List ℕ). NetsSoFar c.args.count c.args.cursor.now c.number.new.cursor ns left) (sym longer) known, room)
+    (subst (λ (ns : List ℕ). NetsSoFar c.args.count c.args.cursor.now c.ended_number.new.self ns left) (sym longer) known, room)
 
 pub returns-clause-passed : goal.returns-clause-passed
 returns-clause-passed c =

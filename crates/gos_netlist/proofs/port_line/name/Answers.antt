@@ -3,7 +3,7 @@ use Rattle.std.specs.List.{slice_range}
 use Rattle.gos_lex.specs.Items.{IsJust, Misses}
 use Rattle.gos_lex.specs.Names.{IsSpelled}
 use Rattle.gos_lex.proofs.NameTextLemmas.{no_name, name_not_ended}
-use Rattle.gos_netlist.proofs.PassedLemmas.{passed_both, passed_item}
+use Rattle.gos_lex.proofs.PassedLemmas.{passed_both, passed_item}
 use Rattle.gos_netlist.proofs.port_line.name.Goals as goal
 
 pub returns-in-Err-clause-wrong : goal.returns-in-Err-clause-wrong

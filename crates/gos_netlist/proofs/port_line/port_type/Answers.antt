@@ -12,26 +12,26 @@ returns-in_err-type_word-clause-wrong c =
     let p = err_from_is_err_and c.from_residual.result c.from_residual.ensures.1 in
     rw (p.1, p.2) known
 
-pub returns-in_err-number-in-Exp-clause-wrong : goal.returns-in_err-number-in-Exp-clause-wrong
-returns-in_err-number-in-Exp-clause-wrong c =
+pub returns-in_err-ended_number-in-Exp-clause-wrong : goal.returns-in_err-ended_number-in-Exp-clause-wrong
+returns-in_err-ended_number-in-Exp-clause-wrong c =
     let word = subst (λ (w : TypeWord). Passed c.args.cursor.now c.type_word.new.cursor (ended 32 (type_word w))) c.in-Exp.is c.in_ok-type_word.ensures.passed in
-    let known = no_exp_width c.args.cursor.now c.type_word.new.cursor c.in_err-number-in-Exp.field-0.0 word c.in_err-number-in-Exp.ensures.wrong in
-    let p = err_from_is_err_and c.from_residual-in_err-number-in-Exp.result c.from_residual-in_err-number-in-Exp.ensures.1 in
+    let known = no_exp_width c.args.cursor.now c.type_word.new.cursor c.in_err-ended_number-in-Exp.field-0.0 word c.in_err-ended_number-in-Exp.ensures.wrong in
+    let p = err_from_is_err_and c.from_residual-in_err-ended_number-in-Exp.result c.from_residual-in_err-ended_number-in-Exp.ensures.1 in
     rw (p.1, p.2) known
 
-pub returns-in_err-number-in-Var-clause-wrong : goal.returns-in_err-number-in-Var-clause-wrong
-returns-in_err-number-in-Var-clause-wrong c =
+pub returns-in_err-ended_number-in-Var-clause-wrong : goal.returns-in_err-ended_number-in-Var-clause-wrong
+returns-in_err-ended_number-in-Var-clause-wrong c =
     let word = subst (λ (w : TypeWord). Passed c.args.cursor.now c.type_word.new.cursor (ended 32 (type_word w))) c.in-Var.is c.in_ok-type_word.ensures.passed in
-    let known = no_var_width c.args.cursor.now c.type_word.new.cursor c.in_err-number-in-Var.field-0.0 word c.in_err-number-in-Var.ensures.wrong in
-    let p = err_from_is_err_and c.from_residual-in_err-number-in-Var.result c.from_residual-in_err-number-in-Var.ensures.1 in
+    let known = no_var_width c.args.cursor.now c.type_word.new.cursor c.in_err-ended_number-in-Var.field-0.0 word c.in_err-ended_number-in-Var.ensures.wrong in
+    let p = err_from_is_err_and c.from_residual-in_err-ended_number-in-Var.result c.from_residual-in_err-ended_number-in-Var.ensures.1 in
     rw (p.1, p.2) known
 
-pub returns-in_ok-number-in-Exp-clause-passed : goal.returns-in_ok-number-in-Exp-clause-passed
-returns-in_ok-number-in-Exp-clause-passed c =
+pub returns-in_ok-ended_number-in-Exp-clause-passed : goal.returns-in_ok-ended_number-in-Exp-clause-passed
+returns-in_ok-ended_number-in-Exp-clause-passed c =
     let word = subst (λ (w : TypeWord). Passed c.args.cursor.now c.type_word.new.cursor (ended 32 (type_word w))) c.in-Exp.is c.in_ok-type_word.ensures.passed in
-    exp_passed c.args.cursor.now c.type_word.new.cursor c.number.new.cursor c.in_ok-number-in-Exp.field-0 word c.in_ok-number-in-Exp.ensures.passed
+    exp_passed c.args.cursor.now c.type_word.new.cursor c.ended_number.new.self c.in_ok-ended_number-in-Exp.field-0 word c.in_ok-ended_number-in-Exp.ensures.passed
 
-pub returns-in_ok-number-in-Var-clause-passed : goal.returns-in_ok-number-in-Var-clause-passed
-returns-in_ok-number-in-Var-clause-passed c =
+pub returns-in_ok-ended_number-in-Var-clause-passed : goal.returns-in_ok-ended_number-in-Var-clause-passed
+returns-in_ok-ended_number-in-Var-clause-passed c =
     let word = subst (λ (w : TypeWord). Passed c.args.cursor.now c.type_word.new.cursor (ended 32 (type_word w))) c.in-Var.is c.in_ok-type_word.ensures.passed in
-    var_passed c.args.cursor.now c.type_word.new.cursor c.number-in-Var.new.cursor c.in_ok-number-in-Var.field-0 word c.in_ok-number-in-Var.ensures.passed
+    var_passed c.args.cursor.now c.type_word.new.cursor c.ended_number-in-Var.new.self c.in_ok-ended_number-in-Var.field-0 word c.in_ok-ended_number-in-Var.ensures.passed

@@ -4,7 +4,7 @@ use Rattle.gos_types.specs.TypeText.{type_text}
 use Rattle.gos_netlist.specs.Seen.{ground_type, number_of}
 use Rattle.gos_lex.specs.ItemTexts.{Passed, ended}
 use Rattle.gos_netlist.specs.inner.NetLines.{IsNetsText, numbers_text, tail_text}
-use Rattle.gos_netlist.proofs.PassedLemmas.{passed_both}
+use Rattle.gos_lex.proofs.PassedLemmas.{passed_both}
 use Rattle.gos_netlist.proofs.TypeLemmas.{no_type_here, no_nets_here}
 use Rattle.gos_netlist.proofs.port_line.type_and_nets.Goals as goal
 

@@ -2,7 +2,7 @@ use Rattle.std.proofs.Common.{◌∷◌, [], arith, ◌≤◌}
 use Rattle.std.specs.Fmt.{decimal}
 use Rattle.gos_lex.specs.Items.{IsJust}
 use Rattle.gos_lex.specs.Decimals.{IsDecimalIn}
-use Rattle.gos_netlist.proofs.PassedLemmas.{passed_both, passed_item}
+use Rattle.gos_lex.proofs.PassedLemmas.{passed_both, passed_item}
 use Rattle.gos_lex.proofs.NumberTextLemmas.{count_misses, count_not_ended, number_under}
 use Rattle.gos_netlist.proofs.sections.count.Goals as goal
 

@@ -4,8 +4,8 @@ use Rattle.gos_outside.specs.Files.{bytes_at}
 use Rattle.gos_netlist.specs.Nets.{Netlist}
 use Rattle.gos_netlist.specs.NetFaults.{IsOneNetlist, ReadHasNoFault}
 use Rattle.gos_netcheck.specs.Accepted.{AcceptedHasNoFault, IsAccepted}
-use Rattle.gos_aiger.specs.declared.fault.GateFault.TheVariants as gates
-use Rattle.gos_aiger.specs.Lowered.{bits_in}
+use Rattle.gos_gates.specs.declared.fault.GateFault.TheVariants as gates
+use Rattle.gos_gates.specs.Lowered.{bits_in}
 use Rattle.gos_command.specs.declared.status.Cause.{Cause}
 use Rattle.gos_command.specs.declared.status.Cause.TheVariants as causes
 use Rattle.gos_tool.specs.netlists.Netlist.{IsNetCause, SaysNet}

@@ -8,9 +8,9 @@ use Rattle.gos_netlist.specs.Nets.{Netlist}
 use Rattle.gos_netlist.specs.NetFaults.{IsRead}
 use Rattle.gos_netcheck.specs.Accepted.{HasFault}
 use Rattle.gos_netcheck.specs.declared.fault.NetFault.{NetFault}
-use Rattle.gos_aiger.specs.Lowered.{IsGateFault}
-use Rattle.gos_aiger.specs.declared.fault.GateFault.{GateFault}
-use Rattle.gos_aiger.specs.declared.fault.GateFault.TheVariants as gates
+use Rattle.gos_gates.specs.Lowered.{IsGateFault}
+use Rattle.gos_gates.specs.declared.fault.GateFault.{GateFault}
+use Rattle.gos_gates.specs.declared.fault.GateFault.TheVariants as gates
 use Rattle.gos_command.specs.Ends.{IsRealCause}
 use Rattle.gos_command.specs.Lines.{fault_line}
 use Rattle.gos_command.specs.declared.status.Cause.{Cause}

@@ -1,14 +1,11 @@
 -- That the text of a source that was checked is the whole file, and what is known of its module.
-use Rattle.std.proofs.Common.{◌≡◌, ◌∙◌, ℕ, List, take, Option, ap, subst}
+use Rattle.std.proofs.Common.{◌≡◌, ℕ, List, take, Option, subst}
 use Rattle.std.specs.Prelude.{IfSome}
 use Rattle.gos_outside.specs.Files.{Files, bytes_at}
 use Rattle.gos_lex.specs.Lines.{Word}
 use Rattle.gos_check.specs.Checked.{SeenLinear}
-use Rattle.gos_command.specs.declared.report.Report.{Report}
-use Rattle.gos_command.specs.declared.report.Report.TheVariants as reports
 use Rattle.gos_command.proofs.FilesLemmas.{is_read_whole}
 use Rattle.gos_command.proofs.EndLemmas.{of_some}
-use Rattle.gos_tool.specs.objects.Checked.{IsChecked}
 use Rattle.gos_tool.specs.objects.Typed.{IsTypedAs}
 
 -- a source that is typed is no longer than what was read
@@ -18,11 +15,3 @@ typed_file told source text linear read typed =
     of_some (λ files. text ≡ take 65537 (bytes_at files source)) (λ files. IsTypedAs (bytes_at files source) linear) told
     (λ files e. subst (λ (t : List ℕ). IsTypedAs t linear) ((is_read_whole 65536 (bytes_at files source) text e).whole typed.says.source.scanned.short) typed)
     read
-
-pub checked : (told : Option Files) (source : Word) (linear : SeenLinear) (report : Report)
-    → IfSome told (λ files. IsTypedAs (bytes_at files source) linear) → report ≡ reports.Weight linear.weight
-    → IfSome told (λ files. IsChecked files source report)
-checked told source linear report typed tells =
-    of_some (λ files. IsTypedAs (bytes_at files source) linear) (λ files. IsChecked files source report) told
-    (λ files is. record { made = is.made; says = is.says; tells = tells ∙ ap (λ (n : ℕ). reports.Weight n) is.weight })
-    typed

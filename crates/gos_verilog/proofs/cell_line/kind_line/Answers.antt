@@ -2,7 +2,7 @@ use Rattle.gos_verilog.specs.Lines.{driver_of}
 use Rattle.std.proofs.Common.{[]}
 use Rattle.gos_verilog.specs.inner.Slots.{line_text}
 use Rattle.gos_verilog.specs.inner.CellLines.{kind_slots, kind_tail, made}
-use Rattle.gos_netlist.proofs.PassedLemmas.{passed_as}
+use Rattle.gos_lex.proofs.PassedLemmas.{passed_as}
 use Rattle.gos_verilog.proofs.KindLemmas.{is_made, nets_fit, no_kind}
 use Rattle.std.proofs.lemmas.Result.{err_from_is_err_and}
 use Rattle.gos_verilog.proofs.cell_line.kind_line.Goals as goal

@@ -4,7 +4,7 @@ use Rattle.std.proofs.lemmas.Result.{err_from_is_err_and}
 use Rattle.gos_lex.specs.Items.{TextAt, IsJust, Misses}
 use Rattle.gos_netlist.specs.Nets.{Input}
 use Rattle.gos_lex.specs.ItemTexts.{Passed}
-use Rattle.gos_netlist.proofs.PassedLemmas.{passed_both, passed_as}
+use Rattle.gos_lex.proofs.PassedLemmas.{passed_both, passed_as}
 use Rattle.gos_verilog.specs.Lines.{driver_of}
 use Rattle.gos_verilog.specs.inner.CellLines.{target_slot}
 use Rattle.gos_verilog.specs.inner.Slots.{Slot', FitSlots, line_text, IsLine}

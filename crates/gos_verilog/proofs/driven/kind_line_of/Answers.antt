@@ -5,7 +5,7 @@ use Rattle.gos_lex.specs.ItemTexts.{Passed}
 use Rattle.gos_netlist.specs.Seen.{function_of}
 use Rattle.gos_verilog.specs.Lines.{driver_of}
 use Rattle.gos_verilog.specs.inner.CellLines.{IsKindLine}
-use Rattle.gos_verilog.proofs.RestLemmas.{passed_rest}
+use Rattle.gos_lex.proofs.RestLemmas.{passed_rest}
 use Rattle.gos_verilog.proofs.LineLemmas.{line_reads, line_wrong}
 use Rattle.gos_verilog.proofs.driven.kind_line_of.Goals as goal
 

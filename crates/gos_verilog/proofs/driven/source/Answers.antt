@@ -2,7 +2,8 @@ use Rattle.std.proofs.Common.{◌≡◌, ◌++◌, List, ℕ, drop, sym, ◌∙�
 use Rattle.std.proofs.lemmas.List.{append_cancel_left}
 use Rattle.gos_netlist.specs.Nets.{Input}
 use Rattle.gos_verilog.specs.Lines.{driver_of}
-use Rattle.gos_verilog.proofs.RestLemmas.{passed_rest, word_stands}
+use Rattle.gos_lex.proofs.RestLemmas.{passed_rest}
+use Rattle.gos_verilog.proofs.RestLemmas.{word_stands}
 use Rattle.gos_verilog.proofs.driven.source.Goals as goal
 
 pub returns-in_err-len-clause-stands : goal.returns-in_err-len-clause-stands

@@ -3,7 +3,7 @@ use Rattle.std.specs.List.{flat_map}
 use Rattle.gos_lex.specs.Items.{TextAt, Misses}
 use Rattle.gos_lex.proofs.PlaceLemmas.{rest_whole}
 use Rattle.gos_lex.specs.ItemTexts.{Passed}
-use Rattle.gos_netlist.proofs.PassedLemmas.{passed_as, passed_both}
+use Rattle.gos_lex.proofs.PassedLemmas.{passed_as, passed_both}
 use Rattle.gos_lex.specs.declared.table.NameTable.{NameTable}
 use Rattle.gos_verilog.specs.declared.fault.VFault.{VFault}
 use Rattle.gos_verilog.specs.inner.Stages.{BreaksAt}

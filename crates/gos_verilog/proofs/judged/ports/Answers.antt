@@ -9,7 +9,7 @@ use Rattle.gos_verilog.specs.declared.fault.VFault.{VFault}
 use Rattle.gos_verilog.specs.inner.Stages.{BreaksAt}
 use Rattle.gos_verilog.specs.inner.Breaks.{BreaksFrom}
 use Rattle.gos_verilog.specs.inner.Faces.{Face', IsFaceOf, HasMore, IsPortOf, LeftFirst, LeftFaces, HasPorts, head_end, port_text}
-use Rattle.gos_verilog.proofs.RestLemmas.{passed_rest}
+use Rattle.gos_lex.proofs.RestLemmas.{passed_rest}
 use Rattle.gos_verilog.proofs.WordLemmas.{shift_passed}
 use Rattle.gos_verilog.proofs.BreakLemmas.{on_breaks}
 use Rattle.gos_verilog.proofs.FrontLemmas.{want_fault}

@@ -4,7 +4,7 @@ use Rattle.gos_lex.specs.Items.{Misses}
 use Rattle.gos_lex.specs.ItemTexts.{Passed}
 use Rattle.gos_verilog.specs.Lines.{assignment, cell_net}
 use Rattle.gos_verilog.specs.inner.Slots.{FitSlots, line_text, IsLine}
-use Rattle.gos_verilog.proofs.RestLemmas.{not_missed}
+use Rattle.gos_lex.proofs.RestLemmas.{not_missed}
 use Rattle.gos_verilog.proofs.LeftOutputLemmas.{IsOutput, output_misses, output_passed, output_rest}
 use Rattle.gos_verilog.proofs.outputs.output.Goals as goal
 

@@ -8,7 +8,7 @@ use Rattle.gos_verilog.specs.inner.Stages.{Rest, BreaksAt}
 use Rattle.gos_verilog.proofs.ListLemmas.{drop_at}
 use Rattle.std.proofs.Math.ListN.{drop_of_length-le}
 use Rattle.gos_lex.specs.ItemTexts.{Passed}
-use Rattle.gos_netlist.proofs.PassedLemmas.{passed_within}
+use Rattle.gos_lex.proofs.PassedLemmas.{passed_within}
 use Rattle.gos_verilog.specs.inner.Breaks.{LeadsOn}
 use Rattle.gos_verilog.specs.inner.Left.{LeftOutputs}
 use Rattle.gos_verilog.proofs.BreakLemmas.{on_nothing, on_rest}

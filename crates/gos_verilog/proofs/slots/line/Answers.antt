@@ -1,7 +1,7 @@
 use Rattle.std.proofs.Common.{ℕ, List, subst}
 use Rattle.std.proofs.lemmas.Result.{err_from_is_err_and}
 use Rattle.gos_lex.specs.Items.{IsJust, Misses}
-use Rattle.gos_netlist.proofs.PassedLemmas.{passed_both, passed_item}
+use Rattle.gos_lex.proofs.PassedLemmas.{passed_both, passed_item}
 use Rattle.gos_verilog.specs.inner.Runs.{run_text}
 use Rattle.gos_verilog.specs.inner.Slots.{Slot', slot_text}
 use Rattle.gos_verilog.proofs.SlotLemmas.{no_line_slots, no_line_tail}

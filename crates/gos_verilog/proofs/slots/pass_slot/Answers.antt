@@ -3,7 +3,7 @@ use Rattle.std.specs.Fmt.{decimal}
 use Rattle.std.proofs.lemmas.Result.{err_from_is_err_and}
 use Rattle.gos_lex.specs.Items.{IsJust, Misses}
 use Rattle.gos_lex.specs.ItemTexts.{IsTextOf, Passed, IsNumberText, ended}
-use Rattle.gos_netlist.proofs.PassedLemmas.{passed_both, passed_item}
+use Rattle.gos_lex.proofs.PassedLemmas.{passed_both, passed_item}
 use Rattle.gos_verilog.specs.inner.Slots.{Slot', IsSlot, IsRightSlot, slot_text}
 use Rattle.gos_verilog.proofs.SlotLemmas.{no_slot_word, no_slot_number}
 use Rattle.gos_verilog.proofs.slots.pass_slot.Goals as goal
@@ -33,7 +33,7 @@ pub returns-clause-passed : goal.returns-clause-passed
 returns-clause-passed c =
     let old = c.args.cursor.now in
     let mid = c.word.new.self in
-    let new = c.number.new.cursor in
+    let new = c.ended_number.new.self in
     let s : Slot' = record { before = c.slot.inside.before.now; low = c.slot.inside.low; high = c.slot.inside.high; end = c.slot.inside.end } in
     let word = c.in_ok-word.ensures in
     let known = passed_both old mid new s.before (ended s.end (decimal c.in_ok-n.n)) (passed_item (IsJust s.before) old mid s.before word.text word.passes.item word.passes) c.in_ok-n.ensures.passed in

@@ -1,7 +1,7 @@
 use Rattle.std.specs.Prelude.{codes}
 use Rattle.std.proofs.lemmas.Result.{err_from_is_err_and}
 use Rattle.gos_lex.specs.Items.{IsJust}
-use Rattle.gos_netlist.proofs.PassedLemmas.{passed_item}
+use Rattle.gos_lex.proofs.PassedLemmas.{passed_item}
 use Rattle.gos_witness.proofs.TraceLemmas.{word_passed, no_word, number_passed, no_number_here}
 use Rattle.gos_witness.proofs.entry.last.Goals as goal
 
@@ -25,4 +25,4 @@ returns-clause-passed c =
     let old = c.args.cursor.now in
     let mid = c.word.new.self in
     let far = word_passed c.args.from old mid c.requires (passed_item (IsJust (codes "cycles ")) old mid (codes "cycles ") c.in_ok-word.ensures.text c.in_ok-word.ensures.passes.item c.in_ok-word.ensures.passes) in
-    number_passed c.args.from c.in_ok-cycles.cycles old mid c.number.new.cursor far c.in_ok-cycles.ensures.range c.in_ok-cycles.ensures.passed
+    number_passed c.args.from c.in_ok-cycles.cycles old mid c.ended_number.new.self far c.in_ok-cycles.ensures.range c.in_ok-cycles.ensures.passed

@@ -12,7 +12,7 @@ returns-in_err-cycle-clause-wrong c =
 pub returns-in_err-label-clause-wrong : goal.returns-in_err-label-clause-wrong
 returns-in_err-label-clause-wrong c =
     let old = c.args.cursor.now in
-    let mid = c.number.new.cursor in
+    let mid = c.ended_number.new.self in
     let cycle : ℕ = c.in_ok-cycle.cycle in
     let far = cycle_passed c.args.ports.now c.requires.ports c.args.from cycle old mid c.in_ok-cycle.ensures.range.0 c.in_ok-cycle.ensures.range.1 c.in_ok-cycle.ensures.passed in
     let known = no_label c.args.ports.now c.requires.ports.named c.requires.ports c.args.from cycle old mid c.in_err-label.field-0.0 far c.in_err-label.ensures.wrong in
@@ -22,7 +22,7 @@ returns-in_err-label-clause-wrong c =
 pub returns-clause-passed : goal.returns-clause-passed
 returns-clause-passed c =
     let old = c.args.cursor.now in
-    let mid = c.number.new.cursor in
+    let mid = c.ended_number.new.self in
     let cycle : ℕ = c.in_ok-cycle.cycle in
     let far = cycle_passed c.args.ports.now c.requires.ports c.args.from cycle old mid c.in_ok-cycle.ensures.range.0 c.in_ok-cycle.ensures.range.1 c.in_ok-cycle.ensures.passed in
     label_passed c.args.ports.now c.requires.ports.named c.requires.ports c.args.from cycle c.in_ok-label.label old mid c.label_line.new.cursor far c.in_ok-label.ensures.passed

@@ -12,6 +12,6 @@ returns-in-Some-clause-wrong c =
     let w : ℕ = c.in-Some.width in
     let old = c.args.cursor.now in
     let high : ℕ = c.greatest.result in
-    subst (λ (width : Option ℕ). IfErr c.number.result (Misses (IsValueText width) old.text old.at)) (sym (sym c.value_width.ensures ∙ c.in-Some.is))
-    (IfErr-weaker c.number.result (Misses (IsNumberText 0 high 10) old.text old.at) (Misses (IsValueText (Some w)) old.text old.at)
-    (λ place misses. no_value w high old.text old.at place c.greatest.ensures misses) c.number.ensures.wrong)
+    subst (λ (width : Option ℕ). IfErr c.ended_number.result (Misses (IsValueText width) old.text old.at)) (sym (sym c.value_width.ensures ∙ c.in-Some.is))
+    (IfErr-weaker c.ended_number.result (Misses (IsNumberText 0 high 10) old.text old.at) (Misses (IsValueText (Some w)) old.text old.at)
+    (λ place misses. no_value w high old.text old.at place c.greatest.ensures misses) c.ended_number.ensures.wrong)

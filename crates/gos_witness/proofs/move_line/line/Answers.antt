@@ -1,6 +1,6 @@
 use Rattle.std.proofs.Common.{refl}
 use Rattle.std.proofs.lemmas.Result.{err_from_is_err_and}
-use Rattle.gos_netlist.proofs.PassedLemmas.{passed_within}
+use Rattle.gos_lex.proofs.PassedLemmas.{passed_within}
 use Rattle.gos_witness.specs.inner.Parts.{verb_text}
 use Rattle.gos_witness.proofs.LineLemmas.{no_path, line_passed, root_passed}
 use Rattle.gos_witness.proofs.move_line.line.Goals as goal

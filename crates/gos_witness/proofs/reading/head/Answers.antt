@@ -1,6 +1,6 @@
 use Rattle.std.proofs.lemmas.Result.{err_from_is_err_and}
 use Rattle.gos_lex.specs.Items.{IsJust}
-use Rattle.gos_netlist.proofs.PassedLemmas.{passed_item}
+use Rattle.gos_lex.proofs.PassedLemmas.{passed_item}
 use Rattle.gos_witness.proofs.MovesLemmas.{head, head_passed, no_head, count_passed, no_count}
 use Rattle.gos_witness.proofs.reading.head.Goals as goal
 
@@ -24,4 +24,4 @@ returns-clause-passed c =
     let old = c.args.cursor.now in
     let mid = c.word.new.self in
     let far = head_passed old mid (passed_item (IsJust head) old mid head c.in_ok-word.ensures.text c.in_ok-word.ensures.passes.item c.in_ok-word.ensures.passes) in
-    count_passed old mid c.number.new.cursor c.in_ok-count.count far c.in_ok-count.ensures.range.1 c.in_ok-count.ensures.passed
+    count_passed old mid c.ended_number.new.self c.in_ok-count.count far c.in_ok-count.ensures.range.1 c.in_ok-count.ensures.passed

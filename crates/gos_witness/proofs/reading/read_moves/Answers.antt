@@ -1,7 +1,7 @@
 use Rattle.std.proofs.Common.{refl}
 use Rattle.std.proofs.lemmas.Result.{err_from_is_err_and}
 use Rattle.gos_lex.specs.Items.{IsJust}
-use Rattle.gos_netlist.proofs.PassedLemmas.{passed_item}
+use Rattle.gos_lex.proofs.PassedLemmas.{passed_item}
 use Rattle.gos_witness.specs.inner.Parts.{foot}
 use Rattle.gos_witness.proofs.MovesLemmas.{behind_count, foot_passed, no_foot, moves_break, moves_fault, moves_over, moves_read}
 use Rattle.gos_witness.proofs.reading.read_moves.Goals as goal

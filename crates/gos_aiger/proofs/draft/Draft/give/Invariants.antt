@@ -1,7 +1,0 @@
-use Rattle.std.proofs.Common.{◌≡◌}
-use Rattle.gos_aiger.specs.Lowered.{literals_from}
-use Rattle.gos_aiger.proofs.draft.Draft.give.Given as goal
-
--- the literals so far
-abbrev pub invariant-loop-i : goal.invariant-loop-i
-invariant-loop-i l = l.bits.items ≡ literals_from l.self-inside.base l.i

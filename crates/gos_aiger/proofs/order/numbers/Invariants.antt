@@ -1,7 +1,0 @@
-use Rattle.std.proofs.Common.{◌≡◌}
-use Rattle.gos_aiger.specs.inner.Orders.{numbers_from}
-use Rattle.gos_aiger.proofs.order.numbers.Given as goal
-
--- the numbers so far
-abbrev pub invariant-loop-n : goal.invariant-loop-n
-invariant-loop-n l = l.numbers.items ≡ numbers_from 0 l.n

@@ -1,9 +1,0 @@
-use Rattle.gos_gates.specs.laws.SkipKept.{skip_gates}
-use Rattle.gos_gates.proofs.GatesLemmas.{shared_gates}
-use Rattle.gos_gates.proofs.laws.gates.small_gates.Goals as goal
-
-pub returns-clause-skip : goal.returns-clause-skip
-returns-clause-skip c = skip_gates
-
-pub returns-clause-share : goal.returns-clause-share
-returns-clause-share c = shared_gates

@@ -1,0 +1,4 @@
+pub mod GatesLemmas
+pub mod PathLemmas
+pub mod WireLemmas
+pub mod causal

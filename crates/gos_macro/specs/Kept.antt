@@ -1,0 +1,20 @@
+-- All that the gates of a part keep.
+--
+-- Read first: Law, Fit.
+use Rattle.std.specs.Prelude.{ℕ, List}
+use Rattle.gos_netlist.specs.Nets.{Cell}
+use Rattle.gos_netlist.specs.Settling.{Numbers}
+use Rattle.gos_plan.specs.Kinds.{Part}
+use Rattle.gos_plan.specs.Firing.{State, Token}
+use Rattle.gos_macro.specs.Gates.{Incoming, Outgoing}
+use Rattle.gos_macro.specs.Law.{GatesLaw, RestsAtZero, StaySilent}
+use Rattle.gos_macro.specs.Fit.{GatesFit}
+
+-- In each cycle they do what the part does by its rows; registers that are all 0 stand for a part at rest; no number goes
+-- out without its pulse; and in a netlist they keep what is asked of an accepted one.
+pub record KeepLaws (k : Part) (cells : ℕ → Incoming → List Cell) (outs : ℕ → List Outgoing) (late : List ℕ)
+    (pending : ℕ → Numbers → List Token) (stands : ℕ → Numbers → State → Type 0) : Type 0 where
+  pub law : GatesLaw k cells outs late pending stands
+  pub rests : RestsAtZero pending stands
+  pub silent : StaySilent k cells outs
+  pub fits : GatesFit k cells outs

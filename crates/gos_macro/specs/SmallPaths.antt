@@ -1,0 +1,42 @@
+-- Small gates and their paths: those of Skip, whose request goes on as its answer, and those of a Share of a command, whose
+-- requests wait in a register for the next cycle.
+--
+-- Read first: Paths, SmallGates.
+use Rattle.std.specs.Prelude.{ℕ, Bool, true, false, List, [], ◌∷◌}
+use Rattle.gos_types.specs.Types.{Com}
+use Rattle.gos_netlist.specs.Nets.{Cell, Const}
+use Rattle.gos_plan.specs.Kinds.{Skip, Share}
+use Rattle.gos_macro.specs.Gates.{Incoming}
+use Rattle.gos_macro.specs.Cells.{bit}
+use Rattle.gos_macro.specs.SmallGates.{skip_cells, skip_outs, shared_cells, shared_outs}
+use Rattle.gos_macro.specs.Paths.{KeepPaths, TellsIfItPasses, is_pair}
+
+-- the gates of Skip pass the request on
+abbrev pub skip_passing : ℕ → ℕ → Bool
+skip_passing = is_pair ((0, 0) ∷ [])
+
+abbrev pub SkipPaths : Type 0
+SkipPaths = KeepPaths Skip skip_cells skip_outs [] skip_passing
+
+-- who says that they don't is wrong
+abbrev pub SkipIsNoDeadEnd : Type 0
+SkipIsNoDeadEnd = KeepPaths Skip skip_cells skip_outs [] (λ from to. false) → ⊥
+
+-- a Share of a command passes the answer of its source on to its first caller
+abbrev pub SharedAnswersPass : Type 0
+SharedAnswersPass = TellsIfItPasses (Share Com) shared_cells shared_outs 0 1 true
+
+-- and that caller's request waits
+abbrev pub SharedRequestsWait : Type 0
+SharedRequestsWait = TellsIfItPasses (Share Com) shared_cells shared_outs 1 0 false
+
+-- so the answer can't be late
+abbrev pub SharedAnswersAreNotLate : Type 0
+SharedAnswersAreNotLate = (passing : ℕ → ℕ → Bool) → KeepPaths (Share Com) shared_cells shared_outs (0 ∷ []) passing → ⊥
+
+-- A cell that shows the number of the net that comes in. So it doesn't know this net by name alone.
+abbrev pub counting_cells : ℕ → Incoming → List Cell
+counting_cells b i = bit (Const (i.pulse 0)) ∷ []
+
+abbrev pub CountingIsNotNamed : Type 0
+CountingIsNotNamed = (passing : ℕ → ℕ → Bool) → KeepPaths Skip counting_cells skip_outs [] passing → ⊥
