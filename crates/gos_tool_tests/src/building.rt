@@ -1,27 +1,16 @@
 // Worked builds, and files that are refused.
-use crate::running::{Left, ran};
-use crate::texts::{ONE, SKIP_OBJECT, TWO};
+use crate::rows::REJECTED;
+use crate::running::{Left, cycles_of, ran};
+use crate::texts::{ONE, SKIP_OBJECT, TWO, USAGE};
+use crate::worked::{ENDLESS, ENTRIES, SEQUENCE, WORKED, Worked};
 use std::alloc::{AllocError, Global};
 use std::test::Fail;
-
-/// A build of two instances, of which the second serves the import `f` of the first.
-const CALLED: &[u8] =
-    b"gosbuild 1\ninst main main.gos main.obj\ninst k k.gos k.obj\nbind main f k\nroot main\nnet out.net\nverilog out.v\npulses in.pls\ntrace out.trc\n";
-
-/// The pulses of that build's run, in their order.
-const CALLS: &[u8] =
-    b"main.run\nv.write 1\nv.done\nv.write 1\nv.done\nv.write 2\nv.done\nv.write 2\nv.done\nmain.done\ncycles 300000\n";
 
 /// A build of two instances with one source.
 const TWICE: &[u8] =
     b"gosbuild 1\ninst main main.gos main.obj\ninst p k.gos p.obj\ninst q k.gos q.obj\nbind main a p\nbind main b q\nroot main\nnet out.net\nverilog out.v\npulses in.pls\ntrace out.trc\n";
 
-const SOURCE: &[u8] = b"import c : com import d : com export c ; d : com\n";
-
-const PULSES: &[u8] = b"cycles 2000\nnext 0 main.run\nnext 0 c.done\nnext 0 d.done\n";
-
-/// The pulses of that run, in their order.
-const EVENTS: &[u8] = b"main.run\nc.run\nc.done\nd.run\nd.done\nmain.done\ncycles 2000\n";
+const SOURCE: &[u8] = b"import c : com import d : com export c ; d : com";
 
 const RUN: &[u8] = b"cycles 2000\nnext 0 main.run\n";
 
@@ -82,89 +71,72 @@ fn is_same(name: &[u8], one: &Left, other: &Left) -> bool {
     }
 }
 
-// Whether a build ended well, printed this line, and has a trace of these pulses.
-fn is_traced(alloc: Global, left: &Left, line: &[u8], order: &[u8]) -> Result<bool, AllocError> {
-    Ok(left.ended(0, line) && left.is_traced(alloc, order)?)
+// Whether a build leaves its line, its trace from cycle 0 on and all its files.
+fn is_built(alloc: Global, worked: &Worked) -> Result<bool, AllocError> {
+    let left = ran(alloc, &BUILD, worked.files)?;
+    let trace = left.file(b"out.trc").unwrap_or(b"");
+    let traced = left.is_traced(alloc, worked.order.as_bytes())? && trace.starts_with(b"0 main.");
+    let written = left.has(b"main.obj") && left.has(b"out.net") && left.has(b"out.v");
+    Ok(left.ended(0, worked.line.as_bytes()) && traced && written)
 }
 
 #[test]
-fn sequence_is_built_and_traced(rt: HostRuntime) -> Result<(), Fail> {
-    let left = built_alone(rt.alloc(), SOURCE, PULSES)?;
-    let line = b"ok weight 17 cycles 2000 pulses 6 unused 0\n";
-    assert!(rt; is_traced(rt.alloc(), &left, line, EVENTS)?);
+fn worked_builds_are_traced(rt: HostRuntime) -> Result<(), Fail> {
+    for worked in WORKED.iter() {
+        let line = worked.line;
+        assert!(rt; is_built(rt.alloc(), worked)?, "not {line}");
+    }
     Ok(())
 }
 
-// Sources and pulses, and of each build the line and the pulses in their order. A local variable is 0 at each entry; a
-// branch runs beside one that never ends, and beside one that waits.
-const GROUND: [(&str, &str, &str, &str); 8] = [
-    (
-        "export skip : com",
-        "cycles 1000\nnext 0 main.run\n",
-        "ok weight 5 cycles 1000 pulses 2 unused 0\n",
-        "main.run\nmain.done\ncycles 1000\n",
-    ),
-    (
-        "import c : com import d : com export c ; d ; c : com",
-        "cycles 2000\nnext 0 main.run\nnext 0 c.done\nnext 0 d.done\nnext 0 c.done\n",
-        "ok weight 27 cycles 2000 pulses 8 unused 0\n",
-        "main.run\nc.run\nc.done\nd.run\nd.done\nc.run\nc.done\nmain.done\ncycles 2000\n",
-    ),
-    (
-        "import c : com export new x : 1 in while !x = 0:1 do (x := 1:1 ; c) : com",
-        "cycles 999\nnext 0 main.run\nnext 0 c.done\nnext 0 main.run\nnext 0 c.done\n",
-        "ok weight 58 cycles 999 pulses 8 unused 0\n",
-        "main.run\nc.run\nc.done\nmain.done\nmain.run\nc.run\nc.done\nmain.done\ncycles 999\n",
-    ),
-    (
-        "export 255:8 + 1:8 : exp 8",
-        "cycles 1000\nnext 0 main.ask\n",
-        "ok weight 15 cycles 1000 pulses 2 unused 0\n",
-        "main.ask\nmain.ans 0\ncycles 1000\n",
-    ),
-    (
-        "export 18446744073709551615:64 + 2:64 : exp 64",
-        "cycles 1000\nnext 0 main.ask\n",
-        "ok weight 15 cycles 1000 pulses 2 unused 0\n",
-        "main.ask\nmain.ans 1\ncycles 1000\n",
-    ),
-    (
-        "export while 1:1 do skip : com",
-        "cycles 1000\nnext 0 main.run\n",
-        "ok weight 15 cycles 1000 pulses 1 unused 0\n",
-        "main.run\ncycles 1000\n",
-    ),
-    (
-        "import d : com export (while 1:1 do skip) || d : com",
-        "cycles 1000\nnext 0 main.run\nnext 0 d.done\n",
-        "ok weight 26 cycles 1000 pulses 3 unused 0\n",
-        "main.run\nd.run\nd.done\ncycles 1000\n",
-    ),
-    (
-        "import c : com import d : com export c || d : com",
-        "cycles 1000\nnext 0 main.run\nnext 0 d.done\n",
-        "ok weight 17 cycles 1000 pulses 4 unused 0\n",
-        "main.run\nc.run\nd.run\nd.done\ncycles 1000\n",
-    ),
-];
-
-// Whether the build of a source under these pulses leaves this line, this trace and all its files.
-fn is_built(
-    alloc: Global,
-    source: &str,
-    pulses: &str,
-    line: &str,
-    order: &str,
-) -> Result<bool, AllocError> {
-    let left = built_alone(alloc, source.as_bytes(), pulses.as_bytes())?;
-    let traced = is_traced(alloc, &left, line.as_bytes(), order.as_bytes())?;
-    Ok(traced && left.has(b"out.net") && left.has(b"out.v"))
+// The cycles of an event in the trace of a build, a line each.
+fn cycles(alloc: Global, left: &Left, event: &[u8]) -> Result<Vec<u8>, AllocError> {
+    cycles_of(alloc, left.file(b"out.trc").unwrap_or(b""), event)
 }
 
 #[test]
-fn ground_modules_are_built(rt: HostRuntime) -> Result<(), Fail> {
-    for (source, pulses, line, order) in GROUND.iter() {
-        assert!(rt; is_built(rt.alloc(), source, pulses, line, order)?);
+fn answers_come_in_the_cycles_of_their_requests(rt: HostRuntime) -> Result<(), Fail> {
+    let alloc = rt.alloc();
+    let left = ran(alloc, &BUILD, SEQUENCE)?;
+    let first = cycles(alloc, &left, b" c.run")?;
+    assert!(rt; !first.is_empty());
+    assert!(rt; cycles(alloc, &left, b" c.done")?.as_slice() == first.as_slice());
+    let second = cycles(alloc, &left, b" d.run")?;
+    assert!(rt; !second.is_empty());
+    assert!(rt; cycles(alloc, &left, b" d.done")?.as_slice() == second.as_slice());
+    Ok(())
+}
+
+// The first run begins in cycle 0, and each other one in the cycle in which the one before it ends.
+#[test]
+fn runs_follow_each_other_at_once(rt: HostRuntime) -> Result<(), Fail> {
+    let alloc = rt.alloc();
+    let left = ran(alloc, &BUILD, ENTRIES)?;
+    let mut wanted = b"0\n".to_vec(alloc)?;
+    wanted.extend_from_slice(cycles(alloc, &left, b" main.done")?.as_slice())?;
+    let begun = cycles(alloc, &left, b" main.run")?;
+    assert!(rt; begun.len() > 4 && wanted.starts_with(begun.as_slice()));
+    Ok(())
+}
+
+// A netlist that never answers is accepted, and run again.
+#[test]
+fn netlist_of_an_endless_loop_is_run(rt: HostRuntime) -> Result<(), Fail> {
+    let alloc = rt.alloc();
+    let mut left = ran(alloc, &BUILD, ENDLESS)?;
+    assert!(rt; left.holds(b"out.trc", b"0 main.run\ncycles 10000\n"));
+    left.goes_on(alloc, &["sim", "out.net", "in.pls", "again.trc"])?;
+    assert!(rt; left.ended(0, b"ok cycles 10000 pulses 1 unused 0\n"));
+    assert!(rt; left.holds(b"again.trc", b"0 main.run\ncycles 10000\n"));
+    Ok(())
+}
+
+// Nothing is written of a source that is refused.
+#[test]
+fn rejected_sources_are_not_built(rt: HostRuntime) -> Result<(), Fail> {
+    for (source, line) in REJECTED.iter() {
+        let left = built_alone(rt.alloc(), source.as_bytes(), RUN)?;
+        assert!(rt; left.ended(2, line.as_bytes()) && !left.has(b"main.obj"));
     }
     Ok(())
 }
@@ -197,43 +169,6 @@ fn instances_of_one_source_are_compiled_and_linked(rt: HostRuntime) -> Result<()
     let twice = built_of_two(rt.alloc(), TWICE, main, b"export skip : com", RUN)?;
     assert!(rt; twice.ended(0, b"ok weight 27 cycles 2000 pulses 2 unused 0\n"));
     assert!(rt; twice.holds(b"p.obj", SKIP_OBJECT) && twice.holds(b"q.obj", SKIP_OBJECT));
-    Ok(())
-}
-
-// A procedure is called with the write of a variable, twice, and runs it twice each time.
-#[test]
-fn functions_are_built(rt: HostRuntime) -> Result<(), Fail> {
-    let main = b"import f : com -> com import v : var 8 export f (v := 1:8) ; f (v := 2:8) : com";
-    let k = b"export fun a : com . a ; a : com -> com";
-    let pulses =
-        b"cycles 300000\nnext 0 main.run\nnext 0 v.done\nnext 0 v.done\nnext 0 v.done\nnext 0 v.done\n";
-    let left = built_of_two(rt.alloc(), CALLED, main, k, pulses)?;
-    let line = b"ok weight 84 cycles 300000 pulses 10 unused 0\n";
-    assert!(rt; is_traced(rt.alloc(), &left, line, CALLS)?);
-    Ok(())
-}
-
-// An argument is called by name: asked twice, it is summed twice. Of a pair of handlers one is used.
-const ARGUMENTS: [(&str, &str, &str, &str); 2] = [
-    (
-        "import e : exp 8 export (fun x : exp 8 . x + x) e : exp 8",
-        "cycles 20000\nnext 0 main.ask\nnext 0 e.ans 3\nnext 0 e.ans 4\n",
-        "ok weight 32 cycles 20000 pulses 6 unused 0\n",
-        "main.ask\ne.ask\ne.ans 3\ne.ask\ne.ans 4\nmain.ans 7\ncycles 20000\n",
-    ),
-    (
-        "import c : com import d : com export (fun p : com * com . fst p) (c, d) : com",
-        "cycles 20000\nnext 0 main.run\nnext 0 c.done\n",
-        "ok weight 41 cycles 20000 pulses 4 unused 0\n",
-        "main.run\nc.run\nc.done\nmain.done\ncycles 20000\n",
-    ),
-];
-
-#[test]
-fn arguments_and_pairs_are_built(rt: HostRuntime) -> Result<(), Fail> {
-    for (source, pulses, line, order) in ARGUMENTS.iter() {
-        assert!(rt; is_built(rt.alloc(), source, pulses, line, order)?);
-    }
     Ok(())
 }
 
@@ -287,6 +222,100 @@ fn later_files_are_rejected(rt: HostRuntime) -> Result<(), Fail> {
     Ok(())
 }
 
+// A build whose objects are written and can't be linked: the lines of its instances and bindings, the source of `main` and the one of
+// the others, the objects, and the line that it prints.
+struct Unlinked {
+    lines: &'static str,
+    main: &'static [u8],
+    other: &'static [u8],
+    objects: &'static [&'static [u8]],
+    line: &'static str,
+}
+
+const PAIR: &[u8] = b"import a : com import b : com export a ; b : com";
+
+const UNLINKED: [Unlinked; 8] = [
+    Unlinked {
+        lines: "inst k k.gos k.obj\nbind other a k\n",
+        main: PAIR,
+        other: b"export skip : com",
+        objects: &[b"main.obj", b"k.obj"],
+        line: "b.txt: B2 line 4 other\n",
+    },
+    Unlinked {
+        lines: "inst k k.gos k.obj\nbind main z k\n",
+        main: PAIR,
+        other: b"export skip : com",
+        objects: &[b"main.obj", b"k.obj"],
+        line: "b.txt: B3 line 4 z\n",
+    },
+    Unlinked {
+        lines: "inst k k.gos k.obj\nbind main a k\nbind main a k\n",
+        main: PAIR,
+        other: b"export skip : com",
+        objects: &[b"main.obj", b"k.obj"],
+        line: "b.txt: B5 lines 4 and 5\n",
+    },
+    Unlinked {
+        lines: "inst k k.gos k.obj\nbind main a k\nbind main b k\n",
+        main: PAIR,
+        other: b"export skip : com",
+        objects: &[b"main.obj", b"k.obj"],
+        line: "b.txt: B6 lines 4 and 5\n",
+    },
+    Unlinked {
+        lines: "inst p k.gos p.obj\ninst q k.gos q.obj\nbind p g q\nbind q g p\n",
+        main: b"import f : com -> com export f skip : com",
+        other: b"import g : com -> com export g : com -> com",
+        objects: &[b"main.obj", b"p.obj", b"q.obj"],
+        line: "b.txt: B7 line 6\n",
+    },
+    Unlinked {
+        lines: "inst k k.gos k.obj\n",
+        main: PAIR,
+        other: b"export skip : com",
+        objects: &[b"main.obj", b"k.obj"],
+        line: "b.txt: B8 k\n",
+    },
+    Unlinked {
+        lines: "inst k k.gos k.obj\nbind main b k\n",
+        main: PAIR,
+        other: b"import a : com export a : com",
+        objects: &[b"main.obj", b"k.obj"],
+        line: "b.txt: B9 a in main and k\n",
+    },
+    Unlinked {
+        lines: "",
+        main: b"import f : com -> com import v : var 8 export f (v := 1:8) ; f (v := 2:8) : com",
+        other: b"",
+        objects: &[b"main.obj"],
+        line: "b.txt: B10 f\n",
+    },
+];
+
+// Whether this is the end of such a build: its objects are written, and no netlist.
+fn is_unlinked(alloc: Global, unlinked: &Unlinked) -> Result<bool, AllocError> {
+    let lines = unlinked.lines;
+    let build = format!(in alloc;
+        "gosbuild 1\ninst main main.gos main.obj\n{lines}root main\nnet out.net\nverilog out.v\npulses in.pls\ntrace out.trc\n"
+    )?;
+    let left = built_of_two(alloc, build.as_bytes(), unlinked.main, unlinked.other, RUN)?;
+    let mut written = true;
+    for object in unlinked.objects {
+        written = written && left.has(object);
+    }
+    Ok(left.ended(2, unlinked.line.as_bytes()) && written && !left.has(b"out.net"))
+}
+
+#[test]
+fn objects_that_cannot_be_linked_are_written(rt: HostRuntime) -> Result<(), Fail> {
+    for unlinked in UNLINKED.iter() {
+        let line = unlinked.line;
+        assert!(rt; is_unlinked(rt.alloc(), unlinked)?, "not {line}");
+    }
+    Ok(())
+}
+
 // Pulse files, and the line that each is told.
 const PULSE_FILES: [(&str, &str); 2] = [
     (
@@ -322,8 +351,6 @@ fn build_file_is_told_by_its_line(rt: HostRuntime) -> Result<(), Fail> {
 #[test]
 fn no_words_are_answered_with_the_usage(rt: HostRuntime) -> Result<(), Fail> {
     let left = ran(rt.alloc(), &[], &[])?;
-    let usage =
-        b"usage: gos check SRC | compile SRC OBJ | link BUILD | sim NET PULSES TRACE | build BUILD | demo N | tidy NET OUT | gates NET OUT | explain BUILD MOVES | verify BUILD MOVES\n";
-    assert!(rt; left.ended(1, usage));
+    assert!(rt; left.ended(1, USAGE));
     Ok(())
 }

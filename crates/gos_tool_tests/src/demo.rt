@@ -1,5 +1,6 @@
 // The files of the demo, and words that ask for none.
-use crate::running::{Left, ran};
+use crate::running::{Left, events, ran};
+use crate::texts::USAGE;
 use std::alloc::{AllocError, Global};
 use std::test::Fail;
 
@@ -30,12 +31,17 @@ const LEVELS: [(&str, &str); 3] = [
     ("12", "ok weight 435 cycles 98400 pulses 6 unused 0\n"),
 ];
 
+/// The pulses of each run, in their order.
+const ORDER: &[u8] = b"main.run\nc.run\nc.done\nc.run\nc.done\nmain.done\ncycles ";
+
 // The command is run twice, since the first level calls the second twice.
 #[test]
 fn each_number_of_levels_is_run(rt: HostRuntime) -> Result<(), Fail> {
     for (number, line) in LEVELS.iter() {
         let left = demo(rt.alloc(), number)?;
         assert!(rt; left.ended(0, line.as_bytes()));
+        let order = events(rt.alloc(), left.file(b"demo.trc").unwrap_or(b""))?;
+        assert!(rt; order.starts_with(ORDER));
     }
     Ok(())
 }
@@ -46,7 +52,7 @@ const NO_LEVELS: [&str; 5] = ["0", "13", "01", "1.", "x"];
 fn other_numbers_are_no_demo(rt: HostRuntime) -> Result<(), Fail> {
     for number in NO_LEVELS.iter() {
         let left = demo(rt.alloc(), number)?;
-        assert!(rt; left.has_code(1) && !left.has(b"demo.txt"));
+        assert!(rt; left.ended(1, USAGE) && !left.has(b"demo.txt"));
     }
     Ok(())
 }

@@ -1,6 +1,7 @@
 // Worked rows of the commands `explain` and `verify`: build files, sources, traces and moves, and what is printed.
 use crate::running::{Left, ran};
 use crate::texts::{ONE, TWO};
+use crate::worked::{WORKED, Worked};
 use std::alloc::{AllocError, Global};
 use std::test::Fail;
 
@@ -155,6 +156,118 @@ fn moves_are_found(rt: HostRuntime) -> Result<(), Fail> {
         assert!(rt; left.ended(*status, line.as_bytes()));
         assert!(rt; *status != 0 || left.holds(b"m.txt", MOVES.as_bytes()));
         assert!(rt; *status == 0 || !left.has(moves.as_bytes()));
+    }
+    Ok(())
+}
+
+// A loop without an end is never done, and the second label may cost two million steps. (Under `rt try`, which checks each step, this
+// takes longer than a test may.)
+#[test]
+fn steps_for_a_label_are_spent(rt: HostRuntime) -> Result<(), Fail> {
+    let files: [(&[u8], &[u8]); 3] = [
+        (b"b.txt", ONE),
+        (b"main.gos", b"export while 1:1 do skip : com"),
+        (b"out.trc", b"0 main.run\n5 main.done\ncycles 10000\n"),
+    ];
+    let left = ran(rt.alloc(), &["explain", "b.txt", "m.txt"], &files)?;
+    assert!(rt; left.ended(2, b"out.trc: M6 label 1\n") && !left.has(b"m.txt"));
+    Ok(())
+}
+
+// Whether moves are found for the trace that a build leaves, and are verified: both commands print one line, which counts as many labels
+// as the trace has pulses.
+fn is_explained(alloc: Global, worked: &Worked) -> Result<bool, AllocError> {
+    let mut left = ran(alloc, &["build", "b.txt"], worked.files)?;
+    left.goes_on(alloc, &["explain", "b.txt", "m.txt"])?;
+    let lines = lines_of(left.file(b"m.txt").unwrap_or(b""));
+    let labels = lines_of(worked.order.as_bytes()).saturating_sub(1);
+    let lines = lines.saturating_sub(3);
+    let line = format!(in alloc; "ok lines {lines} labels {labels}\n")?;
+    let found = left.ended(0, line.as_bytes());
+    left.goes_on(alloc, &["verify", "b.txt", "m.txt"])?;
+    Ok(found && left.ended(0, line.as_bytes()))
+}
+
+// How many lines a text has.
+fn lines_of(text: &[u8]) -> usize {
+    text.iter().filter(|byte| **byte == b'\n').count()
+}
+
+#[test]
+fn traces_of_builds_are_explained_and_verified(rt: HostRuntime) -> Result<(), Fail> {
+    for worked in WORKED.iter() {
+        let line = worked.line;
+        assert!(rt; is_explained(rt.alloc(), worked)?, "not {line}");
+    }
+    Ok(())
+}
+
+// A build of so many modules of one source, each of which serves the import of the one before it, and of one more behind them.
+fn chain(alloc: Global, levels: u64) -> Result<Vec<u8>, AllocError> {
+    let mut build = b"gosbuild 1\ninst main main.gos main.obj\n".to_vec(alloc)?;
+    for level in 0..levels {
+        let line = format!(in alloc; "inst l{level} twice.gos l{level}.obj\n")?;
+        build.extend_from_slice(line.as_bytes())?;
+    }
+    let last = format!(in alloc; "inst l{levels} id.gos l{levels}.obj\nbind main f l0\n")?;
+    build.extend_from_slice(last.as_bytes())?;
+    for level in 0..levels {
+        let next = level.saturating_add(1);
+        let line = format!(in alloc; "bind l{level} f l{next}\n")?;
+        build.extend_from_slice(line.as_bytes())?;
+    }
+    build.extend_from_slice(
+        b"root main\nnet out.net\nverilog out.v\npulses in.pls\ntrace out.trc\n",
+    )?;
+    Ok(build)
+}
+
+// Numbers of modules that use a function twice, the source of `main`, commands, and the line that each is told. The program has too many
+// nodes, or it has so many that it gets too many where its second half is put in.
+const LARGE: [(u64, &str, &str, &str); 4] = [
+    (
+        20,
+        "import f : com -> com export f skip : com",
+        "explain",
+        "b.txt: M4 nodes 1000001\n",
+    ),
+    (
+        20,
+        "import f : com -> com export f skip : com",
+        "verify",
+        "b.txt: M4 nodes 1000001\n",
+    ),
+    (
+        16,
+        "import f : com -> com export (fun a : com . a ; a) (f skip) : com",
+        "explain",
+        "out.trc: M4 nodes 1048569\n",
+    ),
+    (
+        16,
+        "import f : com -> com export (fun a : com . a ; a) (f skip) : com",
+        "verify",
+        "m.txt: M4 nodes 1048569\n",
+    ),
+];
+
+#[test]
+fn more_than_a_million_nodes_are_told(rt: HostRuntime) -> Result<(), Fail> {
+    for (levels, main, verb, line) in LARGE.iter() {
+        let build = chain(rt.alloc(), *levels)?;
+        let files: [(&[u8], &[u8]); 6] = [
+            (b"b.txt", build.as_slice()),
+            (b"main.gos", main.as_bytes()),
+            (
+                b"twice.gos",
+                b"import f : com -> com export fun a : com . f a ; f a : com -> com",
+            ),
+            (b"id.gos", b"export fun a : com . a : com -> com"),
+            (b"out.trc", RUN.as_bytes()),
+            (b"m.txt", b"gosmoves 1\nlines 3\nr\nu .\nr\nend\n"),
+        ];
+        let left = ran(rt.alloc(), &[verb, "b.txt", "m.txt"], &files)?;
+        assert!(rt; left.ended(2, line.as_bytes()), "not {line}");
     }
     Ok(())
 }

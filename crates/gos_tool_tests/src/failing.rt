@@ -1,6 +1,7 @@
 // Commands over a store of which one call fails, and over a sink that fails: what each of them leaves.
 use crate::running::{Left, held, ran, words_of};
 use crate::texts::{ONE, SKIP_OBJECT};
+use crate::worked::CALLED;
 use gos_outside::{Call, MemorySink, MemoryStore, SureSink};
 use gos_tool::run;
 use std::alloc::{AllocError, Global};
@@ -13,24 +14,27 @@ struct Command {
     calls: &'static [(Call, &'static [u8])],
 }
 
-const COMMANDS: [Command; 8] = [
+const COMMANDS: [Command; 9] = [
     Command {
         words: &["build", "b.txt"],
         files: &[
-            (
-                b"b.txt",
-                b"gosbuild 1\ninst main main.gos main.obj\ninst lib lib.gos lib.obj\nbind main f lib\nroot main\nnet out.net\nverilog out.v\npulses in.pls\ntrace out.trc\n",
-            ),
-            (
-                b"main.gos",
-                b"import f : com -> com import v : var 8 export f (v := 1:8) ; f (v := 2:8) : com",
-            ),
-            (b"lib.gos", b"export fun a : com . a ; a : com -> com"),
-            (
-                b"in.pls",
-                b"cycles 2000\nnext 0 main.run\nnext 0 v.done\nnext 0 v.done\nnext 0 v.done\nnext 0 v.done\n",
-            ),
+            (b"b.txt", ONE),
+            (b"main.gos", b"export skip : com"),
+            (b"in.pls", b"cycles 1000\nnext 0 main.run\n"),
         ],
+        calls: &[
+            (Call::Read, b"b.txt"),
+            (Call::Read, b"main.gos"),
+            (Call::Write, b"main.obj"),
+            (Call::Write, b"out.net"),
+            (Call::Write, b"out.v"),
+            (Call::Read, b"in.pls"),
+            (Call::Write, b"out.trc"),
+        ],
+    },
+    Command {
+        words: &["build", "b.txt"],
+        files: CALLED,
         calls: &[
             (Call::Read, b"b.txt"),
             (Call::Read, b"main.gos"),
@@ -212,5 +216,18 @@ fn failing_line_is_told(rt: HostRuntime) -> Result<(), Fail> {
     for command in COMMANDS.iter() {
         assert!(rt; ends_unsaid(rt.alloc(), command)?);
     }
+    Ok(())
+}
+
+#[test]
+fn missing_source_is_told(rt: HostRuntime) -> Result<(), Fail> {
+    let alloc = rt.alloc();
+    let mut store = MemoryStore::new(Vec::new(alloc), Vec::new(alloc));
+    let mut out = SureSink::new(alloc);
+    let words = words_of(alloc, &["check", "none.gos"])?;
+    let code = run(alloc, words.as_slice(), &mut store, &mut out).code();
+    let name: &[u8] = b"none.gos";
+    assert!(rt; code == 3 && out.bytes().is_empty());
+    assert!(rt; store.last_fault() == Some((Call::Read, name)));
     Ok(())
 }

@@ -27,3 +27,5 @@ mod rows;
 mod running;
 #[cfg(test)]
 mod texts;
+#[cfg(test)]
+mod worked;

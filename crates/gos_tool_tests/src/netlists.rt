@@ -1,5 +1,6 @@
 // Worked rows of the commands `tidy` and `gates`: netlists, and what is written and printed.
 use crate::running::{Left, ran};
+use crate::worked::CONTROLLER;
 use std::alloc::{AllocError, Global};
 use std::test::Fail;
 
@@ -83,5 +84,55 @@ fn large(alloc: Global) -> Result<Vec<u8>, AllocError> {
 fn netlist_that_is_too_large_is_not_lowered(rt: HostRuntime) -> Result<(), Fail> {
     let left = rewritten(rt.alloc(), "gates", large(rt.alloc())?.as_slice())?;
     assert!(rt; left.ended(2, b"a.net: G1 bits 2000099\n") && !left.has(b"out"));
+    Ok(())
+}
+
+#[test]
+fn netlist_has_one_trace_before_and_after_it_is_tidy(rt: HostRuntime) -> Result<(), Fail> {
+    let alloc = rt.alloc();
+    let line = b"ok cycles 500000 pulses 20 unused 0\n";
+    let mut left = ran(alloc, &["build", "b.txt"], CONTROLLER)?;
+    left.goes_on(alloc, &["sim", "out.net", "in.pls", "before.trc"])?;
+    assert!(rt; left.ended(0, line));
+    left.goes_on(alloc, &["tidy", "out.net", "tidy.net"])?;
+    assert!(rt; left.has_code(0));
+    left.goes_on(alloc, &["sim", "tidy.net", "in.pls", "after.trc"])?;
+    assert!(rt; left.ended(0, line));
+    let built = left.file(b"out.trc").unwrap_or(b"");
+    assert!(rt; left.holds(b"before.trc", built) && left.holds(b"after.trc", built));
+    Ok(())
+}
+
+/// What stands before each number of the line that tells how a netlist is lowered.
+const COUNTS: [&[u8]; 4] = [b"ok inputs ", b" latches ", b" outputs ", b" ands "];
+
+// A text up to its first line feed.
+fn first_line(text: &[u8]) -> &[u8] {
+    match text.iter().position(|byte| *byte == b'\n') {
+        Some(end) => text.get(..end).unwrap_or(text),
+        None => text,
+    }
+}
+
+// The line that tells of a text of gates: the numbers of its first line but for the first of them.
+fn counted(alloc: Global, gates: &[u8]) -> Result<Vec<u8>, AllocError> {
+    let mut line = Vec::new(alloc);
+    let numbers = first_line(gates).split(|byte| *byte == b' ').skip(2);
+    for (count, number) in COUNTS.iter().zip(numbers) {
+        line.extend_from_slice(count)?;
+        line.extend_from_slice(number)?;
+    }
+    line.push(b'\n')?;
+    Ok(line)
+}
+
+#[test]
+fn netlist_of_the_demo_is_lowered(rt: HostRuntime) -> Result<(), Fail> {
+    let alloc = rt.alloc();
+    let mut left = ran(alloc, &["demo", "4"], &[])?;
+    left.goes_on(alloc, &["gates", "demo.net", "demo.aag"])?;
+    let gates = left.file(b"demo.aag").unwrap_or(b"");
+    assert!(rt; gates.starts_with(b"aag "));
+    assert!(rt; left.ended(0, counted(alloc, gates)?.as_slice()));
     Ok(())
 }

@@ -10,22 +10,58 @@ fn linked(alloc: Global, object: &[u8]) -> Result<Left, AllocError> {
     ran(alloc, &["link", "b.txt"], &files)
 }
 
-// Whether `link` tells this line of the object, and writes no netlist.
-fn is_rejected(alloc: Global, object: &[u8], line: &[u8]) -> Result<bool, AllocError> {
-    let left = linked(alloc, object)?;
-    Ok(left.ended(2, line) && !left.has(b"out.net"))
+// An object as a text of this format.
+fn in_format(alloc: Global, object: &[u8], format: u8) -> Result<Vec<u8>, AllocError> {
+    let mut text = Vec::new(alloc);
+    for (place, byte) in object.iter().enumerate() {
+        text.push(if place == 7 { format } else { *byte })?;
+    }
+    Ok(text)
 }
+
+// Whether `link` tells this line of the object in either format, and writes no netlist.
+fn is_rejected(alloc: Global, object: &[u8], line: &[u8]) -> Result<bool, AllocError> {
+    let mut right = true;
+    for format in [b'1', b'2'] {
+        let left = linked(alloc, &in_format(alloc, object, format)?)?;
+        right = right && left.ended(2, line) && !left.has(b"out.net");
+    }
+    Ok(right)
+}
+
+/// An object of the first format.
+const FIRST: &[u8] =
+    b"gosobj 1\nweight 5\nimports 0\nresult com\nparts 1\nskip\njoints 1\nr.0 p0.0\nend\n";
 
 #[test]
 fn object_is_linked(rt: HostRuntime) -> Result<(), Fail> {
-    let skip = linked(rt.alloc(), SKIP_OBJECT)?;
-    assert!(rt; skip.ended(0, b"ok weight 5\n"));
-    assert!(rt; skip.has(b"out.net") && skip.has(b"out.v") && !skip.has(b"out.trc"));
+    for object in [FIRST, SKIP_OBJECT] {
+        let skip = linked(rt.alloc(), object)?;
+        assert!(rt; skip.ended(0, b"ok weight 5\n"));
+        assert!(rt; skip.has(b"out.net") && skip.has(b"out.v") && !skip.has(b"out.trc"));
+    }
+    Ok(())
+}
+
+// Neither direction of the joint keeps a register, so that of `done` is the only one.
+#[test]
+fn netlist_has_few_registers(rt: HostRuntime) -> Result<(), Fail> {
+    let skip = linked(rt.alloc(), FIRST)?;
+    let net = skip.file(b"out.net").unwrap_or(b"");
+    let registers = net
+        .split(|byte| *byte == b'\n')
+        .filter(|line| line.starts_with(b"reg "))
+        .count();
+    assert!(rt; registers == 1);
     Ok(())
 }
 
 // Objects that are rejected, and the line that each is told.
-const OBJECTS: [(&str, &str); 10] = [
+const OBJECTS: [(&str, &str); 11] = [
+    (
+        "gosobj 2\nweight 5\nimports 0\nresult com\nparts 1\nskip\njoints 1\np0.0 r.0\nend\n",
+        "main.obj: O2 joint 0\n",
+    ),
     (
         "gosobj 2\nweight 5\nimports 0\nresult com\nparts 1\nskip\njoints 1\nr.0 p0.0\nend\n\n",
         "main.obj: O1 at 74\n",
@@ -108,6 +144,30 @@ fn result_of_too_many_handshakes_is_rejected(rt: HostRuntime) -> Result<(), Fail
     assert!(rt; is_rejected(rt.alloc(), most.as_slice(), b"main.obj: O2 joint 0\n")?);
     let more = with_commands(rt.alloc(), 64)?;
     assert!(rt; is_rejected(rt.alloc(), more.as_slice(), b"main.obj: O3 limit at 539\n")?);
+    Ok(())
+}
+
+// An object of so many parts that share a function of 63 commands.
+fn with_shares(alloc: Global, parts: u64) -> Result<Vec<u8>, AllocError> {
+    let mut share = b"share ".to_vec(alloc)?;
+    for _ in 0..63 {
+        share.extend_from_slice(b"fun com ")?;
+    }
+    share.extend_from_slice(b"com\n")?;
+    let head = format!(in alloc; "gosobj 1\nweight 1\nimports 0\nresult com\nparts {parts}\n")?;
+    let mut object = head.as_bytes().to_vec(alloc)?;
+    for _ in 0..parts {
+        object.extend_from_slice(share.as_slice())?;
+    }
+    object.extend_from_slice(b"joints 0\nend\n")?;
+    Ok(object)
+}
+
+#[test]
+fn object_that_is_too_large_is_rejected(rt: HostRuntime) -> Result<(), Fail> {
+    let large = with_shares(rt.alloc(), 997)?;
+    let left = linked(rt.alloc(), large.as_slice())?;
+    assert!(rt; left.ended(2, b"b.txt: B12 size 5002958 ports 1\n") && !left.has(b"out.net"));
     Ok(())
 }
 

@@ -1,6 +1,6 @@
 // Worked rows of the commands `check`, `compile` and `sim`: files, and what is printed.
 use crate::running::{Left, ran};
-use crate::texts::{ONE, SKIP_OBJECT};
+use crate::texts::{ONE, SKIP_OBJECT, USAGE};
 use std::alloc::{AllocError, Global};
 use std::test::Fail;
 
@@ -75,8 +75,8 @@ fn sources_have_these_weights(rt: HostRuntime) -> Result<(), Fail> {
     Ok(())
 }
 
-// Sources that are rejected, and the line that each is told.
-const REJECTED: [(&str, &str); 10] = [
+/// Sources that are rejected, and the line that each is told.
+pub const REJECTED: [(&str, &str); 10] = [
     (
         "import c : com export c || c : com",
         "main.gos: C5 c at 22..23 and 27..28\n",
@@ -309,7 +309,7 @@ fn pulse_files_are_rejected(rt: HostRuntime) -> Result<(), Fail> {
 
 // Whether these words are no command.
 fn is_usage(alloc: Global, words: &[&str]) -> Result<bool, AllocError> {
-    Ok(ran(alloc, words, &[])?.has_code(1))
+    Ok(ran(alloc, words, &[])?.ended(1, USAGE))
 }
 
 #[test]

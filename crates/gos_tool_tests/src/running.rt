@@ -66,6 +66,14 @@ impl Left {
         }
     }
 
+    /// Runs another command over the files that are left.
+    pub fn goes_on(&mut self, alloc: Global, words: &[&str]) -> Result<(), AllocError> {
+        let words = words_of(alloc, words)?;
+        self.out = SureSink::new(alloc);
+        self.code = run(alloc, words.as_slice(), &mut self.store, &mut self.out).code();
+        Ok(())
+    }
+
     /// Whether the trace has these lines without the numbers of their cycles, which are the compiler's choice.
     pub fn is_traced(&self, alloc: Global, lines: &[u8]) -> Result<bool, AllocError> {
         match self.store.get(b"out.trc") {
@@ -95,4 +103,22 @@ pub fn events(alloc: Global, trace: &[u8]) -> Result<Vec<u8>, AllocError> {
         }
     }
     Ok(events)
+}
+
+/// The cycles of the lines of a trace that end with this event, a line each.
+pub fn cycles_of(alloc: Global, trace: &[u8], event: &[u8]) -> Result<Vec<u8>, AllocError> {
+    let mut cycles = Vec::new(alloc);
+    for line in trace.split(|byte| *byte == b'\n') {
+        if line.ends_with(event) {
+            cycles.extend_from_slice(first_number(line))?;
+            cycles.push(b'\n')?;
+        }
+    }
+    Ok(cycles)
+}
+
+// The number that a line begins with.
+fn first_number(line: &[u8]) -> &[u8] {
+    let digits = line.iter().take_while(|byte| byte.is_ascii_digit()).count();
+    line.get(..digits).unwrap_or(line)
 }

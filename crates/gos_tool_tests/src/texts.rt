@@ -11,3 +11,7 @@ pub const TWO: &[u8] =
 /// The object file of `export skip : com`.
 pub const SKIP_OBJECT: &[u8] =
     b"gosobj 2\nweight 5\nimports 0\nresult com\nparts 1\nskip\njoints 1\nr.0 p0.0\nend\n";
+
+/// What is printed for words that are no command.
+pub const USAGE: &[u8] =
+    b"usage: gos check SRC | compile SRC OBJ | link BUILD | sim NET PULSES TRACE | build BUILD | demo N | tidy NET OUT | gates NET OUT | explain BUILD MOVES | verify BUILD MOVES\n";
