@@ -15,6 +15,11 @@ import string
 import subprocess
 import sys
 import tempfile
+from pathlib import Path
+
+sys.path.append(str(Path(__file__).resolve().parent.parent / 'tools'))
+
+import manners  # noqa: E402  (it stands in the folder of tools)
 
 SIZES = [1000, 2000, 4000]
 RUNS = 3
@@ -68,14 +73,16 @@ def bound(gos, count, folder):
     return best(gos, folder, 2)
 
 
-def main():
-    gos = os.path.abspath(sys.argv[1])
-    for count in [int(word) for word in sys.argv[2:]] or SIZES:
+def main(words):
+    parser = manners.Parser(__doc__)
+    parser.add_argument('gos', metavar='GOS')
+    parser.add_argument('sizes', metavar='INSTANCES', type=manners.count, nargs='*', default=[])
+    asked = parser.parse_args(words)
+    gos = manners.program(asked.gos)
+    for count in asked.sizes or SIZES:
         with tempfile.TemporaryDirectory() as one, tempfile.TemporaryDirectory() as other:
             print(f'{count:5} instances read {read(gos, count, one):6.3f} s, {count // 2:5} bound {bound(gos, count // 2, other):6.3f} s')
 
 
 if __name__ == '__main__':
-    if len(sys.argv) < 2:
-        sys.exit(__doc__)
-    main()
+    sys.exit(manners.ended(main, sys.argv[1:]))

@@ -31,7 +31,9 @@ seconds or more. `growth` is how many times as long the whole takes as the half:
 that a run has, and `stack` the least of 128 kB, 256 kB, .. 8 MB with which the whole runs.
 """
 
+import argparse
 import os
+import re
 import resource
 import subprocess
 import sys
@@ -41,6 +43,10 @@ from pathlib import Path
 from string import ascii_letters, digits
 
 import simulation
+
+sys.path.append(str(Path(__file__).resolve().parent.parent / 'tools'))
+
+import manners  # noqa: E402  (it stands in the folder of tools)
 
 RUNS, LONG = 3, 10
 # How long a run may take, in seconds.
@@ -261,14 +267,24 @@ def row(gos, chosen):
     return [name, f'{size:,} {unit}', f'{length / 1e6:.2f} MB', f'{whole:.3g} s', growth, f'{memory / 1e6:.0f} MB', stack]
 
 
-def main():
-    gos, chosen = os.path.abspath(sys.argv[1]), sys.argv[2:] or list(EXTREMES)
+def extreme(word):
+    """A word that names an extreme, or a part of one."""
+    name, slash, part = word.partition('/')
+    if name not in EXTREMES or slash and not re.fullmatch(r'[1-9]\d*', part):
+        raise argparse.ArgumentTypeError(f'there is no extreme {word}, but {", ".join(EXTREMES)}, each also with /N behind it')
+    return word
+
+
+def main(words):
+    parser = manners.Parser(__doc__)
+    parser.add_argument('gos', metavar='GOS')
+    parser.add_argument('names', metavar='NAME', type=extreme, nargs='*', default=[])
+    asked = parser.parse_args(words)
+    gos, chosen = manners.program(asked.gos), asked.names or list(EXTREMES)
     print('| ' + ' | '.join(HEAD) + ' |\n' + '|---' * len(HEAD) + '|')
     for name in chosen:
         print('| ' + ' | '.join(row(gos, name)) + ' |', flush=True)
 
 
 if __name__ == '__main__':
-    if len(sys.argv) < 2:
-        sys.exit(__doc__)
-    main()
+    sys.exit(manners.ended(main, sys.argv[1:]))

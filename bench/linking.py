@@ -23,6 +23,11 @@ import subprocess
 import sys
 import tempfile
 import time
+from pathlib import Path
+
+sys.path.append(str(Path(__file__).resolve().parent.parent / 'tools'))
+
+import manners  # noqa: E402  (it stands in the folder of tools)
 
 SIZES = [(128, 256)]
 RUNS = 5
@@ -135,9 +140,14 @@ def measure(gos, sort, modules, weight, folder):
     print(line)
 
 
-def main():
-    gos = os.path.abspath(sys.argv[1])
-    numbers = [int(word) for word in sys.argv[2:]]
+def main(words):
+    parser = manners.Parser(__doc__)
+    parser.add_argument('gos', metavar='GOS')
+    parser.add_argument('numbers', metavar='MODULES WEIGHT', type=manners.count, nargs='*', default=[])
+    asked = parser.parse_args(words)
+    gos, numbers = manners.program(asked.gos), asked.numbers
+    if len(numbers) % 2:
+        parser.error(f'the {numbers[-1]} modules have no weight behind them')
     for modules, weight in list(zip(numbers[::2], numbers[1::2])) or SIZES:
         for sort in (narrow, wide):
             with tempfile.TemporaryDirectory() as folder:
@@ -145,6 +155,4 @@ def main():
 
 
 if __name__ == '__main__':
-    if len(sys.argv) < 2:
-        sys.exit(__doc__)
-    main()
+    sys.exit(manners.ended(main, sys.argv[1:]))

@@ -16,7 +16,11 @@ import sys
 import tempfile
 from pathlib import Path
 
-from simulation import cycle_time, gos_command, named, run
+from simulation import circuit_name, cycle_time, gos_command, named, run
+
+sys.path.append(str(Path(__file__).resolve().parent.parent / 'tools'))
+
+import manners  # noqa: E402  (it stands in the folder of tools)
 
 ROUNDS = int(os.environ.get('ROUNDS', '14'))
 NAMES = ['active-300', 'active-20000', 'deep', 'part']
@@ -40,8 +44,12 @@ def row(programs, name, folder):
     return [name, f'{cycles:,}', 'cell' if changing else 'cycle', *shown]
 
 
-def main():
-    programs, names = [os.path.abspath(name) for name in sys.argv[1].split(',')], sys.argv[2:] or NAMES
+def main(words):
+    parser = manners.Parser(__doc__)
+    parser.add_argument('programs', metavar='GOS,GOS..', type=lambda word: word.split(','))
+    parser.add_argument('names', metavar='NAME', type=circuit_name, nargs='*', default=[])
+    asked = parser.parse_args(words)
+    programs, names = [manners.program(name) for name in asked.programs], asked.names or NAMES
     heads = [f'program {number}' for number, _ in enumerate(programs, 1)] + [f'{number} to 1' for number, _ in enumerate(programs[1:], 2)]
     print('| ' + ' | '.join(['circuit', 'cycles', 'time of a', *heads]) + ' |\n' + '|---' * (3 + len(heads)) + '|')
     for name in names:
@@ -50,6 +58,4 @@ def main():
 
 
 if __name__ == '__main__':
-    if len(sys.argv) < 2:
-        sys.exit(__doc__)
-    main()
+    sys.exit(manners.ended(main, sys.argv[1:]))

@@ -20,7 +20,9 @@ cycle, which reads and accepts the netlist and makes the simulator before; `memo
 left out for small netlists. Verilator leaves out cells that no output shows: 3 in 10 of these, and 4 of the smallest.
 """
 
+import argparse
 import os
+import re
 import shutil
 import signal
 import subprocess
@@ -31,6 +33,10 @@ from dataclasses import dataclass
 from pathlib import Path
 
 import circuits
+
+sys.path.append(str(Path(__file__).resolve().parent.parent / 'tools'))
+
+import manners  # noqa: E402  (it stands in the folder of tools)
 
 RUNS = 3
 # How long a run may take, in seconds, and how much longer than one of few cycles one of many takes at least.
@@ -177,6 +183,13 @@ def named(name):
     return CIRCUITS.get(name) or (lambda: circuits.tiled(int(name.removeprefix('active-'))), 1, True, '')
 
 
+def circuit_name(word):
+    """A word that names a circuit."""
+    if word not in CIRCUITS and not re.fullmatch(r'active-[1-9]\d*', word):
+        raise argparse.ArgumentTypeError(f'there is no circuit {word}, but {", ".join(CIRCUITS)}, and active- with any number')
+    return word
+
+
 def row(gos, name, folder):
     make, first, changing, aim = named(name)
     circuit = make()
@@ -195,8 +208,12 @@ def row(gos, name, folder):
     return [name, f'{cells:,}', f'{cycles:,}', 'cell' if changing else 'cycle', time_of(ours), aim, vvp, verilator, *last]
 
 
-def main():
-    gos, names = os.path.abspath(sys.argv[1]), sys.argv[2:] or list(CIRCUITS)
+def main(words):
+    parser = manners.Parser(__doc__)
+    parser.add_argument('gos', metavar='GOS')
+    parser.add_argument('names', metavar='NAME', type=circuit_name, nargs='*', default=[])
+    asked = parser.parse_args(words)
+    gos, names = manners.program(asked.gos), asked.names or list(CIRCUITS)
     print('| ' + ' | '.join(HEAD) + ' |\n' + '|---' * len(HEAD) + '|')
     for name in names:
         with tempfile.TemporaryDirectory() as folder:
@@ -204,6 +221,4 @@ def main():
 
 
 if __name__ == '__main__':
-    if len(sys.argv) < 2:
-        sys.exit(__doc__)
-    main()
+    sys.exit(manners.ended(main, sys.argv[1:]))

@@ -16,7 +16,7 @@ Times are of the processor, with all that the command does: it reads the netlist
 is the least of three runs, and the memory the most that they have.
 """
 
-import os
+import argparse
 import re
 import shutil
 import subprocess
@@ -26,6 +26,10 @@ from pathlib import Path
 
 import circuits
 from simulation import best, round_off
+
+sys.path.append(str(Path(__file__).resolve().parent.parent / 'tools'))
+
+import manners  # noqa: E402  (it stands in the folder of tools)
 
 TOP = Path(__file__).resolve().parent.parent
 CONTROLLERS = ['calculator', 'debounce', 'dma', 'elevator', 'i2c', 'mutex', 'spi', 'traffic', 'uart', 'vending']
@@ -75,8 +79,19 @@ def controller_rows(gos, folder):
         yield [name, f'{before:,}', f'{after:,}', f'{after / before:.2f}', '', '', AIMS.get(name, '')]
 
 
-def main():
-    gos, names = os.path.abspath(sys.argv[1]), sys.argv[2:] or NAMES
+def circuit_name(word):
+    """A word that names a circuit, or the controllers."""
+    if word != 'controllers' and not re.fullmatch(r'(active|shifts)-[1-9]\d*', word):
+        raise argparse.ArgumentTypeError(f'there is no circuit {word}, but controllers, and active- and shifts- with any number')
+    return word
+
+
+def main(words):
+    parser = manners.Parser(__doc__)
+    parser.add_argument('gos', metavar='GOS')
+    parser.add_argument('names', metavar='NAME', type=circuit_name, nargs='*', default=[])
+    asked = parser.parse_args(words)
+    gos, names = manners.program(asked.gos), asked.names or NAMES
     print('| circuit | cells | after | of them | time | memory a cell | aim |\n' + '|---' * 7 + '|')
     for name in names:
         with tempfile.TemporaryDirectory() as folder:
@@ -86,4 +101,4 @@ def main():
 
 
 if __name__ == '__main__':
-    main()
+    sys.exit(manners.ended(main, sys.argv[1:]))

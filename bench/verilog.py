@@ -18,6 +18,10 @@ from pathlib import Path
 
 import circuits
 
+sys.path.append(str(Path(__file__).resolve().parent.parent / 'tools'))
+
+import manners  # noqa: E402  (it stands in the folder of tools)
+
 TOP = Path(__file__).resolve().parent.parent
 CRATES = ['gos_types', 'gos_lex', 'gos_netlist', 'gos_netcheck', 'gos_verilog']
 STEPS = ['accept', 'write', 'read']
@@ -103,8 +107,12 @@ def run(program, folder, step):
     return best, int(done.stdout)
 
 
-def main():
-    cells = int(sys.argv[1]) if len(sys.argv) > 1 else 1_000_000
+def main(words):
+    parser = manners.Parser(__doc__)
+    parser.add_argument('cells', metavar='CELLS', type=manners.count, nargs='?', default=1_000_000)
+    cells = parser.parse_args(words).cells
+    if not shutil.which('rt'):
+        raise manners.Wrong("the toolchain's command rt is not found")
     with tempfile.TemporaryDirectory() as name:
         folder = Path(name)
         subprocess.run(['git', 'init', '-q', folder], check=True)
@@ -116,4 +124,4 @@ def main():
 
 
 if __name__ == '__main__':
-    main()
+    sys.exit(manners.ended(main, sys.argv[1:]))

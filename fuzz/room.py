@@ -14,8 +14,25 @@ PATIENCE = 300
 FULL = '/dev/full'
 
 
-def outlasted(*_):
-    raise TimeoutError
+class Watch:
+    """Looks each second, while a program runs, whether it is one of those that have to be ended."""
+
+    def __init__(self):
+        self.parent, self.left = os.getppid(), 0
+        signal.signal(signal.SIGALRM, self.look)
+
+    def begin(self):
+        self.left = PATIENCE
+        signal.setitimer(signal.ITIMER_REAL, 1, 1)
+
+    def look(self, *_):
+        self.left -= 1
+        if self.left <= 0 or self.is_alone():
+            raise TimeoutError
+
+    def is_alone(self):
+        """Whether nobody is there any more who waits for an answer."""
+        return os.getppid() != self.parent
 
 
 class Room:
@@ -79,20 +96,20 @@ def start(orders, other_end, gos, said):
     other_end.close()
     nothing = os.open(os.devnull, os.O_RDONLY)
     ends = [(os.POSIX_SPAWN_DUP2, file, at) for at, file in enumerate((nothing, said, said))]
-    signal.signal(signal.SIGALRM, outlasted)
     signal.signal(signal.SIGINT, signal.SIG_IGN)
+    watch = Watch()
     try:
-        while True:
+        while not watch.is_alone():
             child = os.posix_spawn(gos, [gos, *orders.recv()], {}, file_actions=ends)
-            status, used = end(child)
+            status, used = end(child, watch)
             orders.send((os.waitstatus_to_exitcode(status), used.ru_utime + used.ru_stime, used.ru_maxrss * 1024))
     except (EOFError, BrokenPipeError):
         pass
 
 
-def end(child):
+def end(child, watch):
     """Waits for a program that was started, and ends it where it takes too long. Answers its status, and what it used."""
-    signal.setitimer(signal.ITIMER_REAL, PATIENCE)
+    watch.begin()
     try:
         _, status, used = os.wait4(child, 0)
     except TimeoutError:

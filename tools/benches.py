@@ -62,6 +62,7 @@ def reacting(head, pins, around, cycles):
     inputs = [net for pin in pins if not pin.is_output for net in nets_of(pin)]
     outputs = [net for pin in pins if pin.is_output for net in nets_of(pin)]
     shakes = [it.verilog() for it in around.handshakes]
+    bounds = [it.verilog() for it in around.bounds]
     throws = any("stirred" in line for parts in shakes for part in parts for line in part)
     throws = throws or any("stirred" in line for it in around.sources for line in [*it.noted(), *it.gives("")])
     declared = [
@@ -69,15 +70,16 @@ def reacting(head, pins, around, cycles):
         *(f"wire {bits(count)}{net};" for net, count in outputs),
         instance(pins[0].port, pins),
         *(line for it in around.dice if throws for line in it.declared()),
-        *(line for parts in shakes for line in parts[0]),
+        *(line for parts in shakes + bounds for line in parts[0]),
         *(line for it in around.sources for line in it.declared()),
         *(surroundings.Dice.FUNCTION if throws else []),
     ]
     in_cycle = [
         *(f"{net} = 0;" for net, _ in inputs),
-        *(line for parts in shakes for line in parts[1]),
+        *(line for parts in shakes + bounds for line in parts[1]),
         *(line for it in around.sources for line in it.moved()),
         *(line for parts in shakes for line in parts[2]),
+        *(line for parts in bounds for line in parts[2]),
         *(line for parts in shakes for line in parts[3]),
         *(line for it in around.sources for line in it.noted()),
         *(printed(pin) for pin in sorted(pins, key=lambda it: not it.is_output)),

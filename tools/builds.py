@@ -1,38 +1,18 @@
 """Build files, netlists and traces as files, and runs of the program gos: what the tools share, and how they end."""
-import argparse
 import os
 import subprocess
-import sys
 from dataclasses import dataclass, field
 from pathlib import Path
 
 import ports
+from manners import FILE_IS_WRONG, WORDS_ARE_WRONG, Parser, Wrong, ended  # noqa: F401  (tools have them from here)
 
 TOP = Path(__file__).resolve().parent.parent
-# The statuses of these tools, beside 0.
-WORDS_ARE_WRONG, FILE_IS_WRONG, RUN_IS_WRONG = 1, 2, 3
+# The status of a tool where a run is wrong, beside those of manners.
+RUN_IS_WRONG = 3
 MOST_CYCLES = 1_000_000
 # The words of a build file's lines of which there is one each.
 SINGLE = {"root", "net", "verilog", "pulses", "trace"}
-
-
-class Wrong(Exception):
-    """What is wrong with a file or with a run, in a sentence, and the status that a tool ends with."""
-
-    def __init__(self, said, status=FILE_IS_WRONG):
-        super().__init__(said)
-        self.status = status
-
-
-class Parser(argparse.ArgumentParser):
-    """Words of a command: its help is the docstring of the tool, and wrong words end with status 1."""
-
-    def __init__(self, doc):
-        super().__init__(description=doc, formatter_class=argparse.RawDescriptionHelpFormatter, usage=argparse.SUPPRESS)
-
-    def error(self, message):
-        print(f"{self.prog}: {message}; {self.prog} --help says more", file=sys.stderr)
-        raise SystemExit(WORDS_ARE_WRONG)
 
 
 @dataclass
@@ -104,11 +84,23 @@ def build_of(name, text):
     return build
 
 
+def beside(build, name):
+    """Where a file stands that isn't there by its name, but beside the build file that names it; nothing for others."""
+    other = os.path.join(os.path.dirname(build), name)
+    return other if os.path.exists(other) and not os.path.exists(name) else ""
+
+
+def rule_of_names(build):
+    return f"the names in {build} are paths from the folder that gos is called in"
+
+
 def files_there(name, build, sorts, by="build"):
     """The files of these sorts that a build file names, each of which is there. All but a pulse file are written by gos."""
     for sort in sorts:
         if not Path(build.files[sort]).is_file():
             yet = "" if sort == "pulses" else f" yet: gos {by} {name} writes it"
+            if other := beside(name, build.files[sort]):
+                yet = f", but {other} is: {rule_of_names(name)}"
             raise Wrong(f"{build.files[sort]} isn't there{yet}")
     return [build.files[it] for it in sorts]
 
@@ -176,18 +168,3 @@ def link(gos, name, build):
     for it in build.instances:
         call(gos, "compile", it.source, it.object)
     return call(gos, "link", name)
-
-
-def ended(main, words):
-    """What a tool ends with: the status of its main function, or that of what it found wrong, which is printed."""
-    try:
-        status = main(words) or 0
-        sys.stdout.flush()
-        return status
-    except Wrong as wrong:
-        print(wrong, file=sys.stderr)
-        return wrong.status
-    except BrokenPipeError:
-        # (else what is left to print is tried once more at the end)
-        os.dup2(os.open(os.devnull, os.O_WRONLY), sys.stdout.fileno())
-        return 0

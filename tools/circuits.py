@@ -1,4 +1,5 @@
-"""A netlist as a circuit that runs, cycle by cycle (docs/FORMATS.md, "Netlist text"): what tools/gos-play and tools/gos-why run.
+"""A netlist as a circuit that runs, cycle by cycle (docs/FORMATS.md, "Netlist text"): what tools/gos-play and tools/gos-why run, and
+under a trace tools/gos-cost and tools/gos-vcd.
 
 A cell is settled anew only where a net that it names has changed. So a cycle costs what happens in it, however large the netlist
 is, and it is known when nothing in a circuit moves any more.
@@ -169,3 +170,28 @@ class Circuit:
             self.nets[net] = value
         self.settle([net for net, _ in changed])
         return bool(changed) or bool(self.given)
+
+
+def run_again(circuit, trace, pulses, cycles):
+    """Runs a circuit by the inputs of a trace. Gives each cycle in which something happens; the circuit then stands in that cycle.
+
+    The outputs of the trace have to be those of the circuit: else it is the trace of another netlist.
+    """
+    pins, given, wanted = {pin.name: pin for pin in circuit.pins}, {}, {}
+    for cycle, name, value in pulses:
+        if pins[name].is_output:
+            wanted.setdefault(cycle, {})[name] = value
+        else:
+            given.setdefault(cycle, []).append((pins[name], value))
+    cycle, coming = 0, sorted(given)
+    while cycle < cycles:
+        circuit.give(given.get(cycle, []))
+        if wanted.pop(cycle, {}) != {pin.name: value for pin, value in circuit.outputs()}:
+            raise builds.Wrong(f"{trace}: this is no trace of this netlist, which has other outputs in cycle {cycle}; gos sim writes one")
+        yield cycle
+        cycle += 1
+        if not circuit.tick():
+            # (nothing moves until something is given)
+            cycle = next((it for it in coming if it >= cycle), cycles)
+    if wanted:
+        raise builds.Wrong(f"{trace}: this is no trace of this netlist, which has no output in cycle {min(wanted)}; gos sim writes one")

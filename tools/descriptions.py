@@ -3,18 +3,21 @@ import difflib
 import re
 
 import circuits
+import surroundings
 from builds import Wrong
-from surroundings import After, Answering, Asking, Chance, Change, Delay, Dice, Every, Level, Memory, Row, Surroundings, Wanted, Wave
+from surroundings import (
+    After, Answering, Asking, Bound, Burst, Chance, Change, Delay, Dice, Every, Level, Memory, Received, Row, Serial, Surroundings, Wanted, Wave,
+)
 
 MOST_CYCLES, MOST_PLACES = 1_000_000, 65_536
 TOKEN = re.compile(r"""[ \t\r]*(?:(?P<text>"[^"]*")|(?P<event>[A-Za-z_]\w*\.[A-Za-z_]\w*)|(?P<word>[A-Za-z_]\w*)
-                       |(?P<number>0x[0-9a-fA-F]+|0b[01]+|[0-9]+)(?!\w)|(?P<sign>\.\.|,)|(?P<end>\#.*|$)|(?P<wrong>\S+))""", re.X | re.A)
+                       |(?P<frame>8n1)\b|(?P<number>0x[0-9a-fA-F]+|0b[01]+|[0-9]+)(?!\w)|(?P<sign>\.\.|,)|(?P<end>\#.*|$)|(?P<wrong>\S+))""", re.X | re.A)
 # What a line of a port may say first, by what stands there.
 SAYINGS = {
     "give": ["{} runs 3 times", "{} runs for ever after 1 to 9 cycles"],
     "com": ["{} answers", "{} answers after 4 cycles", "{} answers every 16 cycles", "{} never answers"],
     "exp": ["{} gives 1 0 0 1", "{} gives random", "{} is 0, 1 after 30 cycles", "{} is 1 0 1 for 8 cycles each", "{} sends \"a\" at 16 cycles a bit"],
-    "var": ["{} is a variable", "{} is an array at PORT", "{} takes 1 2 3", "{} never answers"],
+    "var": ["{} is a variable", "{} is an array at PORT", "{} takes 1 2 3", "{} receives 8n1 every 64 cycles", "{} never answers"],
 }
 
 
@@ -23,6 +26,8 @@ class Line:
 
     def __init__(self, file, number, text):
         self.file, self.place, self.tokens, self.at, self.tried = file, number, [], 0, []
+        # how many cycles a line with `within` allows
+        self.most = 0
         at = 0
         while not self.tokens or self.tokens[-1][0] != "end":
             found = TOKEN.match(text, at)
@@ -113,7 +118,7 @@ class Description:
     """A description while it is read: the lines of ports, which are taken in the order of the netlist's ports."""
 
     def __init__(self, file, text, ports):
-        self.file, self.ports, self.lines = file, ports, {}
+        self.file, self.ports, self.lines, self.bounds = file, ports, {}, {}
         self.cycles, self.seed = None, 1
         self.events = {pin.name: pin for port in ports for pin in circuits.pins_of(port)}
         self.names = {port.name: port for port in ports}
@@ -136,11 +141,18 @@ class Description:
         elif (name := line.tokens[0][1]) not in self.names:
             line.tried = ["cycles", "seed", *self.names]
             raise line.misfit()
-        elif name in self.lines:
-            raise line.wrong(f"of the port {name} line {self.lines[name].place} says something already")
         else:
             line.step()
-            self.lines[name] = line
+            if line.tokens[line.at][1] == "receives":
+                moment = surroundings.byte_of(name)
+                self.events[moment.name] = moment
+            lines = self.bounds if line.may("within") else self.lines
+            if name in lines:
+                raise line.wrong(f"of the port {name} line {lines[name].place} says something already", 0)
+            lines[name] = line
+            if lines is self.bounds:
+                line.most = line.cycles(1)
+                line.end()
 
     def surroundings(self):
         dice = {port.name: Dice(port.name, self.seed, at) for at, port in enumerate(self.ports)}
@@ -159,7 +171,16 @@ class Description:
                 raise Wrong(f"{self.file}: nothing is said of the port {port.name}, which is {said_type(port)}. For example\n{such}")
         handshakes = [it for port in self.ports for it in made[port.name]]
         sources = list({id(it): it for shake in handshakes if isinstance(shake, Answering) for it in (shake.source, shake.memory) if it}.values())
-        return Surroundings(handshakes, sources, list(dice.values()), self.cycles)
+        bounds = [self.bound(port, self.bounds[port.name].most, made[port.name]) for port in self.ports if port.name in self.bounds]
+        return Surroundings(handshakes, sources, list(dice.values()), self.cycles, bounds)
+
+    def bound(self, port, most, handshakes):
+        """The bound of a port, of at most so many cycles, at whose handshakes these stand."""
+        root = next(it for it in self.ports if it.side == "give")
+        requests, answers = map(list, zip(*circuits.handshakes_of(port)))
+        awaited, counted = (answers, requests) if port is root else (requests, answers)
+        beats = [it for it in handshakes if isinstance(it, Answering) and isinstance(it.timing, Every)]
+        return Bound(port.name, most, awaited, counted, circuits.handshakes_of(root)[0], beats[0] if beats else None)
 
     def handshakes(self, port, line, dice):
         """What stands at the handshakes of a port."""
@@ -245,12 +266,26 @@ class Description:
             line.want("at")
             each = line.cycles(1)
             line.want("a", "bit")
-            begin = line.cycles(0) if line.may("after") else 0
-            return Wave(port.name, 1, framed(values), each, begin, 1, False), False
+            bursts = [self.burst(line, values) if line.may("after") else Burst(framed(values), Delay())]
+            while line.may(","):
+                values = line.values(8)
+                line.want("after")
+                bursts.append(self.burst(line, values))
+            return Serial(port.name, each, bursts, dice), False
         line.want("is")
         if line.may("an", "array"):
             return self.array(port, line, bits), True
         return self.level(port, line, dice, bits), False
+
+    def burst(self, line, values):
+        """A burst of these bytes, behind the word `after`."""
+        if line.kind == "event":
+            return Burst(framed(values), Delay(1, 1), self.event(line))
+        at, delay = line.at, self.span(line)
+        event = self.event(line) if line.may("from") else None
+        if event and not delay.low:
+            raise line.wrong("a line begins to send one cycle after an event or more", at)
+        return Burst(framed(values), delay, event)
 
     def level(self, port, line, dice, bits):
         values = line.values(bits)
@@ -278,6 +313,13 @@ class Description:
     def variable(self, port, line, bits):
         if line.may("takes"):
             return Wanted(port.name, bits, line.values(bits))
+        if line.may("receives"):
+            if bits != 1:
+                raise line.wrong(f"bits are received one after the other, and {port.name} is {said_type(port)}", line.at - 1)
+            line.want("8n1")
+            line.want("every")
+            each = line.cycles(1)
+            return Received(port.name, each, line.values(8) if line.may("expects") else None)
         line.want("is")
         if line.may("an", "array"):
             return self.array(port, line, bits)

@@ -10,6 +10,7 @@ from pathlib import Path
 
 import grammar
 import ports
+import scopes
 
 NAME, FILE = re.compile(r"[A-Za-z_][A-Za-z0-9_]{0,254}"), re.compile(r"[A-Za-z0-9_.\-/]{1,255}")
 ARGUMENT = grammar.FIRST["pre"]
@@ -419,6 +420,42 @@ def wrong_name(word, sort):
     return ""
 
 
+def import_that_stays(name, data):
+    """The instance whose import of this name is bound to nothing, and its type; or two empty texts."""
+    lines = list(statements(data).values())
+    bound_ones = {tuple(it[1:3]) for it in lines if it[0] == "bind"}
+    for user, source in (it[1:3] for it in lines if it[0] == "inst" and len(it) == 4):
+        try:
+            found = scopes.module_of(Path(source).read_bytes()).imports.get(name)
+        except (OSError, ValueError):
+            continue
+        if found and found.type and (user, name) not in bound_ones:
+            return user, found.type
+    return "", ""
+
+
+def of_no_ground(data, values, file):
+    """B10: the ports that do what a function would, and the module that serves it by them."""
+    name = values["NAME"]
+    user, written = import_that_stays(name, data)
+    found = re.fullmatch(r"exp (\d+) -> (com|exp \d+|var \d+)", written)
+    if not found:
+        yield f"`bind {user} {name} GIVER` has an instance serve it: {written}" if user else ""
+        return
+    place, cell = f"var {found[1]}", found[2]
+    serves = "`{0}` serves `{1}`, as a module of its own by `bind {2} {1} GIVER`"
+    if cell == "com":
+        module = f"import {name}_value : {place}  export fun n : exp {found[1]} . {name}_value := n : {written}"
+        yield f"one port does it: `import {name}_value : {place}`, to which the number is written"
+        yield serves.format(module, name, user)
+        return
+    yield (f"two ports do it: `import {name}_place : {place}`, to which is written which one is meant, and `import {name}_cell : {cell}`; "
+           "docs/PLAY.md says of a memory what stands at them")
+    if cell.startswith("exp"):
+        module = f"import {name}_place : {place}  import {name}_cell : {cell}  export fun n : exp {found[1]} . ({name}_place := n ; {name}_cell) : {written}"
+        yield serves.format(module, name, user)
+
+
 def netlist_of(file):
     """The netlist that is run under a pulse file: that of a build file of this folder that names it, else the only one here."""
     heads = {}
@@ -484,7 +521,7 @@ OF_TEXT = {
     "S1": of_syntax, "L2": of_byte, "C1": of_unbound, "C2": of_type, "C3": of_no_function, "C5": of_shared, "C6": of_width,
     "P1": of_pulse_line, "P4": of_pulse_limit, "P5": of_broken,
 }
-OF_FILE = {"B1": of_build, "P2": of_no_port}
+OF_FILE = {"B1": of_build, "B10": of_no_ground, "P2": of_no_port}
 
 
 def hints_of(code, values, file, data):

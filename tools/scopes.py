@@ -105,7 +105,32 @@ def take(stack, kind):
 
 def module_of(data):
     """The names of a source, given as its bytes."""
-    module = Module(all_tokens(data))
+    return read(all_tokens(data))[0]
+
+
+@dataclass
+class Place:
+    """A place in a source: what binds each name that may stand there, and the kinds of tokens that may."""
+
+    names: dict
+    kinds: set
+
+
+def place_of(data, at):
+    """The place at a byte, where a token is about to be written."""
+    tokens = all_tokens(data[:at])
+    _, stack, _, own = read(tokens)
+    if own or tokens and tokens[-1].kind in BINDERS:
+        return Place({}, {"name"})
+    # (a name there ends the scopes that any token of a term would end)
+    module, _, scopes, _ = read([*tokens, grammar.Token("name", "", at, at)])
+    return Place({**module.imports, **{it.name.text: it for _, it in scopes}}, grammar.following(stack))
+
+
+def read(tokens):
+    """The names of a source's tokens; and behind the last one the symbols that are still to come, the scopes that are open, each with its
+    binder, and the binder whose name comes next, if one does."""
+    module = Module(tokens)
     stack, scopes, own = ["module"], [], None
     for at, token in enumerate(module.tokens):
         may_stand = take(stack, token.kind)
@@ -124,4 +149,4 @@ def module_of(data):
             module.export = module.export or token
         elif token.kind == ":":
             module.type = type_at(module.tokens, at + 1)
-    return module
+    return module, stack, scopes, own

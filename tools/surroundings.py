@@ -9,9 +9,12 @@ Each device has methods that do in Python what it does in a cycle, and methods t
 
 Each of these goes through the ports in the netlist's order. Chance is that of a `Dice`, which throws the same in both languages.
 """
+import re
 from dataclasses import dataclass, field
 
 NEVER = -1
+# The letters that a text may have.
+LETTERS = {chr(it) for it in range(32, 127)} - {'"'}
 
 
 class Dice:
@@ -89,6 +92,12 @@ class After:
         """The first cycle from this one on in which an answer may come."""
         return max(cycle, self.due)
 
+    def answered(self, cycle, is_last):
+        pass
+
+    def look(self, cycle):
+        pass
+
     def note(self, cycle, events):
         pass
 
@@ -99,10 +108,17 @@ class After:
 
 
 class Every:
-    """When an answer comes: in each so manyth cycle, counted from the beginning or from the last pulse of an event."""
+    """
+    When an answer comes: at a beat, each so many cycles, counted from the beginning or from the last pulse of an event. It counts the
+    beats that found the port asking, which were answered, and those that were missed: the port was not asking.
+    """
 
     def __init__(self, cycles, event):
         self.cycles, self.event, self.base = cycles, event, 0
+        self.met, self.missed, self.first_missed = 0, 0, None
+        # the first beat that is not looked at yet isn't before this cycle; it is none when the last answer has come
+        self.looked = 0
+        self.bound = None
 
     def asked(self, cycle):
         pass
@@ -111,8 +127,24 @@ class Every:
         rounds = max(1, -(-(cycle - self.base) // self.cycles))
         return self.base + rounds * self.cycles
 
+    def answered(self, cycle, is_last):
+        self.met += 1
+        self.look(cycle)
+        self.looked = None if is_last else cycle + 1
+
+    def look(self, cycle):
+        """Looks at the beats before a cycle that are not looked at yet: each one was missed."""
+        if self.looked is None or (first := self.next(self.looked)) >= cycle:
+            return
+        self.missed += (cycle - 1 - first) // self.cycles + 1
+        self.first_missed = first if self.first_missed is None else self.first_missed
+        self.looked = cycle
+        if self.bound:
+            self.bound.beat(first)
+
     def note(self, cycle, events):
         if self.event and self.event.name in events:
+            self.look(cycle + 1)
             self.base = cycle
 
     def verilog(self, net):
@@ -134,6 +166,14 @@ class Source:
 
     def note(self, cycle, events):
         pass
+
+    def next(self, cycle):
+        """The first cycle from this one on in which something of its own happens, or none."""
+        return None
+
+    def moments(self):
+        """The names of events of its own that happen in this cycle."""
+        return []
 
     def declared(self):
         return []
@@ -282,6 +322,101 @@ class Wave(Source):
             yield f"{net} = {self.net}[{at}];"
 
 
+@dataclass
+class Burst:
+    """
+    Bytes that are sent at once on a serial line: their levels, and the delay behind which they begin. It counts from an event, or else
+    from the end of the burst before it, or from the beginning.
+    """
+
+    levels: list
+    delay: Delay
+    event: object = None
+
+
+class Serial(Source):
+    """A serial line, which is 1 where nothing is sent. Its bursts come in their order; an event counts once the burst before has begun."""
+
+    def __init__(self, port, each, bursts, dice):
+        self.net, self.each, self.bursts, self.dice = f"{port}__serial", each, bursts, dice
+        # how many bursts have begun, when the last one did, and when the next one begins, as far as that is known
+        self.begun, self.begin, self.due = 0, 0, NEVER
+        self.plan()
+        self.first_due = self.due
+        # in Verilog the dice are thrown from here on
+        dice.first = dice.state
+
+    def lasts(self, burst):
+        return self.each * len(burst.levels)
+
+    def over(self):
+        """The cycle in which the last burst that has begun is over."""
+        return self.begin + self.lasts(self.bursts[self.begun - 1]) if self.begun else 0
+
+    def next_one(self):
+        return self.bursts[self.begun] if self.begun < len(self.bursts) else None
+
+    def plan(self):
+        """Says when the next burst begins, where it waits for no event."""
+        burst = self.next_one()
+        if burst and not burst.event:
+            self.due = self.over() + self.dice.throw(burst.delay.low, burst.delay.high)
+
+    def move(self, cycle):
+        while NEVER < self.due <= cycle:
+            self.begun, self.begin, self.due = self.begun + 1, self.due, NEVER
+            self.plan()
+
+    def note(self, cycle, events):
+        burst = self.next_one()
+        if burst and burst.event and self.due == NEVER and burst.event.name in events:
+            self.due = max(cycle + self.dice.throw(burst.delay.low, burst.delay.high), self.over())
+
+    def value(self, cycle):
+        levels = self.bursts[self.begun - 1].levels if self.begun else []
+        at = (cycle - self.begin) // self.each
+        return levels[at] if at < len(levels) else 1
+
+    def starts(self):
+        """The place of each burst's first level among those of all, and that behind the last one."""
+        return [sum(len(it.levels) for it in self.bursts[:at]) for at in range(len(self.bursts) + 1)]
+
+    def declared(self):
+        return [f"reg {self.net} [0:{self.starts()[-1] - 1}];", f"integer {self.net}__start [0:{len(self.bursts)}];",
+                f"integer {self.net}__begun = 0, {self.net}__begin = 0, {self.net}__due = {self.first_due}, {self.net}__at = 0;"]
+
+    def prepared(self):
+        levels = [level for burst in self.bursts for level in burst.levels]
+        yield from (f"{self.net}[{at}] = {level};" for at, level in enumerate(levels))
+        yield from (f"{self.net}__start[{at}] = {start};" for at, start in enumerate(self.starts()))
+
+    def moved(self):
+        net, planned = self.net, []
+        for at, burst in enumerate(self.bursts[1:], 1):
+            if not burst.event:
+                throws, number = self.dice.thrown(burst.delay.low, burst.delay.high)
+                due = f"{net}__due = {net}__begin + {self.lasts(self.bursts[at - 1])} + {number};"
+                planned += block(f"if ({net}__begun == {at})", [*throws, due])
+        begins = [f"{net}__begun = {net}__begun + 1;", f"{net}__begin = cycle;", f"{net}__due = {NEVER};"]
+        return block(f"if (cycle == {net}__due)", begins + planned)
+
+    def noted(self):
+        net = self.net
+        for at, burst in enumerate(self.bursts):
+            if burst.event:
+                throws, number = self.dice.thrown(burst.delay.low, burst.delay.high)
+                over = f"{net}__begin + {self.lasts(self.bursts[at - 1])}" if at else "0"
+                yield from block(f"if ({net}__begun == {at} && {net}__due < 0 && {burst.event.verilog})", [
+                    *throws, f"{net}__due = cycle + {number};", f"if ({net}__due < {over}) {net}__due = {over};"])
+
+    def gives(self, net):
+        at, begun = f"{self.net}__at", f"{self.net}__begun"
+        yield f"{net} = 1;"
+        yield from block(f"if ({begun} > 0)", [
+            f"{at} = {self.net}__start[{begun} - 1] + (cycle - {self.net}__begin) / {self.each};",
+            f"if ({at} < {self.net}__start[{begun}]) {net} = {self.net}[{at}];"])
+
+
 class Memory(Source):
     """A variable; or an array, of which the variable at another port says which place is meant."""
 
@@ -360,6 +495,125 @@ class Wanted(Memory):
 
 
 @dataclass
+class Moment:
+    """An event that is none of a port's: its name, and its net in Verilog."""
+
+    name: str
+    verilog: str
+
+
+def byte_of(port):
+    """The event that a byte has come on a port's line."""
+    return Moment(f"{port}.byte", f"{port}__byte")
+
+
+class Received(Memory):
+    """
+    A variable that is a serial line, 1 at first: what is written to it is read as bytes of 8 bits, without a parity bit and with one stop
+    bit. They have to be these, in this order and no others, where it is said which.
+    """
+
+    def __init__(self, port, each, wanted):
+        super().__init__(port, 1, [1])
+        self.port, self.each, self.wanted = port, each, wanted
+        # the cycle in which the start bit fell, the levels that were looked at since, the bytes before, and whether one has just come
+        self.fell, self.levels, self.bytes, self.has_come = NEVER, [], [], False
+
+    def write(self, cycle, value):
+        self.look(cycle - 1)
+        if self.fell == NEVER and self.cells[0] and not value:
+            self.fell, self.levels = cycle, []
+        super().write(cycle, value)
+
+    def middle(self, at):
+        """The cycle of the middle of a bit, of which the start bit is number 0."""
+        return self.fell + self.each // 2 + self.each * at
+
+    def look(self, cycle):
+        """Looks at the line in the middle of each bit, up to a cycle."""
+        while self.fell != NEVER and (at := self.middle(len(self.levels))) <= cycle:
+            self.levels.append(self.cells[0])
+            if self.levels == [1]:
+                self.wrong.append(f"{self.port} is 0 for less than half a bit, from cycle {self.fell} on")
+                self.fell = NEVER
+            elif len(self.levels) == 10:
+                self.take(at)
+
+    def take(self, cycle):
+        """A byte has come."""
+        value = sum(level << at for at, level in enumerate(self.levels[1:9]))
+        self.fell, self.has_come = NEVER, True
+        if not self.levels[9]:
+            self.wrong.append(f"{self.port} has no stop bit in cycle {cycle}")
+        want = self.wanted[len(self.bytes)] if self.wanted and len(self.bytes) < len(self.wanted) else None
+        if self.wanted and value != want:
+            self.wrong.append(f"{self.port} receives {value} in cycle {cycle}, and " + ("nothing" if want is None else f"{want}") + " is wanted")
+        self.bytes.append(value)
+
+    def move(self, cycle):
+        self.has_come = False
+        self.look(cycle)
+
+    def next(self, cycle):
+        return max(cycle, self.middle(9)) if self.fell != NEVER else None
+
+    def moments(self):
+        return [byte_of(self.port).name] if self.has_come else []
+
+    def missing(self):
+        if self.wanted and len(self.bytes) < len(self.wanted):
+            yield f"{self.port} receives {len(self.bytes)} bytes, and {len(self.wanted)} are wanted"
+
+    def told(self):
+        """What has come, where nothing says what is wanted: letters as a text, and other bytes as numbers."""
+        if not self.wanted:
+            parts = re.findall(r'[ !#-~]+|[^ !#-~]', "".join(map(chr, self.bytes)))
+            said = [f'"{it}"' if it[0] in LETTERS else str(ord(it)) for it in parts]
+            yield f"{self.port} receives {' '.join(said) or 'nothing'}"
+
+    def declared(self):
+        port = self.port
+        yield from super().declared()
+        yield f"integer {port}__fell = {NEVER}, {port}__count = 0, {port}__got = 0;"
+        yield f"reg [9:0] {port}__levels = 0;"
+        yield f"reg {port}__byte = 0;"
+        if self.wanted:
+            yield f"reg [7:0] {port}__wanted [0:{len(self.wanted) - 1}];"
+
+    def prepared(self):
+        yield from super().prepared()
+        yield from (f"{self.port}__wanted[{at}] = 8'd{value};" for at, value in enumerate(self.wanted or []))
+
+    def writes(self, net):
+        port = self.port
+        yield f"if ({port}__fell < 0 && {self.net}[0] && !{net}) begin {port}__fell = cycle; {port}__count = 0; end"
+        yield from super().writes(net)
+
+    def moved(self):
+        port = self.port
+        middle = f"{port}__fell + {self.each // 2} + {self.each} * {port}__count"
+        yield f"{port}__byte = 0;"
+        yield from block(f"if ({port}__fell >= 0 && cycle == {middle})", [
+            f"{port}__levels[{port}__count] = {self.net}[0];",
+            f"{port}__count = {port}__count + 1;",
+            *block(f"if ({port}__count == 1 && {port}__levels[0])", [
+                f'$display("wrong: {port} is 0 for less than half a bit, from cycle %0d on", {port}__fell);', f"{port}__fell = {NEVER};"]),
+            *block(f"if ({port}__count == 10)", [f"{port}__fell = {NEVER};", f"{port}__byte = 1;", *self.compared()]),
+        ])
+
+    def compared(self):
+        """The lines that compare a byte that has come."""
+        port, value = self.port, f"{self.port}__levels[8:1]"
+        yield f'if (!{port}__levels[9]) $display("wrong: {port} has no stop bit in cycle %0d", cycle);'
+        if self.wanted:
+            yield f"if ({port}__got >= {len(self.wanted)})"
+            yield f'  $display("wrong: {port} receives %0d in cycle %0d, and nothing is wanted", {value}, cycle);'
+            yield f"else if ({value} !== {port}__wanted[{port}__got])"
+            yield f'  $display("wrong: {port} receives %0d in cycle %0d, and %0d is wanted", {value}, cycle, {port}__wanted[{port}__got]);'
+            yield f"{port}__got = {port}__got + 1;"
+
+
+@dataclass
 class Answering:
     """A handshake at which the circuit asks, and the surroundings answer, at most `limit` times where it is one."""
 
@@ -376,6 +630,7 @@ class Answering:
         return self.since != NEVER and (self.limit is None or self.count < self.limit)
 
     def see(self, cycle, events):
+        self.timing.look(cycle)
         if self.request.name in events:
             self.since = cycle
             self.timing.asked(cycle)
@@ -389,6 +644,7 @@ class Answering:
         if self.next(cycle) != cycle:
             return []
         self.since, self.count = NEVER, self.count + 1
+        self.timing.answered(cycle, self.count == self.limit)
         return [(self.answer, self.source.value(cycle) if self.answer.bits else None)]
 
     def stands(self):
@@ -397,10 +653,20 @@ class Answering:
             why = f"it was answered {self.limit} time{'s' * (self.limit > 1)}, and no answer is left" if self.limit else "it is never answered"
             yield f"{self.request.name} is open since cycle {self.since}: {why}"
 
+    def missed(self):
+        """How many beats found the port not asking, where some did."""
+        if isinstance(self.timing, Every) and self.timing.missed:
+            count, all_beats = self.timing.missed, self.timing.missed + self.timing.met
+            yield f"{self.request.port}: {count} of {all_beats} beats found it not asking, the first in cycle {self.timing.first_missed}"
+
+    def left(self):
+        """In Verilog, what has to hold where an answer is left."""
+        return f" && {self.request.verilog}__count < {self.limit}" if self.limit is not None else ""
+
     def verilog(self):
         """The lines of declaring, seeing, giving and noting."""
         net, (declared, asked, noted, due) = self.request.verilog, self.timing.verilog(self.request.verilog)
-        may = f"{net}__waits" + (f" && {net}__count < {self.limit}" if self.limit is not None else "")
+        may = f"{net}__waits{self.left()}"
         counts = [f"{net}__count = {net}__count + 1;"] if self.limit is not None else []
         writes = list(self.memory.writes(f"{net}value")) if self.memory else []
         values = list(self.source.gives(f"{self.answer.verilog}value")) if self.answer.bits else []
@@ -459,18 +725,105 @@ class Asking:
         )
 
 
+@dataclass
+class Bound:
+    """
+    That a port asks again within so many cycles of its last answer, and of a beat that found it not asking; and that the root answers
+    within so many cycles. `awaited` are the outputs for which it waits, and it counts from the inputs `counted`; where the root isn't
+    asked, nothing is awaited.
+    """
+
+    port: str
+    cycles: int
+    awaited: list
+    counted: list
+    root: list
+    beats: Answering = None
+    since: int = NEVER
+    what: str = ""
+    is_open: bool = False
+    is_quiet: bool = True
+    is_told: bool = False
+    late: list = field(default_factory=list)
+
+    def __post_init__(self):
+        if self.beats:
+            self.beats.timing.bound = self
+
+    def beat(self, cycle):
+        """A beat found the port not asking."""
+        if self.is_open and not self.is_told and self.since == NEVER:
+            self.since, self.what = cycle, "the beat"
+
+    def see(self, cycle, events):
+        if self.since != NEVER and cycle - self.since > self.cycles:
+            self.late.append(f"{self.what} in cycle {self.since}")
+            self.since, self.is_told = NEVER, True
+        if self.root[1].name in events:
+            self.is_open, self.since = False, NEVER
+        if any(it.name in events for it in self.awaited):
+            self.is_quiet, self.since = False, NEVER
+
+    def note(self, cycle, events):
+        if self.root[0].name in events:
+            self.is_open, self.is_told = True, False
+        for it in self.counted:
+            if it.name in events:
+                self.is_quiet, self.is_told = True, False
+                self.since, self.what = cycle if self.is_open else NEVER, it.name
+
+    def next(self, cycle):
+        """The cycle in which it is too late, as far as is known."""
+        if self.since != NEVER:
+            return self.since + self.cycles + 1
+        if not self.beats or not self.is_open or not self.is_quiet or self.is_told or self.beats.timing.looked is None:
+            return None
+        return self.beats.timing.next(cycle) + self.cycles + 1
+
+    def wrong(self):
+        if self.late:
+            more = len(self.late) - 1
+            yield self.said(self.late[0]) + (f", and so {more} time{'s' * (more > 1)} more" if more else "")
+
+    def said(self, since):
+        what = "gives no answer" if self.port == self.root[0].port else "asks nothing"
+        return f"{self.port} {what} within {self.cycles} cycle{'s' * (self.cycles != 1)} of {since}"
+
+    def verilog(self):
+        """The lines of declaring, seeing and noting."""
+        net = f"{self.port}__within"
+        awaited, counted = (" || ".join(it.verilog for it in pins) for pins in (self.awaited, self.counted))
+        beat = f"{net}__open && {net}__quiet && !{net}__told && {net}__since < 0"
+        seen = [
+            *block(f"if ({net}__since >= 0 && cycle - {net}__since > {self.cycles})", [
+                f'$display("wrong: {self.said("cycle %0d")}", {net}__since);', f"{net}__since = {NEVER};", f"{net}__told = 1;"]),
+            *block(f"if ({self.root[1].verilog})", [f"{net}__open = 0;", f"{net}__since = {NEVER};"]),
+            *block(f"if ({awaited})", [f"{net}__quiet = 0;", f"{net}__since = {NEVER};"]),
+        ]
+        noted = [
+            *block(f"if ({self.root[0].verilog})", [f"{net}__open = 1;", f"{net}__told = 0;"]),
+            *block(f"if ({counted})", [f"{net}__quiet = 1;", f"{net}__told = 0;", f"{net}__since = {net}__open ? cycle : {NEVER};"]),
+        ]
+        if self.beats:
+            due = self.beats.timing.verilog(self.beats.request.verilog)[3]
+            noted.append(f"if ({beat} && {due}{self.beats.left()}) {net}__since = cycle;")
+        return [f"reg {net}__open = 0, {net}__quiet = 1, {net}__told = 0;", f"integer {net}__since = {NEVER};"], seen, noted
+
+
 def block(head, lines):
     return [f"{head} begin", *(f"  {line}" for line in lines), "end"]
 
 
 @dataclass
 class Surroundings:
-    """All that stands at the ports: their handshakes in order, where values come from, and for how many cycles it is run."""
+    """All that stands at the ports: their handshakes in order, where values come from, for how many cycles it is run, and what bounds
+    there are."""
 
     handshakes: list
     sources: list
     dice: list
     cycles: int = None
+    bounds: list = field(default_factory=list)
 
     def timings(self):
         return [it.timing for it in self.handshakes if isinstance(it, Answering)]
@@ -478,26 +831,39 @@ class Surroundings:
     def do(self, cycle, outputs):
         """The inputs of a cycle, each as its pin and its value or none, by the outputs of this cycle."""
         events = {pin.name: value for pin, value in outputs}
-        for it in self.handshakes:
+        for it in self.handshakes + self.bounds:
             it.see(cycle, events)
         for it in self.sources:
             it.move(cycle)
         inputs = [given for it in self.handshakes for given in it.give(cycle)]
         events.update((pin.name, value) for pin, value in inputs)
-        for it in self.timings() + self.sources:
+        events.update((name, None) for it in self.sources for name in it.moments())
+        for it in self.bounds + self.timings() + self.sources:
             it.note(cycle, events)
         return inputs
 
+    def end(self, cycles):
+        """The run is over after so many cycles."""
+        for it in self.timings():
+            it.look(cycles)
+
     def next(self, cycle):
-        """The first cycle from this one on in which they would give something of themselves, or none."""
-        return min((at for it in self.handshakes if (at := it.next(cycle)) is not None), default=None)
+        """The first cycle from this one on in which something happens by itself: an input, a byte's end, the end of a bound; or none."""
+        return min((at for it in self.handshakes + self.bounds + self.sources if (at := it.next(cycle)) is not None), default=None)
+
+    def told(self):
+        """What is to be said of beats that found a port not asking, and of bytes that have come."""
+        yield from (line for it in self.handshakes if isinstance(it, Answering) for line in it.missed())
+        yield from (line for it in self.sources if isinstance(it, Received) for line in it.told())
 
     def wrong(self):
-        """What was written and not wanted, and what was wanted and not written."""
+        """What was written and not wanted, what was wanted and not written, and what came too late."""
         for it in self.sources:
-            if isinstance(it, Wanted):
+            if isinstance(it, (Wanted, Received)):
                 yield from it.wrong
                 yield from it.missing()
+        for it in self.bounds:
+            yield from it.wrong()
 
     def stands(self):
         """Each handshake that is open and stays so as far as the surroundings know."""
@@ -515,16 +881,23 @@ class Run:
 
 def run(circuit, surroundings, limit):
     """Runs a circuit in its surroundings, for their number of cycles; or until nothing can happen any more, up to a limit."""
+    made = played(circuit, surroundings, limit)
+    surroundings.end(made.cycles)
+    return made
+
+
+def played(circuit, surroundings, limit):
     pulses, cycle, end, due = [], 0, surroundings.cycles or limit, surroundings.next(0)
     while cycle < end:
         outputs = circuit.outputs()
-        inputs = surroundings.do(cycle, outputs) if outputs or due == cycle else []
+        is_looked_at = outputs or due == cycle
+        inputs = surroundings.do(cycle, outputs) if is_looked_at else []
         # (the handshakes are in the order of the ports, and so are the inputs of a cycle in a trace)
         pulses.extend((cycle, pin, value) for pin, value in [*outputs, *inputs])
         circuit.give(inputs)
         moves = circuit.tick()
         cycle += 1
-        if outputs or inputs:
+        if is_looked_at:
             due = surroundings.next(cycle)
         elif not moves:
             if due is None:

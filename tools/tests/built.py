@@ -27,6 +27,32 @@ def script(name):
     return module
 
 
+def signals(dump):
+    """A value change dump, read back: the number of cycles, and by its scope and name what each signal is in each of them."""
+    scope, name, now, time, found = [], {}, {}, 0, {}
+    head, body = dump.split("$enddefinitions $end\n")
+    for words in map(str.split, head.split("\n")):
+        if words[:1] == ["$scope"]:
+            scope.append(words[2])
+        elif words[:1] == ["$upscope"]:
+            scope.pop()
+        elif words[:2] in (["$var", "wire"], ["$var", "reg"]):
+            name[words[3]] = f"{scope[-1]}.{words[4]}"
+    assert not scope, "a scope is left open"
+    for line in body.split("\n"):
+        if line.startswith("#"):
+            assert int(line[1:]) - time in (0, 1), "a time is left out"
+            for code, value in now.items() if int(line[1:]) > time else ():
+                found.setdefault(name[code], []).append(value)
+            time = int(line[1:])
+        elif line.startswith("b"):
+            value, code = line[1:].split(" ")
+            now[code] = value
+        elif line and line[0] in "01" and line[1:] in name:
+            now[line[1:]] = line[0]
+    return time, found
+
+
 def main(usage):
     """Runs the tests of the calling script on the program that its first word names."""
     if len(sys.argv) < 2 or sys.argv[1].startswith("-"):
@@ -93,9 +119,10 @@ class Room:
     def ran(self, *words):
         """What came out of a build by these words."""
         ran = self.run(*words)
-        if ran.returncode or ran.stdout.count("\n") != 1:
+        told = [line for line in ran.stdout.splitlines() if " beats found it not asking" not in line]
+        if ran.returncode or len(told) != 1:
             raise AssertionError(f"{words[0]} {words[1]} ended with {ran.returncode}: {ran.stdout}{ran.stderr}")
-        said = dict(zip(*[iter(ran.stdout.split()[1:])] * 2))
+        said = dict(zip(*[iter(told[0].split()[1:])] * 2))
         cells = int((self.path / "out.net").read_text().split("\n")[1].removeprefix("cells "))
         found, _ = ports.pulses_of((self.path / "out.trc").read_text())
         return Run(int(said.get("weight", 0)), int(said["unused"]), cells, found)

@@ -3,7 +3,7 @@
 Its crates are `gos` over `gos_top` over `gos_left` and `gos_right` over `gos_low`, and `gos_tests`, which the program doesn't need.
 Each run of this rt is two lines of `journal`. It makes programs that do what the given lines of a shell say; `rt lib` fails where a
 library below the crate isn't there, and where FAILS names the crate; `rt must-fail` says of each edit over which libraries it is
-tried, and fails with FAILS. NO_TRY has `rt try` fail, and REFUSED has it refuse the sources; MEET has `gos_left` and `gos_right`
+tried, and fails with FAILS. NO_TRY has `rt try` fail and say it, and REFUSED has it refuse the sources; MEET has `gos_left` and `gos_right`
 wait for one another; KIT is what `rt version` prints. While there is a file `hold` each `rt lib` waits. No wait is longer than half
 a minute.
 """
@@ -12,6 +12,8 @@ import re
 import shutil
 import stat
 import subprocess
+import tempfile
+import unittest
 from pathlib import Path
 
 TOP = Path(__file__).resolve().parent.parent.parent
@@ -39,7 +41,7 @@ echo "said of $PWD: $*"
 echo "begin $1 ${PWD##*/}" >>JOURNAL
 case "$1" in
 try)
-    [ -z "$NO_TRY" ] || exit 2
+    [ -z "$NO_TRY" ] || { echo "$NO_TRY"; exit 2; }
     if [ -n "$REFUSED" ]; then
         printf 'src/main.rt:1:2: error[unknown-name]: no x here\nrun=none proved=no\n'
         exit 1
@@ -91,7 +93,7 @@ class Repository:
     def __init__(self, room, program=PROGRAM):
         self.top, self.bin, self.journal = Path(room) / "top", Path(room) / "bin", Path(room) / "journal"
         self.out, self.hold = self.top / "crates/gos/out", Path(room) / "hold"
-        for name in ("tools", "docs", ".ci"):
+        for name in ("tools", "docs", "lib", ".ci"):
             shutil.copytree(TOP / name, self.top / name, ignore=shutil.ignore_patterns("__pycache__"))
         for name in ("gos", "README.md", "HANDLES"):
             shutil.copy2(TOP / name, self.top / name)
@@ -113,7 +115,7 @@ class Repository:
     def environment(self, **more):
         """That of a shell with the line of the tutorial on PATH, where this rt is the toolchain's."""
         path = f"{self.top}:{self.top}/tools:{self.bin}:{os.environ['PATH']}"
-        clean = {name: value for name, value in os.environ.items() if name not in ("GOS_PROVED", "RT_JOBS")}
+        clean = {name: value for name, value in os.environ.items() if name not in ("GOS_PROVED", "GOS_QUIET", "RT_JOBS")}
         return {**clean, "PATH": path, "CI": "1", **more}
 
     def run(self, command, room, **more):
@@ -131,3 +133,17 @@ class Repository:
         """The crates in whose folders this rt was run so, in order of the beginnings."""
         lines = self.journal.read_text().splitlines() if self.journal.exists() else []
         return [line.split()[2] for line in lines if line.startswith(f"begin {verb} ")]
+
+
+class Case(unittest.TestCase):
+    """A test in a small repository, with a command rt that proves nothing."""
+
+    def setUp(self):
+        room = tempfile.TemporaryDirectory()
+        self.addCleanup(room.cleanup)
+        self.repository = Repository(room.name)
+        self.top, self.out, self.room = self.repository.top, self.repository.out, Path(room.name) / "caller"
+        self.room.mkdir()
+
+    def do(self, command, **environment):
+        return self.repository.run(command, self.room, **environment)

@@ -1,5 +1,6 @@
 #!/usr/bin/env python3
-"""Measures what forms of the language cost, and compares the tables of docs/COSTS.md with it; and tests tools/gos-cost.
+"""Measures what forms of the language cost, and compares the tables of docs/COSTS.md with it; and tests tools/gos-cost,
+and what tools/gos-vcd shows of locals and parts.
 
 usage: tools/tests/test_costs.py GOS [WORDS OF unittest]
        tools/tests/test_costs.py GOS --write
@@ -35,6 +36,10 @@ UP, DOWN = "new i : 8 in while !i < {0}:8 do {1}", "new i : 8 in (i := {0}:8 ; w
 LOOPS = {
     UP: ["i := !i + 1:8", "(x := 1:8 ; i := !i + 1:8)"], DOWN: ["i := !i - 1:8", "(x := 1:8 ; i := !i - 1:8)"],
 }
+ROUNDS = [
+    "if !a < !b then b := !b - !a else a := !a - !b",
+    "new s : 8 in new t : 8 in (s := !a ; t := !b ; if !s < !t then b := !t - !s else a := !s - !t)",
+]
 TABLE = re.compile(r"(?:^\|.*\n)+", re.M)
 USES = [1, 2, 4, 8, 16, 32]
 
@@ -105,10 +110,18 @@ class Measure:
                 row += [line, flat, cells]
             yield f"| {' | '.join(map(str, row))} |"
 
+    def copies(self):
+        """Two ways to the greatest common divisor of 255 and 3."""
+        yield "| A round of the loop | Cycles of the run | Cells |"
+        for round in ROUNDS:
+            module = f"export new a : 8 in new b : 8 in (a := 255:8 ; b := 3:8 ; while not (!a = !b) do ({round})) : com\n"
+            run = self.room.build({"main": module}, "cycles 9000\nnext 0 main.run\n")
+            yield f"| `{round}` | {run.times('main.done')[0]} | {run.cells} |"
+
     def page(self, text):
         """The page with its tables as they are measured, each behind its heading."""
         for heading, rows in (("## Forms", self.forms()), ("## Loops", self.loops()), ("## Calls", self.calls()),
-                              ("## One name in many places", self.uses())):
+                              ("## One name in many places", self.uses()), ("## Copies", self.copies())):
             first, *others = rows
             table = "\n".join([first, "|" + "---|" * (first.count(" |")), *others])
             before, after = text.split(f"\n{heading}\n")
@@ -119,7 +132,8 @@ class Measure:
 
 def with_shown(room, text):
     """The page with what gos-cost prints of the examples that it shows."""
-    for example, words in (("sequence", ["b.txt"]), ("shared_procedure", ["--parts", "b.txt"])):
+    for example, words in (("sequence", ["b.txt"]), ("shared_procedure", ["--parts", "b.txt"]),
+                           *(("uart", [view, "b.txt"]) for view in ("--names", "--lines", "--ports"))):
         shutil.copytree(built.TOP / "examples" / example, room.path, dirs_exist_ok=True)
         room.run(room.gos, "build", "b.txt")
         with contextlib.chdir(room.path), contextlib.redirect_stdout(io.StringIO()) as said:
@@ -140,7 +154,7 @@ class Page(built.Case):
 
     def test_the_square(self):
         """What the page says of n uses in a line, n of the table."""
-        rows = [[int(it) for it in row.strip("| ").split(" | ")] for row in re.findall(r"(?m)^[|] \d.*$", PAGE.read_text())]
+        rows = [[int(it) for it in row.strip("| ").split(" | ")] for row in re.findall(r"(?m)^[|] \d+ [|] \d.*$", PAGE.read_text())]
         self.assertEqual([row[0] for row in rows], USES)
         for uses, line, _, _, local, _, _ in rows:
             self.assertEqual((line, local), (uses * (uses + 3) // 2, uses * (uses + 5)))
@@ -198,8 +212,40 @@ skip       1      1     1          0
         self.room.write(p__obj="gosobj 2\n")
         self.assertEqual(self.cost("--parts", "b.txt")[1:], ("tools/gos-cost: p.obj: this is no object that is right; gos link says where it stops "
                                                             "being one\n", 1))
-        with self.assertRaisesRegex(SystemExit, "usage:"):
+        with self.assertRaisesRegex(SystemExit, "1"):
             self.cost("--parts")
+
+    # A write, a command of the surroundings, and a read and a write of the same variable.
+    READS = """import c : com
+export
+  new x : 8 in
+    (x := 5:8 ;
+     c ;
+     x := !x + 1:8)
+  : com
+"""
+
+    def test_names_lines_and_ports(self):
+        self.room.build({"main": self.READS}, "cycles 60\nnext 0 main.run\nnext 7 c.done\nnext 4 main.run\nnext 2 c.done\n")
+        # (the first write is behind one Share, what reads and what writes then is behind two; a write takes a cycle more)
+        self.assertEqual(self.cost("--names", "b.txt"), ("""\
+name    cells  shares  reads  fewest  most  all  writes  fewest  most  all
+main.x     62       2      2       2     2    4       4       2     3   10
+""", "", 0))
+        # (in each of two runs the block takes a cycle and each write one, the Shares five, and the sum one; the ports take two)
+        self.assertEqual(self.cost("--lines", "b.txt"), ("""\
+line        parts  cells  registers  cycles
+main.gos:3      1      9          3       6
+main.gos:4      3     10          0       0
+main.gos:5      1      3          0       0
+main.gos:6      6     59         10      12
+""", "", 0))
+        self.assertEqual(self.cost("--ports", "b.txt")[0].splitlines()[1:], [
+            "main.run      2                     14           0                             0          14",
+            "c.run         2                      3           4                            11           7"])
+        self.room.write(main__gos=self.READS.replace("x := 5:8 ;", ""))
+        self.assertEqual(self.cost("--lines", "b.txt")[1:], (
+            "tools/gos-cost: main.gos: this is not the source of its object any more; gos build makes a new one\n", 1))
 
     def test_all_kinds_of_parts_are_known(self):
         """One program with each kind, and with Shares of types of each form."""
@@ -221,8 +267,14 @@ export
 """}, "cycles 900\nnext 0 main.run\nnext 0 e.ans 1\nnext 0 e.ans 1\nnext 0 v.ans 1\nnext 0 v.done\n")
         said, wrong, status = self.cost("--parts", "b.txt")
         self.assertEqual((wrong, status), ("", 0))
+        self.assertEqual(self.cost("--lines", "b.txt")[1:], ("", 0))
         kinds = [line.split()[0] for line in said.split("\n\n")[1].splitlines()[1:]]
         self.assertEqual(sorted(kinds), sorted([*plans.GATES, *plans.OPERATORS, "local", "share"]))
+        # In the dump each part rests where the program does, and some part of each kind has run.
+        dump = built.signals(self.room.run(built.TOOLS / "gos-vcd", "--parts", "b.txt").stdout)[1]
+        runs, over = {name: "".join(it) for name, it in dump.items() if name.startswith("parts.")}, dump["main.done"].index("1")
+        self.assertEqual((len(runs), [name for name, it in runs.items() if "1" in it[over:]]), (sum(map(int, re.findall(r"(?m)^main +(\d+)", said))), []))
+        self.assertEqual({name.split("_")[1] for name, it in runs.items() if "1" in it}, {it.removesuffix("exp") for it in kinds})
 
     def test_longest_path(self):
         self.room.build({"main": "import e : exp 8\nexport new x : 8 in x := e + not e : com\n"}, "cycles 90\nnext 0 main.run\n")
@@ -246,8 +298,67 @@ export
             self.room.build(self.SEQUENCE, "cycles 9\nnext 0 main.run\n")
             (self.room.path / name).write_text(text)
             self.assertEqual(self.cost("b.txt"), ("", f"tools/gos-cost: {why}\n", 1))
-        with self.assertRaisesRegex(SystemExit, "usage:"):
+        with self.assertRaisesRegex(SystemExit, "1"):
             self.cost()
+
+
+class Dump(built.Case):
+    """What tools/gos-vcd shows of the inside."""
+
+    MODULE = """import c : com
+export
+  new x : 8 in new a[2] : 1 in
+    (x := 5:8 ;
+     c ;
+     a 1:1 := 1:1 ;
+     new x : 4 in x := 3:4)
+  : com
+"""
+
+    def setUp(self):
+        super().setUp()
+        self.room.build({"main": self.MODULE}, "cycles 12\nnext 0 main.run\nnext 6 c.done\n")
+
+    def dump(self, *words):
+        """What the dump shows but the signals of the ports, and its text."""
+        ran = self.room.run(built.TOOLS / "gos-vcd", *words, "b.txt")
+        self.assertEqual((ran.returncode, ran.stderr), (0, ""))
+        ports = built.signals(self.room.run(built.TOOLS / "gos-vcd", "out.net", "out.trc").stdout)[1]
+        return {name: it for name, it in built.signals(ran.stdout)[1].items() if name not in ports}, ran.stdout
+
+    def test_locals(self):
+        """A number is seen from the cycle after its writing on, and two blocks of one name are told apart by their places."""
+        found, text = self.dump("--locals")
+        self.assertEqual({name: [int(it, 2) for it in values] for name, values in found.items()}, {
+            "main.x_3_3": [0] * 3 + [5] * 9, "main.a[0]": [0] * 12, "main.a[1]": [0] * 8 + [1] * 4, "main.x_7_6": [0] * 10 + [3] * 2})
+        self.assertEqual(re.findall(r"\$var reg (\d+) \S+ (\w.*) \$end", text), [
+            ("8", "x_3_3 [7:0]"), ("1", "a[0] [0:0]"), ("1", "a[1] [0:0]"), ("4", "x_7_6 [3:0]")])
+        self.assertEqual(self.dump(), ({}, self.room.run(built.TOOLS / "gos-vcd", "out.net", "out.trc").stdout))
+
+    def test_parts(self):
+        """From the request to the answer: c is open from cycle 4 to 6, and all is over in cycle 10."""
+        found = {name.removeprefix("parts."): "".join(it) for name, it in self.dump("--parts")[0].items()}
+        self.assertEqual(found, {
+            "p0_local_x_3_3": "111111111110", "p1_array_a_3_16": "011111111110", "p2_seq_4_6": "001111111110", "p3_assign_x_4_6": "001100000000",
+            "p4_lit_4_11": "001000000000", "p5_seq_5_6": "000111111110", "p6_seq_6_6": "000000111110", "p7_assign_a_6_6": "000000111000",
+            "p8_lit_6_8": "000000010000", "p9_lit_6_15": "000000100000", "p10_local_x_7_6": "000000001110", "p11_assign_x_7_19": "000000000110",
+            "p12_lit_7_24": "000000000100"})
+        self.assertEqual(self.dump("--parts", "--locals")[0].keys(), self.dump("--parts")[0].keys() | self.dump("--locals")[0].keys())
+
+    def test_files_of_another_build(self):
+        for words in (("--locals", "out.net", "out.trc"), ("--parts", "out.net", "out.trc")):
+            self.assertIn("want BUILD", self.room.run(built.TOOLS / "gos-vcd", *words).stderr)
+        net, trace = ((self.room.path / it).read_text() for it in ("out.net", "out.trc"))
+        for name, text, why in (
+            ("out.trc", trace.replace("4 c.run", "3 c.run"), "out.trc: this is no trace of this netlist, which has other outputs in cycle 3"),
+            ("main.gos", "export skip : com\n", "main.gos: this is not the source of its object any more"),
+            ("out.net", net.replace("not 1 ", "reg 1 ", 1), "out.net: this is no netlist of the objects that the build file names"),
+        ):
+            self.room.build({"main": self.MODULE}, "cycles 12\nnext 0 main.run\nnext 6 c.done\n")
+            (self.room.path / name).write_text(text)
+            ran = self.room.run(built.TOOLS / "gos-vcd", "--parts", "b.txt")
+            self.assertEqual((ran.returncode, ran.stdout, ran.stderr.count("\n")), (2, "", 1), ran.stderr)
+            self.assertTrue(ran.stderr.startswith(why), ran.stderr)
 
 
 def write(gos):

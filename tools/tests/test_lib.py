@@ -16,6 +16,8 @@ from pathlib import Path
 import built
 
 import circuits  # (built has put the folder above into the path)
+import descriptions
+import surroundings
 
 PAGE = built.LIBRARY / "README.md"
 TABLE = re.compile(r"(?:^\|.*\n)+", re.M)
@@ -90,8 +92,8 @@ def looks(levels):
 
 def received(byte, stop=1):
     """Answers with which uart_receive is given a byte and a stop bit."""
-    bits = [byte >> at & 1 for at in range(8)] + [stop]
-    return ["line.ans 0", "half.done", "line.ans 0", *(it for bit in bits for it in ("bit.done", f"line.ans {bit}")), "byte.done"]
+    bits = [it for at in range(8) for it in ("bit.done", f"line.ans {byte >> at & 1}")]
+    return ["line.ans 0", "half.done", "line.ans 0", *bits, "byte.done", "bit.done", f"line.ans {stop}"]
 
 
 class Wires:
@@ -249,7 +251,7 @@ class Library(built.Case):
     def test_uart_receive(self):
         text = b"gos\x00\xff\x55"
         found, looked = self.receive(f"sends {' '.join(map(str, text))} at 60 cycles a bit after 100 cycles",
-                                     "main runs 6 times", f"byte takes {' '.join(map(str, text))}", "wrong never answers")
+                                     "main runs 6 times after 18 cycles", f"byte takes {' '.join(map(str, text))}", "wrong never answers")
         begin = 100
         for byte in text:
             # (it looks when half a bit is over, and then in the middle of each bit, as late as it saw the line fall)
@@ -261,6 +263,54 @@ class Library(built.Case):
                 self.assertTrue(30 <= cycle - begin - 60 * at < 46, (byte, at, cycle))
             begin += 600
         self.assertLess(found.times("main.done")[-1], begin)
+
+    # What a bit has to be longer than half a bit and the caller's time together, and the shortest bit of all.
+    SPARE, LEAST_BIT = 12, 38
+
+    def receiver(self):
+        """The circuit of a main that tells whether a byte had its stop bit."""
+        main = main_of("uart_receive", "if uart_receive line (half, bit) byte then skip else wrong", "com", ["wrong : com"])
+        self.room.build({"main": main, "uart_receive": module("uart_receive")}, "cycles 1\n", ["main uart_receive uart_receive"])
+        return (self.room.path / "out.net").read_text()
+
+    def stream(self, netlist, bit, caller, text, half=None):
+        """What comes of bytes that follow one another at once, each call so many cycles behind the one before: the bytes that are written, and
+        how late the beginning of each byte of the line is seen."""
+        circuit = circuits.Circuit("out.net", netlist)
+        around = descriptions.read("d", "\n".join([
+            f"cycles {100 + 10 * bit * len(text) + 40}", f"main runs {len(text)} times after {caller} cycles", "byte is a variable", "wrong answers",
+            f"line sends {' '.join(map(str, text))} at {bit} cycles a bit after 100 cycles", f"half answers after {half or bit // 2} cycles",
+            f"bit answers every {bit} cycles from half.done"]), circuit.ports)
+        pulses = surroundings.run(circuit, around, 10**6).pulses
+        looked = [cycle for cycle, pin, _ in pulses if pin.name == "line.ans"]
+        begins = range(100, 100 + 10 * bit * len(text), 10 * bit)
+        late = [next((cycle for cycle in looked if cycle >= begin), begin + bit) - begin for begin in begins]
+        wrong = [cycle for cycle, pin, _ in pulses if pin.name == "wrong.run"]
+        return bytes(value for _, pin, value in pulses if pin.name == "byte.write") if not wrong else b"", late
+
+    def test_uart_receive_and_its_caller(self):
+        """Bits of 58 to 72 cycles and callers that take 0 to 20: these bytes are read right, and just where the page says so each one is seen
+        at the next look at the line, which comes every 4 cycles."""
+        netlist, text = self.receiver(), b"A\xff\x00U\x80g"
+        for bit in range(58, 73):
+            most = bit - bit // 2 - self.SPARE
+            for caller in {0, 10, 20, most, most + 1}:
+                with self.subTest(bit=bit, caller=caller):
+                    got, late = self.stream(netlist, bit, caller, text)
+                    self.assertEqual(got, text)
+                    self.assertEqual(max(late) < 4, caller <= most, late)
+
+    def test_uart_receive_for_long(self):
+        """Where the caller takes a cycle too long, each byte is seen a cycle later than the one before, until one is wrong."""
+        netlist, text = self.receiver(), bytes(range(255, 200, -1))
+        for bit, half, caller in ((60, 30, 18), (60, 26, 22), (61, 30, 19)):
+            self.assertEqual(self.stream(netlist, bit, caller, text, half)[0], text)
+            self.assertNotEqual(self.stream(netlist, bit, caller + 1, text, half)[0], text)
+
+    def test_uart_receive_at_its_shortest_bit(self):
+        netlist, text = self.receiver(), b"\xff\xff\x00\xff"
+        self.assertEqual(self.stream(netlist, self.LEAST_BIT, 0, text)[0], text)
+        self.assertNotEqual(self.stream(netlist, self.LEAST_BIT - 1, 0, text)[0], text)
 
     def test_uart_receive_without_a_stop_bit(self):
         found, _ = self.receive("is 1 0 1 0 0 0 0 0 1 0 0 1 for 60 cycles each", "main runs once", "byte takes 65", "wrong answers")

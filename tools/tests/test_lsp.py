@@ -169,7 +169,7 @@ class Protocol(Session):
         self.assertEqual((able["hoverProvider"], able["definitionProvider"], able["textDocumentSync"]["change"]), (True, True, 1))
 
     def test_errors(self):
-        self.assertEqual(self.client.ask("textDocument/rename")["error"]["code"], -32601)
+        self.assertEqual(self.client.ask("textDocument/implementation")["error"]["code"], -32601)
         self.assertEqual(self.client.ask("textDocument/hover", textDocument={"uri": "file:///none"})["error"]["code"], -32602)
         self.assertEqual(self.client.ask("initialize")["error"]["code"], -32600)
         self.client.send_bytes(b"{")
@@ -338,6 +338,81 @@ class Names(Session):
         (self.room.path / "deep").mkdir()
         self.assertEqual(self.put("deep/b.txt", BUILD, "gosbuild"), [])
         self.assertEqual(self.definition("deep/b.txt", BUILD, "root"), ("main.gos", 2, 0, 6))
+
+
+class Editing(Session):
+    def labels(self, *place, **more):
+        return {it["label"]: it.get("detail") for it in self.at("completion", *place, **more)}
+
+    def test_completion(self):
+        self.put("main.gos", SOURCE)
+        self.assertEqual({name: kind for name, kind in self.labels("main.gos", SOURCE, "!c", 2).items() if kind},
+                         {"c": "var 8", "f": "exp 8 -> com", "x": "var 8"})
+        found = self.labels("main.gos", SOURCE, "    c\n", 4)
+        self.assertEqual((found["c"], found["x"], "while" in found, "then" in found), ("com", "var 8", True, False))
+        for text, part, wanted in (
+            ("import cc : com\nexport c", "export c", {"cc"}), ("import c : com  export if c th", "th", {"then"}), ("export fun ", "fun ", set()),
+            ("export (fun y : com . y) ", ") ", {"skip"}), ("import c : com # no\nexport c : com", "# n", set()), ("", "", {"import", "export"}),
+        ):
+            self.put("m.gos", text)
+            found = set(self.labels("m.gos", text, part, len(part)))
+            self.assertTrue(wanted <= found and (wanted or not found), (text, found))
+            self.assertNotIn("y", found)
+
+    def test_completion_in_a_build(self):
+        text = BUILD.replace("bind main f lib\n", "bind main \nb")
+        self.put("b.txt", text, "gosbuild")
+        self.assertEqual(self.labels("b.txt", text, "bind main ", 10), {"c": "com", "f": "exp 8 -> com"})
+        self.assertEqual(self.labels("b.txt", text, "bind ", 5), {"main": "main.gos", "lib": "sub/lib.gos"})
+        self.assertEqual(set(self.labels("b.txt", text, "\nbroot", 2)), {"bind", "root"})
+
+    def test_symbols(self):
+        self.put("main.gos", SOURCE)
+        self.put("b.txt", BUILD, "gosbuild")
+        for name, wanted in (("main.gos", ["c com", "f exp 8 -> com", "x var 8", "c var 8", "export com"]), ("b.txt", ["main main.gos", "lib sub/lib.gos"])):
+            found = self.client.ask("textDocument/documentSymbol", textDocument={"uri": self.uri(name)})["result"]
+            self.assertEqual([f"{it['name']} {it['detail']}" for it in found], wanted)
+
+    def rename(self, name, text, part, after, new):
+        """What becomes of the texts of all files in which a name is changed, or why it isn't."""
+        before = text[:text.index(part) + after]
+        place = {"line": before.count("\n"), "character": len(before.rpartition("\n")[2])}
+        answer = self.client.ask("textDocument/rename", textDocument={"uri": self.uri(name)}, position=place, newName=new)
+        if "error" in answer:
+            return answer["error"]["message"]
+        return {uri.rpartition("/")[2]: self.changed({"main.gos": SOURCE, "b.txt": BUILD}.get(uri.rpartition("/")[2], text), edits)
+                for uri, edits in answer["result"]["changes"].items()}
+
+    def changed(self, text, edits):
+        lines = text.split("\n")
+        for edit in sorted(edits, key=lambda it: (it["range"]["start"]["line"], it["range"]["start"]["character"]), reverse=True):
+            start, end = edit["range"]["start"], edit["range"]["end"]
+            line = lines[start["line"]]
+            lines[start["line"]] = line[:start["character"]] + edit["newText"] + line[end["character"]:]
+        return "\n".join(lines)
+
+    def test_rename(self):
+        self.put("main.gos", SOURCE)
+        self.put("b.txt", BUILD, "gosbuild")
+        self.assertEqual(self.rename("main.gos", SOURCE, "x :=", 0, "y"),
+                         {"main.gos": SOURCE.replace("new x", "new y").replace("x :=", "y :=").replace(" x ;", " y ;")})
+        self.assertEqual(self.rename("main.gos", SOURCE, "!c", 1, "n"), {"main.gos": SOURCE.replace("fun c", "fun n").replace("!c", "!n")})
+        self.assertEqual(self.rename("main.gos", SOURCE, "f (", 0, "g"), {
+            "main.gos": SOURCE.replace("import f", "import g").replace(" f (", " g ("), "b.txt": BUILD.replace("bind main f", "bind main g")})
+        self.assertEqual(self.rename("b.txt", BUILD, "inst lib", 5, "two"), {
+            "b.txt": BUILD.replace("inst lib", "inst two").replace("f lib", "f two")})
+        for part, after, new, said in (("x :=", 0, "f", "bound here already"), ("x :=", 0, "c", "bound here already"), ("f (", 0, "c", "bound here already"),
+                                       ("x :=", 0, "while", "a word of the language"), ("x :=", 0, "1x", "`1x` is no name"), ("export", 0, "y", "no name")):
+            self.assertIn(said, self.rename("main.gos", SOURCE, part, after, new), new)
+        self.assertIn("an instance `main` already", self.rename("b.txt", BUILD, "inst lib", 5, "main"))
+        found = self.at("prepareRename", "main.gos", SOURCE, "x :=")
+        self.assertEqual(found["placeholder"], "x")
+
+    def test_formatting(self):
+        for text, made in (("import c:com export\nc;c:com", "import c : com\nexport\n  c ; c : com\n"), ("export skip : com\n", ""), ("export (", None)):
+            self.put("m.gos", text)
+            found = self.client.ask("textDocument/formatting", textDocument={"uri": self.uri("m.gos")}, options={})["result"]
+            self.assertEqual(found if found is None else "".join(it["newText"] for it in found), made)
 
 
 class Programs(Session):

@@ -61,6 +61,13 @@ take x var 4 5 6 7 8 9 10
 end
 """
 
+# The same with numbers of one bit.
+LINE = COPY.replace("input 4", "input 1").replace("reg 4 4", "reg 1 4").replace("exp 4", "exp 1").replace("var 4", "var 1")
+# What a line sends that waits for what it is answered, to a circuit that writes what it reads.
+DIALOGUE = """main runs for ever
+e sends "A" at 20 cycles a bit after 30 cycles, "BC" after 10 to 40 cycles from x.byte, 255 after x.byte, "D" after 50 cycles
+cycles 1700
+"""
 
 
 def command(*words, cwd=None):
@@ -159,6 +166,76 @@ class Playing(unittest.TestCase):
     def test_serial_line(self):
         self.assertEqual(descriptions.framed([0x41]), [0, 1, 0, 0, 0, 0, 0, 1, 0, 1])
 
+    def heard(self, saying, description=DIALOGUE):
+        """What is said of a line to which a circuit writes, and what is wrong there."""
+        around = played(LINE, f"{description}x receives 8n1 every 20 cycles {saying}\n")[2]
+        return list(around.told()), list(around.wrong())
+
+    def test_a_dialogue(self):
+        self.assertEqual(self.heard(""), (['x receives "ABC" 255 "D"'], []))
+        self.assertEqual(self.heard("expects \"ABC\" 255 \"D\""), ([], []))
+        _, wrong = self.heard("expects \"AC\"")
+        self.assertEqual([line.split(" in cycle ")[0] for line in wrong], ["x receives 66", "x receives 67", "x receives 255", "x receives 68"])
+        self.assertRegex(wrong[0], r"^x receives 66 in cycle \d+, and 67 is wanted$")
+        self.assertRegex(wrong[1], r"^x receives 67 in cycle \d+, and nothing is wanted$")
+        self.assertEqual(self.heard("expects \"ABC\" 255 \"D\" 0")[1], ["x receives 5 bytes, and 6 are wanted"])
+
+    def test_bursts_begin_at_their_events(self):
+        """Bytes of ten cycles: at the beginning, at an event that came while the first one was sent, and behind the one before."""
+        line = surroundings.Serial("e", 1, [surroundings.Burst([0] * 9 + [1], surroundings.Delay()),
+                                            surroundings.Burst([0] * 9 + [1], surroundings.Delay(2, 2), surroundings.Moment("c.ans", "")),
+                                            surroundings.Burst([0] * 9 + [1], surroundings.Delay(5, 5))], surroundings.Dice("e", 1, 0))
+        seen = []
+        for cycle in range(60):
+            line.move(cycle)
+            seen.append(line.value(cycle))
+            line.note(cycle, {"c.ans": 1} if cycle in (4, 30) else {})
+        zeros = [cycle for cycle in range(60) if not seen[cycle]]
+        self.assertEqual(zeros, [*range(9), *range(10, 19), *range(25, 34)])
+
+    def test_faults_of_a_line(self):
+        short = "main runs for ever\ne is 1, 0 after 30 cycles, 1 after 36 cycles\ncycles 400\n"
+        self.assertEqual(self.heard("", short), (["x receives nothing"], ["x is 0 for less than half a bit, from cycle 34 on"]))
+        low = "main runs for ever\ne is 1, 0 after 30 cycles\ncycles 400\n"
+        self.assertEqual(self.heard("expects 0", low)[1], ["x has no stop bit in cycle 224"])
+
+    def test_a_run_goes_on_to_the_end_of_a_byte(self):
+        lines, run, around = played(LINE, "main runs once\ne is 0\nx receives 8n1 every 20 cycles\n")
+        self.assertEqual((lines[-1], list(around.told()), run.cycles > 190), ("4 main.done", ["x receives 0"], True))
+
+    def test_beats_that_find_a_port_not_asking(self):
+        """At beats of 4 cycles c asks in each second one; a beat of the cycle of its request is met, and so is none behind the last answer."""
+        said = {}
+        for pace in ("every 4 cycles", "every 4 cycles from main.run", "2 times every 4 cycles", "every 7 cycles"):
+            text = f"main runs 3 times after 1 cycle\nc answers {pace}\nd answers after 4 cycles\n"
+            lines, run, around = played(SEQUENCE, text)
+            answered = [int(line.split()[0]) for line in lines if line.endswith("c.done")]
+            said[pace] = answered, run.cycles, list(around.told())
+        self.assertEqual(said, {
+            "every 4 cycles": ([4, 12, 20], 28, ["c: 3 of 6 beats found it not asking, the first in cycle 8"]),
+            "every 4 cycles from main.run": ([5, 16, 27], 35, ["c: 3 of 6 beats found it not asking, the first in cycle 9"]),
+            "2 times every 4 cycles": ([4, 12], 22, ["c: 1 of 3 beats found it not asking, the first in cycle 8"]),
+            "every 7 cycles": ([7, 21, 35], 43, ["c: 3 of 6 beats found it not asking, the first in cycle 14"]),
+        })
+
+    def test_a_circuit_that_is_too_late(self):
+        text = "main runs 2 times\nc answers every 4 cycles\nd answers after {0} cycles\n{1}"
+        cases = {
+            # (c is done in cycles 4 and 16, and the root in cycles 15 and 27)
+            (9, "c within 11 cycles"): [], (9, "c within 10 cycles"): ["c asks nothing within 10 cycles of c.done in cycle 4, and so 1 time more"],
+            # (the root is done in cycles 9 and 17)
+            (3, "main within 9 cycles"): [], (3, "main within 8 cycles"): ["main gives no answer within 8 cycles of main.run in cycle 0"],
+        }
+        for (cycles, line), wanted in cases.items():
+            with self.subTest(line, cycles=cycles):
+                self.assertEqual(list(played(SEQUENCE, text.format(cycles, line))[2].wrong()), wanted)
+
+    def test_a_circuit_that_stands_still_is_too_late(self):
+        """d is asked at none of its beats, and c never again."""
+        lines, run, around = played(SEQUENCE, "main runs once\nc never answers\nd answers every 5 cycles\nd within 7 cycles\n")
+        self.assertEqual((lines, list(around.wrong())), (["0 main.run", "1 c.run"], ["d asks nothing within 7 cycles of the beat in cycle 5"]))
+        self.assertTrue(run.is_over and run.cycles >= 13, run)
+
     def test_chance_is_the_seeds(self):
         once, again, other = (played(SEQUENCE, f"seed {seed}\nmain runs 9 times\nc answers after 0 to 9 cycles\nd answers\n")[0] for seed in (1, 1, 2))
         self.assertEqual(once, again)
@@ -196,12 +273,15 @@ class Messages(unittest.TestCase):
         "e is 1, 0 after 0 cycles from x.write": "d:1:17: a level changes one cycle after an event or more",
         "e sends 5 at 3 cycles a bit": "d:1:9: bits are sent one after the other, and e is an expression of 4 bits",
         "e is an array at e": "d:1:18: `e` can't stand here; what can: a port of which a line says `is a variable`",
-        "e answers": "d:1:3: `answers` can't stand here; what can: `never`, `gives`, `sends`, `is`",
+        "e answers": "d:1:3: `answers` can't stand here; what can: `within`, `never`, `gives`, `sends`, `is`",
         "x is a variable of 5 bits": "d:1:20: x has 4 bits",
         "x is variable": "d:1:6: `variable` can't stand here; what can: `an`, `a`",
         "y answers": "d:1:1: `y` can't stand here; what can: `cycles`, `seed`, `main`, `e`, `x`",
         "e gives 1 ?": "d:1:11: `?` can't stand here; what can: a value, `..`, `again`, `every`, `after`, the end of the line",
         "e gives 1\ne gives 2": "d:2:1: of the port e line 1 says something already",
+        "e within 3": "d:1:11: the line ends here; what can: `cycle`, `cycles`",
+        "e within 3 cycles\ne within 2 cycles": "d:2:1: of the port e line 1 says something already",
+        "x receives 8n1 every 3 cycles": "d:1:3: bits are received one after the other, and x is a variable of 4 bits",
         "cycles 0": "d:1:8: a number of cycles is 1 to 1000000, and not 0",
     }
 
@@ -209,6 +289,20 @@ class Messages(unittest.TestCase):
         for text, message in self.LINES.items():
             with self.subTest(text), self.assertRaises(Wrong) as wrong:
                 played(COPY, text)
+            self.assertEqual(str(wrong.exception), message)
+
+    def test_of_lines(self):
+        cases = {
+            "x receives 8e1": "d:1:12: `8e1` can't stand here; what can: `8n1`",
+            "x receives 8n1 every 3": "d:1:23: the line ends here; what can: `cycle`, `cycles`",
+            "e sends 1 at 3 cycles a bit after 0 cycles from x.byte\nx receives 8n1 every 3 cycles":
+                "d:1:35: a line begins to send one cycle after an event or more",
+            "e sends 1 at 3 cycles a bit after 1 cycle from x.byte\nx is a variable": "d:1:48: no port has an event `x.byte`; is `x.write` meant?",
+            "e sends 1 at 3 cycles a bit, 2": "d:1:31: the line ends here; what can: a value, `after`",
+        }
+        for text, message in cases.items():
+            with self.subTest(text), self.assertRaises(Wrong) as wrong:
+                played(LINE, text)
             self.assertEqual(str(wrong.exception), message)
 
     def test_a_port_of_which_nothing_is_said(self):
@@ -291,10 +385,10 @@ class Formal(Room):
         self.write(net=COPY, v="")
         self.said(TOOLS / "gos-formal", "--write", "f.sv", "--seconds", "1", "--steps", "1", "net", "nothing.v", status=2 if shutil.which("yosys") else 4)
         text = (self.room / "f.sv").read_text()
-        for line in ("wire main__run__in_turn = ~main__run | ~main__run__was_open | main__done;", "assume (main__run__in_turn);",
-                     "wire x__ans__in_turn = ~x__ans | x__read__was_open | x__read;", "assume (x__ans__in_turn);",
-                     "wire x__write__in_turn = ~x__write | ~x__write__was_open;", "assert (x__write__in_turn);",
-                     "assert (x__writevalue__is_0_else);", "assume (e__ansvalue__is_0_else);"):
+        for line in ("assign main__run = main__run__given & started & (~main__run__was_open | main__done);",
+                     "assign x__ans = x__ans__given & started & (x__read__was_open | x__read);",
+                     "assign e__ansvalue = e__ansvalue__given & {4{e__ans}};", "assert (~x__write | ~x__write__was_open);",
+                     "assert (x__write | x__writevalue == 0);"):
             self.assertIn(line, text)
 
     def test_a_property_without_a_form(self):
@@ -307,6 +401,46 @@ class Formal(Room):
         self.write(v=latch_in_verilog())
         said = self.said(TOOLS / "gos-formal", LATCH / "a.net", "v", status=3)
         self.assertTrue(said.startswith("fails: main__done__in_turn in cycle 2\n0 main.run\n1 main.done\n2 main.done\n"), said)
+
+
+@unittest.skipUnless(GOS, "no program is given")
+class Benches(Room):
+    """A circuit of one module, in surroundings that react, and the same as a test bench."""
+
+    BUILD = "gosbuild 1\ninst main main.gos main.obj\nroot main\nnet out.net\nverilog out.v\npulses in.pls\ntrace out.trc\n"
+
+    def play(self, module, description, status):
+        """What gos-play prints of a module, and the lines that its test bench prints beside the trace, or none."""
+        self.write(**{"main.gos": module, "b.txt": self.BUILD, "d.play": description})
+        said = self.said(TOOLS / "gos-play", "--gos", GOS, "--verilog", "bench.v", "b.txt", "d.play", status=status)
+        if not shutil.which("iverilog"):
+            return said.splitlines(), None
+        self.said("iverilog", "-g2005", "-o", "bench.vvp", "bench.v", "out.v")
+        printed = self.said("vvp", "-n", "bench.vvp").splitlines()
+        trace = [line for line in printed if not line.startswith("wrong: ")]
+        self.assertEqual(trace, (self.room / "out.trc").read_text().splitlines())
+        return said.splitlines(), [line for line in printed if line not in trace]
+
+    def test_a_dialogue(self):
+        module = "import e : exp 1\nimport x : var 1\nexport x := e : com\n"
+        receives = "x receives 8n1 every 20 cycles"
+        self.assertEqual(self.play(module, f"{DIALOGUE}{receives}\n", 0)[0][2:], ['x receives "ABC" 255 "D"'])
+        said, wrong = self.play(module, f"{DIALOGUE}{receives} expects \"ABD\"\n", 3)
+        self.assertEqual(len(said), 5)
+        self.assertIn(wrong, (None, [f"wrong: {line}" for line in said[2:]]))
+
+    def test_half_speed(self):
+        module = "import tick : com\nimport out : var 8\nexport new n : 8 in while 1:1 do (tick ; n := !n + 1:8 ; out := !n ; out := !n + !n) : com\n"
+        around = "cycles 4000\nmain runs once\nout is a variable\ntick answers every 16 cycles\n"
+        said, _ = self.play(module, around, 0)
+        self.assertEqual(said[2:], ["tick: 124 of 249 beats found it not asking, the first in cycle 32"])
+        said, wrong = self.play(module, around + "tick within 16 cycles\n", 3)
+        self.assertEqual(said[3:], ["tick asks nothing within 16 cycles of tick.done in cycle 16, and so 123 times more"])
+        if wrong is not None:
+            self.assertEqual(wrong, [f"wrong: tick asks nothing within 16 cycles of cycle {16 + 32 * at}" for at in range(124)])
+        said, wrong = self.play(module, around + "tick within 32 cycles\nout within 16 cycles\n", 3)
+        self.assertEqual(said[3:], ["out asks nothing within 16 cycles of out.done in cycle 35, and so 123 times more"])
+        self.assertEqual(len(wrong or range(124)), 124)
 
 
 @unittest.skipUnless(GOS, "no program is given")

@@ -5,6 +5,7 @@ usage: tools/tests/test_where.py GOS [WORDS OF unittest]
 """
 import contextlib
 import io
+import re
 
 import built
 import grammar
@@ -219,6 +220,25 @@ class Builds(Where):
         self.assertTrue(self.said("build", "b.txt").startswith("lib.gos:1:8: C1: nothing binds `d` here\n"))
 
 
+class Ports(Where):
+    def test_a_port_of_a_function(self):
+        """The ports that are shown; and the module that serves the import by them is taken by gos."""
+        for written, use, imports, is_served in (
+            ("exp 8 -> exp 16", "out := f 3:8", ["f_place : var 8", "f_cell : exp 16"], True),
+            ("exp 8 -> var 16", "f 3:8 := 7:16", ["f_place : var 8", "f_cell : var 16"], False),
+            ("exp 8 -> com", "f 3:8", ["f_value : var 8"], True), ("com -> com", "f skip", [], False),
+        ):
+            modules = {"main": f"import f : {written}  import out : var 16  export {use} : com\n"}
+            self.room.write_build(modules, (), "main")
+            said = self.said("build", "b.txt")
+            self.assertEqual(re.findall(r"`import (\w+ : \w+ \d+)`", said), imports)
+            served = re.search(r"^`(import .*)` serves `f`, as a module of its own by `bind main f GIVER`$", said, re.M)
+            self.assertEqual(served is not None, is_served, said)
+            if served:
+                self.room.build({**modules, "g": served[1]}, "cycles 9\n", ["main f g"])
+        self.assertIn("`bind main f GIVER` has an instance serve it: com -> com", said)
+
+
 class Pulses(Where):
     NET = "gosnet 1\ncells 4\ninput 1\nreg 1 2\ninput 1\nreg 1 0\nports 2\ngive main com 0 1\ntake c com 3 2\nend\n"
 
@@ -277,7 +297,7 @@ class Files(Where):
         self.assertIn("which file is this of? S1 at 3", self.wrong("S1 at 3")[1])
 
     def test_no_words(self):
-        with self.assertRaisesRegex(SystemExit, "usage:"):
+        with self.assertRaisesRegex(SystemExit, "1"):
             self.where()
 
     def test_other_file(self):
