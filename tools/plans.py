@@ -14,7 +14,7 @@ OPERATORS = "add sub and or xor eq less".split()
 # The cells of each kind but Op, Local, Array and Share, which depend on more.
 GATES = {
     "skip": "or", "lit": "or const gate", "seq": "or or or", "seqexp": "or or or gate", "par": "or or reg reg or or and xor xor xor xor",
-    "if": "reg and not and or", "ifexp": "reg and not and or gate mux", "while": "or reg and not and", "not": "or or not gate",
+    "if": "or and not and or", "ifexp": "or and not and or gate mux", "while": "reg or and not and", "not": "or or not gate",
     "assign": "or or gate or", "deref": "or or gate",
 }
 LOCAL = "reg or gate reg not gate mux reg or"
@@ -114,7 +114,7 @@ def gates_of(words):
     """The words of a part's cells, in order."""
     kind = words[0]
     if kind in OPERATORS:
-        return f"or mux reg reg or {kind} gate".split()
+        return f"or mux reg or and or reg xor xor mux {kind} gate".split()
     if kind == "local":
         return LOCAL.split() + ["gate"] * (words[2] == "exp")
     if kind == "array":

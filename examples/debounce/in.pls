@@ -23,8 +23,8 @@ next 38 tick.done
 next 2 button.ans 1
 next 38 tick.done
 next 2 button.ans 1
-next 20 level.done
-next 18 tick.done
+next 18 level.done
+next 20 tick.done
 next 2 button.ans 1
 next 38 tick.done
 next 2 button.ans 1
@@ -50,8 +50,8 @@ next 38 tick.done
 next 2 button.ans 0
 next 38 tick.done
 next 2 button.ans 0
-next 20 level.done
-next 18 tick.done
+next 18 level.done
+next 20 tick.done
 next 2 button.ans 0
 next 38 tick.done
 next 2 button.ans 0

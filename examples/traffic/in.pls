@@ -8,77 +8,77 @@ next 40 beat.done
 next 40 beat.done
 next 40 beat.done
 next 40 beat.done
-next 12 somebody_waits.ans 0
-next 28 beat.done
-next 13 somebody_waits.ans 0
-next 27 beat.done
-next 13 somebody_waits.ans 0
-next 27 beat.done
-next 13 somebody_waits.ans 0
-next 27 beat.done
-next 13 somebody_waits.ans 0
-next 27 beat.done
-next 13 somebody_waits.ans 0
-next 27 beat.done
-next 13 somebody_waits.ans 0
-next 27 beat.done
-next 13 somebody_waits.ans 1
+next 10 somebody_waits.ans 0
+next 30 beat.done
+next 11 somebody_waits.ans 0
+next 29 beat.done
+next 11 somebody_waits.ans 0
+next 29 beat.done
+next 11 somebody_waits.ans 0
+next 29 beat.done
+next 11 somebody_waits.ans 0
+next 29 beat.done
+next 11 somebody_waits.ans 0
+next 29 beat.done
+next 11 somebody_waits.ans 0
+next 29 beat.done
+next 11 somebody_waits.ans 1
 next 3 cars.done
-next 24 beat.done
+next 26 beat.done
 next 40 beat.done
+next 14 cars.done
+next 26 beat.done
+next 13 walk.done
+next 27 beat.done
+next 40 beat.done
+next 40 beat.done
+next 40 beat.done
+next 40 beat.done
+next 14 walk.done
+next 26 beat.done
+next 40 beat.done
+next 17 cars.done
+next 23 beat.done
 next 16 cars.done
 next 24 beat.done
-next 15 walk.done
-next 25 beat.done
-next 40 beat.done
-next 40 beat.done
-next 40 beat.done
-next 40 beat.done
-next 16 walk.done
-next 24 beat.done
-next 40 beat.done
-next 19 cars.done
-next 21 beat.done
-next 18 cars.done
-next 22 beat.done
 next 40 beat.done
 next 40 beat.done
 next 40 beat.done
 next 40 beat.done
 next 40 beat.done
-next 12 somebody_waits.ans 0
-next 28 beat.done
-next 13 somebody_waits.ans 0
-next 27 beat.done
-next 13 somebody_waits.ans 0
-next 27 beat.done
-next 13 somebody_waits.ans 0
-next 27 beat.done
-next 13 somebody_waits.ans 0
-next 27 beat.done
-next 13 somebody_waits.ans 0
-next 27 beat.done
-next 13 somebody_waits.ans 0
-next 27 beat.done
-next 13 somebody_waits.ans 1
+next 10 somebody_waits.ans 0
+next 30 beat.done
+next 11 somebody_waits.ans 0
+next 29 beat.done
+next 11 somebody_waits.ans 0
+next 29 beat.done
+next 11 somebody_waits.ans 0
+next 29 beat.done
+next 11 somebody_waits.ans 0
+next 29 beat.done
+next 11 somebody_waits.ans 0
+next 29 beat.done
+next 11 somebody_waits.ans 0
+next 29 beat.done
+next 11 somebody_waits.ans 1
 next 3 cars.done
-next 24 beat.done
+next 26 beat.done
 next 40 beat.done
+next 14 cars.done
+next 26 beat.done
+next 13 walk.done
+next 27 beat.done
+next 40 beat.done
+next 40 beat.done
+next 40 beat.done
+next 40 beat.done
+next 14 walk.done
+next 26 beat.done
+next 40 beat.done
+next 17 cars.done
+next 23 beat.done
 next 16 cars.done
 next 24 beat.done
-next 15 walk.done
-next 25 beat.done
-next 40 beat.done
-next 40 beat.done
-next 40 beat.done
-next 40 beat.done
-next 16 walk.done
-next 24 beat.done
-next 40 beat.done
-next 19 cars.done
-next 21 beat.done
-next 18 cars.done
-next 22 beat.done
 next 40 beat.done
 next 40 beat.done
 next 40 beat.done

@@ -1,20 +1,20 @@
 # By gos-play, from vending.play.
-cycles 484
+cycles 456
 next 10 main.run
 next 3 price.ans 60
+next 41 coin.ans 20
 next 43 coin.ans 20
-next 45 coin.ans 20
-next 45 coin.ans 50
-next 31 drop.done
-next 11 give_5.done
-next 19 give_5.done
-next 19 give_5.done
-next 19 give_5.done
-next 19 give_5.done
-next 19 give_5.done
-next 25 main.run
+next 43 coin.ans 50
+next 30 drop.done
+next 10 give_5.done
+next 17 give_5.done
+next 17 give_5.done
+next 17 give_5.done
+next 17 give_5.done
+next 17 give_5.done
+next 23 main.run
 next 3 price.ans 45
+next 41 coin.ans 20
 next 43 coin.ans 20
-next 45 coin.ans 20
-next 45 coin.ans 5
-next 31 drop.done
+next 43 coin.ans 5
+next 30 drop.done

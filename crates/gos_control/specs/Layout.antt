@@ -11,7 +11,7 @@ use Rattle.gos_macro.specs.Paths.{is_pair}
 use Rattle.gos_macro.specs.SmallGates.{skip_cells, skip_outs, skip_stands}
 use Rattle.gos_control.specs.Seq.{seq_layout, seq_outs, seq_stands}
 use Rattle.gos_control.specs.Par.{par_layout, par_outs, par_stands}
-use Rattle.gos_control.specs.Choice.{choice_layout, choice_outs, choice_late, choice_pending, ChoiceStands}
+use Rattle.gos_control.specs.Choice.{choice_layout, choice_outs, choice_stands}
 use Rattle.gos_control.specs.Repeat.{repeat_layout, repeat_outs, repeat_late, repeat_pending, RepeatStands}
 
 -- the cells of a part, from the number of the first one and the nets that come in
@@ -34,13 +34,11 @@ outs_of k = λ b. []
 
 -- the handshakes at which what comes in is late
 abbrev pub late_of : Part → List ℕ
-late_of (If v) = choice_late
 late_of While = repeat_late
 late_of k = []
 
 -- what registers hold to be put out
 abbrev pub pending_of : Part → ℕ → Numbers → List Token
-pending_of (If v) = choice_pending
 pending_of While = repeat_pending
 pending_of k = nothing_pending
 
@@ -49,7 +47,7 @@ abbrev pub stands_of : Part → ℕ → Numbers → State → Type 0
 stands_of Skip = skip_stands
 stands_of (Seq v) = seq_stands
 stands_of Par = par_stands
-stands_of (If v) = ChoiceStands
+stands_of (If v) = choice_stands
 stands_of While = RepeatStands
 stands_of k = λ b regs q. ⊥
 
@@ -58,6 +56,6 @@ abbrev pub passing_of : Part → ℕ → ℕ → Bool
 passing_of Skip = is_pair ((0, 0) ∷ [])
 passing_of (Seq v) = is_pair ((0, 1) ∷ (1, 2) ∷ (2, 0) ∷ [])
 passing_of Par = is_pair ((0, 2) ∷ (1, 2) ∷ (2, 0) ∷ (2, 1) ∷ [])
-passing_of (If v) = is_pair ((0, 1) ∷ (0, 2) ∷ (1, 3) ∷ (2, 3) ∷ [])
-passing_of While = is_pair ((0, 1) ∷ (0, 2) ∷ [])
+passing_of (If v) = is_pair ((0, 1) ∷ (0, 2) ∷ (1, 3) ∷ (2, 3) ∷ (3, 0) ∷ [])
+passing_of While = is_pair ((0, 1) ∷ (0, 2) ∷ (2, 0) ∷ [])
 passing_of k = is_pair []

@@ -8,7 +8,7 @@ ghost use Rattle.gos_macro.specs.Wires.{nets_in, incoming_of, HoldNets};
 ghost use Rattle.gos_control.specs.Choice.{choice_com_layout, choice_exp_layout, choice_com_outs, choice_exp_outs};
 
 use gos_macro::Wire;
-use gos_macro::cells::{bit, own, wide};
+use gos_macro::cells::{bit, buffer, own, wide};
 use gos_netlist::{Cell, Gate};
 
 // The cells of commands, from the number of the first one.
@@ -21,7 +21,7 @@ pub(crate) fn com_cells(base: u32, wires: &[Wire]) -> [Cell; 5]
         unreachable!()
     };
     [
-        bit(Gate::Reg(caller.in_pulse)),
+        buffer(caller.in_pulse),
         bit(Gate::And(test.in_pulse, test.in_value)),
         bit(Gate::Not(test.in_value)),
         bit(Gate::And(test.in_pulse, own(base, 2))),
@@ -39,7 +39,7 @@ pub(crate) fn exp_cells(w: u32, base: u32, wires: &[Wire]) -> [Cell; 7]
         unreachable!()
     };
     [
-        bit(Gate::Reg(caller.in_pulse)),
+        buffer(caller.in_pulse),
         bit(Gate::And(test.in_pulse, test.in_value)),
         bit(Gate::Not(test.in_value)),
         bit(Gate::And(test.in_pulse, own(base, 2))),

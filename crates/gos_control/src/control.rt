@@ -108,8 +108,11 @@ fn leads(kind: &Kind, from: u32, to: u32) -> bool
         Kind::Skip => (from, to) == (0, 0),
         Kind::Seq | Kind::SeqExp { .. } => matches!((from, to), (0, 1) | (1, 2) | (2, 0)),
         Kind::Par => matches!((from, to), (0, 2) | (1, 2) | (2, 0) | (2, 1)),
-        Kind::If | Kind::IfExp { .. } => matches!((from, to), (0, 1) | (0, 2) | (1, 3) | (2, 3)),
-        Kind::While => matches!((from, to), (0, 1) | (0, 2)),
+        Kind::If | Kind::IfExp { .. } => matches!(
+            (from, to),
+            (0, 1) | (0, 2) | (1, 3) | (2, 3) | (3, 0)
+        ),
+        Kind::While => matches!((from, to), (0, 1) | (0, 2) | (2, 0)),
         _ => unreachable!(),
     }
 }

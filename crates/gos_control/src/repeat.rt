@@ -21,8 +21,8 @@ pub(crate) fn cells(base: u32, wires: &[Wire]) -> [Cell; 5]
         unreachable!()
     };
     [
-        bit(Gate::Or(body.in_pulse, caller.in_pulse)),
-        bit(Gate::Reg(own(base, 0))),
+        bit(Gate::Reg(body.in_pulse)),
+        bit(Gate::Or(own(base, 0), caller.in_pulse)),
         bit(Gate::And(test.in_pulse, test.in_value)),
         bit(Gate::Not(test.in_value)),
         bit(Gate::And(test.in_pulse, own(base, 3))),

@@ -9,7 +9,7 @@ use Rattle.gos_plan.specs.Firing.{State, Token}
 use Rattle.gos_macro.specs.Gates.{Incoming, Outgoing, nothing_pending}
 use Rattle.gos_macro.specs.Paths.{is_pair}
 use Rattle.gos_data.specs.Lit.{lit_cells, lit_outs, lit_stands}
-use Rattle.gos_data.specs.Op.{op_cells, op_outs, op_late, op_pending, op_stands}
+use Rattle.gos_data.specs.Op.{op_cells, op_outs, OpStands}
 use Rattle.gos_data.specs.Waiting.{waiting_stands}
 use Rattle.gos_data.specs.Not.{not_cells, not_outs}
 use Rattle.gos_data.specs.Assign.{assign_cells, assign_outs, assign_stands}
@@ -41,14 +41,12 @@ outs_of k = λ b. []
 
 -- the handshakes at which what comes in is late
 abbrev pub late_of : Part → List ℕ
-late_of (Op op w) = op_late
 late_of (Local w v) = local_late
 late_of (Array w n v) = array_late
 late_of k = []
 
 -- what registers hold to be put out
 abbrev pub pending_of : Part → ℕ → Numbers → List Token
-pending_of (Op op w) = op_pending
 pending_of (Local w v) = local_pending
 pending_of (Array w n v) = array_pending
 pending_of k = nothing_pending
@@ -56,7 +54,7 @@ pending_of k = nothing_pending
 -- which states registers stand for
 abbrev pub stands_of : Part → ℕ → Numbers → State → Type 0
 stands_of (Lit w k) = lit_stands
-stands_of (Op op w) = op_stands
+stands_of (Op op w) = OpStands
 stands_of (Not w) = waiting_stands
 stands_of (Assign w) = assign_stands
 stands_of (Deref w) = waiting_stands
@@ -67,7 +65,7 @@ stands_of k = λ b regs q. ⊥
 -- from which handshake to which a path without registers leads
 abbrev pub passing_of : Part → ℕ → ℕ → Bool
 passing_of (Lit w k) = is_pair ((0, 0) ∷ [])
-passing_of (Op op w) = is_pair ((1, 2) ∷ (2, 0) ∷ [])
+passing_of (Op op w) = is_pair ((0, 1) ∷ (0, 2) ∷ (1, 2) ∷ (2, 0) ∷ [])
 passing_of (Not w) = is_pair ((0, 1) ∷ (1, 0) ∷ [])
 passing_of (Assign w) = is_pair ((0, 1) ∷ (1, 2) ∷ (2, 0) ∷ [])
 passing_of (Deref w) = is_pair ((0, 1) ∷ (1, 0) ∷ [])

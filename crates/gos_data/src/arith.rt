@@ -56,7 +56,7 @@ impl Macro for Arith {
         match &self.0 {
             Kind::Lit { .. } | Kind::Deref { .. } => 3,
             Kind::Not { .. } | Kind::Assign { .. } => 4,
-            Kind::Op { .. } => 7,
+            Kind::Op { .. } => 12,
             Kind::Local { v, .. } => local::size(*v),
             Kind::Array { n, v, .. } => array::size(*n, *v),
             _ => unreachable!(),
@@ -111,7 +111,7 @@ fn leads(kind: &Kind, from: u32, to: u32) -> bool
 {
     match kind {
         Kind::Lit { .. } => (from, to) == (0, 0),
-        Kind::Op { .. } => matches!((from, to), (1, 2) | (2, 0)),
+        Kind::Op { .. } => matches!((from, to), (0, 1) | (0, 2) | (1, 2) | (2, 0)),
         Kind::Not { .. } | Kind::Deref { .. } => matches!((from, to), (0, 1) | (1, 0)),
         Kind::Assign { .. } => matches!((from, to), (0, 1) | (1, 2) | (2, 0)),
         Kind::Local { .. } => matches!((from, to), (0, 3) | (1, 1)),

@@ -1,5 +1,5 @@
-// The gates of an operator: it asks for the left number, holds it, asks for the right one, and answers what it
-// computes.
+// The gates of an operator: it asks for the left number and, as soon as that comes, for the right one, and answers what
+// it computes. It holds the left number where the right one comes later.
 //
 // Handshakes: 0 asks for the left number, 1 for the right one, 2 is served.
 
@@ -41,9 +41,9 @@ fn gate(op: Op2, left: NetId, right: NetId) -> Gate
 }
 
 // The cells, from the number of the first one.
-pub(crate) fn cells(op: Op2, w: u32, base: u32, wires: &[Wire]) -> [Cell; 7]
+pub(crate) fn cells(op: Op2, w: u32, base: u32, wires: &[Wire]) -> [Cell; 12]
     requires wires { length wires.now ≡ 3 }
-    requires numbered { base + 7 ≤ 4294967295 }
+    requires numbered { base + 12 ≤ 4294967295 }
     ensures { map cell_of result ≡ op_cells (operation_of op) w base (incoming_of wires.now) }
 {
     let [left, right, caller] = wires else {
@@ -51,15 +51,25 @@ pub(crate) fn cells(op: Op2, w: u32, base: u32, wires: &[Wire]) -> [Cell; 7]
     };
     let chosen = own(base, 1);
     let held = own(base, 2);
-    let computed = own(base, 5);
+    let both = own(base, 4);
+    let awaited = own(base, 6);
+    let begun = own(base, 7);
+    let awaits_next = own(base, 8);
+    let operand = own(base, 9);
+    let computed = own(base, 10);
     let bits = bits_of_result(op, w);
     [
         buffer(caller.in_pulse),
         wide(w, Gate::Mux(left.in_pulse, left.in_value, held)),
         wide(w, Gate::Reg(chosen)),
-        bit(Gate::Reg(left.in_pulse)),
-        buffer(right.in_pulse),
-        wide(bits, gate(op, held, right.in_value)),
+        buffer(left.in_pulse),
+        bit(Gate::And(left.in_pulse, right.in_pulse)),
+        bit(Gate::Or(right.in_pulse, both)),
+        bit(Gate::Reg(awaits_next)),
+        bit(Gate::Xor(awaited, left.in_pulse)),
+        bit(Gate::Xor(begun, right.in_pulse)),
+        wide(w, Gate::Mux(awaited, held, left.in_value)),
+        wide(bits, gate(op, operand, right.in_value)),
         wide(bits, Gate::Gate(right.in_pulse, computed)),
     ]
 }
@@ -67,12 +77,12 @@ pub(crate) fn cells(op: Op2, w: u32, base: u32, wires: &[Wire]) -> [Cell; 7]
 // Fills in the nets that go out.
 pub(crate) fn outs(base: u32, wires: &mut [Wire])
     requires wires { length wires.old ≡ 3 }
-    requires numbered { base + 7 ≤ 4294967295 }
+    requires numbered { base + 12 ≤ 4294967295 }
     ensures outs { HoldNets (op_outs base) wires.new }
     ensures rest { map nets_in wires.new ≡ map nets_in wires.old }
 {
     wires[0].out_pulse = own(base, 0);
     wires[1].out_pulse = own(base, 3);
-    wires[2].out_pulse = own(base, 4);
-    wires[2].out_value = own(base, 6);
+    wires[2].out_pulse = own(base, 5);
+    wires[2].out_value = own(base, 11);
 }

@@ -2,7 +2,7 @@
 --
 -- Read first: Causal of gos_macro; ScheduleLemmas, StandingLemmas. What arrives was in the registers of the joint, or it leaves the other
 -- end in this cycle: then an input put it there, or a part, early in this cycle or late in the one before.
-use Rattle.std.specs.Prelude.{Option, None, ◌&&◌, nat_lt}
+use Rattle.std.specs.Prelude.{Option, None}
 use Rattle.std.proofs.Common.{◌≡◌, ℕ, zero, suc, ◌+◌, ◌^◌, ◌≤◌, ◌<◌, Bool, true, false, List, [], ◌∷◌, ◌++◌, Some, slice_get, length, refl, sym, ◌∙◌, ap, subst, arith, nat_eq, pow_pos, if◌then◌else◌}
 use Rattle.gos_types.specs.declared.shakes.Role.{Role}
 use Rattle.gos_types.specs.declared.shakes.Role.TheVariants.{Serve, Ask}
@@ -19,7 +19,7 @@ use Rattle.gos_plan.specs.Orderly.{Open, OrderlyFrom}
 use Rattle.gos_macro.specs.Gates.{Outgoing, Bare, Bearing, bits_out, incoming_bits, slot_in, pulse_in, value_in, NetsShow}
 use Rattle.gos_plan.specs.Firings.{due, value_due, Fires, times}
 use Rattle.gos_macro.specs.Fit.{GoesOut}
-use Rattle.gos_macro.specs.Law.{Exactly, pulsed, early_slots}
+use Rattle.gos_macro.specs.Law.{pulsed, early_in_order}
 use Rattle.gos_macro.specs.Kept.{KeepLaws}
 use Rattle.gos_plan.specs.Projection.{firings_of, asked_by, TakesValues}
 use Rattle.gos_plan.specs.Accounts.{count, number, ins_at, ins_sum, put_at, sum_put, taken_at, sum_taken, AddsUp, PartsPut}
@@ -37,7 +37,7 @@ use Rattle.gos_expand.specs.Facts.{Places, source, target, width, bits_put, bits
 use Rattle.gos_expand.proofs.TallyLemmas.{due-append, value_due-append, no_value, outgoing_at}
 use Rattle.gos_expand.proofs.StandingLemmas.{pending_if, pending_at, pending_numbers, shown_at, shown_numbers, held_pulse, held_number, number_by_pulse, carried, carried_one, Lies, Now, Ends, ends_of, filled, values, values_if, Taking, taking, is_in_at, small_count, one_token, lies_at, incoming_at_handshake}
 use Rattle.gos_expand.proofs.DueLemmas.{nothing_taken, nothing_put, nothing_pending_there, value_shape, pulse_shape, Due, bare, nothing_at_port, put_at_port}
-use Rattle.gos_expand.proofs.ScheduleLemmas.{Choice, is_early, below_rank, early_below, early_made, firings_pulsed, early_times, exactly_inside, times_pulsed, chosen_once}
+use Rattle.gos_expand.proofs.ScheduleLemmas.{Choice, is_early, below_rank, early_below, top, early_made, firings_pulsed, order_at, early_listed, early_times, cut_order, below_top, times_pulsed, chosen_once}
 use Rattle.gos_expand.proofs.PossibleLemmas.{there_is, listing, firings_listed, slot_taken}
 use Rattle.gos_expand.proofs.EventLemmas.{ins_listed, flag_is, number_is}
 use Rattle.gos_expand.proofs.PulseLemmas.{flag, number_if}
@@ -202,14 +202,21 @@ part_shows : (keep : Keep) (p : Plan) (net : Netlist) (n : Places) (rank : End �
     → PartsPut p (values p n v) puts (listing p n v (early_made p n rank v r)) o s b.open_then b.state_then
     → slice_get p.parts i ≡ Some k → contact_at p (PartEnd i h) ≡ Some c
     → ((from : ℕ) → from < length (part_contacts k) → passing_of k from h ≡ true → below_rank rank r i k from ≡ true)
+    → pending_at p n regs (PartEnd i h) + due h (puts i) ≤ 1
     → Shown p n v regs puts (listing p n v (early_made p n rank v r)) (PartEnd i h) (bits_put (Some c))
-part_shows keep p net n rank v regs after o s r b puts i h k c now fires is there within =
+part_shows keep p net n rank v regs after o s r b puts i h k c now fires is there within one =
     shown_by_part p n v regs puts (listing p n v (early_made p n rank v r)) i h (bits_put (Some c)) k is
     (leaving_shows keep p n v i h k c (pending_of k (n.start i) regs ++ puts i) now.plan_facts (now.part_facts.gates i k is) is there
     (λ y out.
-    (causal.partly (n.start i) regs (s.state i) (now.standing.parts i k is) (incoming_at p n i) v after (below_rank rank r i k) (b.state_then.state i) (puts i)
-    (now.facts.parts i k is) in_range partly h within y out).1))
+    causal.partly (order_at rank i) (n.start i) regs (s.state i) (now.standing.parts i k is) (incoming_at p n i) v after (below_rank rank r i k) (b.state_then.state i) (puts i)
+    (now.facts.parts i k is) in_range partly h within y out alone))
   where
+    alone : due h (pending_of k (n.start i) regs ++ puts i) ≤ 1
+    alone =
+        let held : pending_at p n regs (PartEnd i h) ≡ due h (pending_of k (n.start i) regs) = ap (λ (f : Option Part). due h (pending_if f (n.start i) regs)) is in
+        let split = due-append h (pending_of k (n.start i) regs) (puts i) in
+        omega (arith, one, held, split)
+
     causal : AreCausal k (layout k) (outs_of k) (late_of k) (pending_of k) (stands_of k) (passing_of k)
     causal =
         are_causal k (layout k) (outs_of k) (late_of k) (pending_of k) (stands_of k) (passing_of k) (now.part_facts.gates i k is)
@@ -238,20 +245,22 @@ part_shows keep p net n rank v regs after o s r b puts i h k c now fires is ther
         subst (λ (x : ℕ → ℕ). Fires k x (asked_by i o) (s.state i) slots (asked_by i b.open_then) (b.state_then.state i) (puts i)) taken
         (subst (λ (l : List Slot). Fires k (values p n v i) (asked_by i o) (s.state i) l (asked_by i b.open_then) (b.state_then.state i) (puts i)) listed (fires i k is))
 
-    early : (g : ℕ) → below_rank rank r i k g ≡ true → is_early k g ≡ true
-    early g inside = first_of (is_early k g) (nat_lt (rank (PartEnd i g)) r) inside
-      where
-        first_of : (x y : Bool) → (x && y) ≡ true → x ≡ true
-        first_of true y e = refl
-        first_of false y e = e
+    in_order_too : slots ≡ pulsed (λ g. if below_rank rank r i k g then pulse g else 0) (early_in_order k (late_of k) (order_at rank i) (top p rank + r))
+    in_order_too =
+        ap (pulsed pulse) (early_listed p rank r i k is)
+        ∙ sym (cut_order pulse (order_at rank i) (is_early k) (part_contacts k) r (top p rank) (top p rank + r) refl)
 
-    exactly : Exactly (λ g. if below_rank rank r i k g then pulse g else 0) (early_slots k (late_of k)) slots
-    exactly =
-        exactly_inside pulse (is_early k) (below_rank rank r i k) (part_contacts k) (firings_of i (fires_of (early_below p rank r))) early
-        (pulses_small p n v (below_rank rank r) i k b.comes is) (λ x. early_times p rank r i k x is)
-
-    partly : PartlyFired k (late_of k) v (incoming_at p n i) (below_rank rank r i k) (s.state i) (b.state_then.state i) (puts i)
-    partly = record { before = asked_by i o; behind = asked_by i b.open_then; list = slots; exactly = exactly; fires = so }
+    partly : PartlyFired k (late_of k) (order_at rank i) v (incoming_at p n i) (below_rank rank r i k) (s.state i) (b.state_then.state i) (puts i)
+    partly =
+        record {
+          before = asked_by i o;
+          behind = asked_by i b.open_then;
+          top = top p rank + r;
+          above = λ g lt. let low = below_top p rank i g k is lt in omega (arith, low);
+          fires =
+              subst (λ (l : List Slot). Fires k (value_in k v (incoming_at p n i)) (asked_by i o) (s.state i) l (asked_by i b.open_then) (b.state_then.state i) (puts i))
+              in_order_too so;
+        }
 
 -- what leaves an end, where all that passes on to it has such a rank
 end_shows : (keep : Keep) (p : Plan) (net : Netlist) (n : Places) (rank : End → ℕ) (v regs after : Numbers) (o : Open) (s : Tokens) (r : ℕ) (b : Below p n rank v o s r)
@@ -260,14 +269,15 @@ end_shows : (keep : Keep) (p : Plan) (net : Netlist) (n : Places) (rank : End �
     → PartsPut p (values p n v) puts (listing p n v (early_made p n rank v r)) o s b.open_then b.state_then → contact_at p e ≡ Some c
     → ((i h from : ℕ) (k : Part) → e ≡ PartEnd i h → slice_get p.parts i ≡ Some k → h < length (part_contacts k) → from < length (part_contacts k)
     → passing_of k from h ≡ true → below_rank rank r i k from ≡ true)
+    → pending_at p n regs e + put_at puts e (listing p n v (early_made p n rank v r)) ≤ 1
     → Shown p n v regs puts (listing p n v (early_made p n rank v r)) e (bits_put (Some c))
-end_shows keep p net n rank v regs after o s r b puts (PartEnd i h) c now fires there within =
+end_shows keep p net n rank v regs after o s r b puts (PartEnd i h) c now fires there within one =
     let k = part_there p i h c there in
     part_shows keep p net n rank v regs after o s r b puts i h k.0 c now fires k.1 there
-    (λ from lt passes. within i h from k.0 refl k.1 (slice_get_within (part_contacts k.0) h c (own_contact p i h k.0 c k.1 there)) lt passes)
-end_shows keep p net n rank v regs after o s r b puts (ImportEnd i h) c now fires there within =
+    (λ from lt passes. within i h from k.0 refl k.1 (slice_get_within (part_contacts k.0) h c (own_contact p i h k.0 c k.1 there)) lt passes) one
+end_shows keep p net n rank v regs after o s r b puts (ImportEnd i h) c now fires there within one =
     shown_by_port keep p net n v regs after o s puts (early_made p n rank v r) (ImportEnd i h) c now tt there
-end_shows keep p net n rank v regs after o s r b puts (ResultEnd h) c now fires there within =
+end_shows keep p net n rank v regs after o s r b puts (ResultEnd h) c now fires there within one =
     shown_by_port keep p net n v regs after o s puts (early_made p n rank v r) (ResultEnd h) c now tt there
 
 -- what arrives lies there
@@ -318,6 +328,27 @@ arrived_by p n v t i h k c g fit is there landed =
     by_bits zero e = let is_zero : values p n v i h ≡ 0 = shape ∙ rw e refl in omega (arith, is_zero)
     by_bits (suc w) e = by_pulse w (at v (n.arrives (PartEnd i h)).pulse) e refl
 
+-- at an end of no lower rank nothing is taken
+pub untaken_below : (p : Plan) (n : Places) (rank : End → ℕ) (v : Numbers) (r i h : ℕ) (k : Part) (c : Contact) → slice_get p.parts i ≡ Some k
+    → contact_at p (PartEnd i h) ≡ Some c → below_rank rank r i k h ≡ false
+    → taken_at (way_taken c.role) (PartEnd i h) (listing p n v (early_made p n rank v r)) ≡ 0
+untaken_below p n rank v r i h k c is there later =
+    (λ l. times (slot_taken c.role h l) (listed l))
+    ∙ (times_pulsed (pulse_in v (incoming_at p n i)) (slot_in c.role h) (firings_of i (fires_of (early_below p rank r)))
+    ∙ by_test (nat_eq (pulse_in v (incoming_at p n i) (shake_of (slot_in c.role h))) 1) none)
+  where
+    listed : firings_of i (listing p n v (early_made p n rank v r)) ≡ pulsed (pulse_in v (incoming_at p n i)) (firings_of i (fires_of (early_below p rank r)))
+    listed = firings_listed p n v i (early_made p n rank v r) ∙ firings_pulsed p n v i (early_below p rank r)
+
+    none : times (slot_in c.role h) (firings_of i (fires_of (early_below p rank r))) ≡ 0
+    none =
+        early_times p rank r i k (slot_in c.role h) is
+        ∙ (chosen_once (below_rank rank r i k) h (part_contacts k) c (own_contact p i h k c is there) ∙ rw later refl)
+
+    by_test : {m : ℕ} (x : Bool) → m ≡ 0 → (if x then m else 0) ≡ 0
+    by_test true z = z
+    by_test false z = refl
+
 -- What arrives at an end of a part of no lower rank, where all that passes on to it has one.
 pub arrival : (keep : Keep) (p : Plan) (net : Netlist) (n : Places) (rank : End → ℕ) (v regs after : Numbers) (o : Open) (s : Tokens) (r : ℕ) (b : Below p n rank v o s r)
     (i h : ℕ) (k : Part) (c : Contact)
@@ -345,23 +376,8 @@ arrival keep p net n rank v regs after o s r b i h k c now is there later within
         × ((x : ℕ) (j : Joint) (d : Direction) → slice_get p.joints x ≡ Some j → AddsUp (values p n v) puts xs s t d j.asking (source j d) (target j d))
     law = filled p n v o b.open_then s t xs now.right now.led b.list b.takes
 
-    listed : firings_of i xs ≡ pulsed (pulse_in v (incoming_at p n i)) (firings_of i (fires_of (early_below p rank r)))
-    listed = firings_listed p n v i (early_made p n rank v r) ∙ firings_pulsed p n v i (early_below p rank r)
-
     untaken : taken_at way e xs ≡ 0
-    untaken =
-        (λ l. times (slot_taken c.role h l) (listed l))
-        ∙ (times_pulsed (pulse_in v (incoming_at p n i)) (slot_in c.role h) (firings_of i (fires_of (early_below p rank r)))
-        ∙ by_test (nat_eq (pulse_in v (incoming_at p n i) (shake_of (slot_in c.role h))) 1) none)
-      where
-        none : times (slot_in c.role h) (firings_of i (fires_of (early_below p rank r))) ≡ 0
-        none =
-            early_times p rank r i k (slot_in c.role h) is
-            ∙ (chosen_once (below_rank rank r i k) h (part_contacts k) c (own_contact p i h k c is there) ∙ rw later refl)
-
-        by_test : {m : ℕ} (x : Bool) → m ≡ 0 → (if x then m else 0) ≡ 0
-        by_test true z = z
-        by_test false z = refl
+    untaken = untaken_below p n rank v r i h k c is there later
 
     by_joint : (g : Taking p e c) → Landed p n v t e c g
     by_joint g = by_keep (keep g.index way) refl
@@ -461,6 +477,14 @@ arrival keep p net n rank v regs after o s r b i h k c now is there later within
             ends : Ends p j way
             ends = ends_of p j way (fits p [] p.joints j now.right (is_in_at g.index p.joints j g.there))
 
+            -- nothing is taken at the other end so far, so what is pending and what was put lies there, and that is one token at most
+            alone : pending_at p n regs (source j way) + put_at law.0 (source j way) xs ≤ 1
+            alone =
+                let adds = sums.counts in
+                let held : count (s.in_place way j.asking) ≡ 0 + (pending_at p n regs (source j way) + shown_at n regs (target j way)) =
+                lies.counts ∙ ap (λ (x : Bool). held_pulse x regs (n.arrives (target j way)) + (pending_at p n regs (source j way) + shown_at n regs (target j way))) passes in
+                omega (arith, adds, held, no_taken, no_shown, small)
+
             shows : Shown p n v regs law.0 xs (source j way) (width p j way)
             shows =
                 subst (λ (w : ℕ). Shown p n v regs law.0 xs (source j way) w) ends.from_bits
@@ -481,7 +505,8 @@ arrival keep p net n rank v regs after o s r b i h k c now is there later within
                   out_there = out_there;
                   passes = passed;
                   arrives = sym g.is_target;
-                })))
+                }))
+                alone)
 
         by_keep : (x : Bool) → keep g.index way ≡ x → Landed p n v t e c g
         by_keep true keeps = kept keeps

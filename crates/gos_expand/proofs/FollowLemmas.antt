@@ -36,11 +36,11 @@ pub record Left (keep : Keep) (p : Plan) (n : Places) (v regs after : Numbers) (
       → pending_at p n regs (source j way) ≤ at v (n.leaves (source j way)).pulse
 
 pub left : (keep : Keep) (p : Plan) (net : Netlist) (n : Places) (rank : End → ℕ) (v regs after : Numbers) (o : Open) (s : Tokens) (w : Whole p n rank v o s)
-    → Now keep p net n v regs after o s → Left keep p n v regs after w.state_then
-left keep p net n rank v regs after o s w now =
+    → Rises keep p rank → Now keep p net n v regs after o s → Left keep p n v regs after w.state_then
+left keep p net n rank v regs after o s w rises now =
     let law = filled p n v o w.open_then s w.state_then (whole_list p n rank v) now.right now.led w.list w.takes in
     let pass = λ (x : ℕ) (j : Joint) (way : Direction) (there : slice_get p.joints x ≡ Some j).
-    passed keep p net n rank v regs after o s w law.0 x j way now law.1 (law.2 x j way there) there in
+    passed keep p net n rank v regs after o s w law.0 x j way rises now law.1 (law.2 x j way there) there in
     record {
       standing =
           record {
@@ -123,7 +123,7 @@ follows keep p net n rank regs (v ∷ vs) o s rises right parts plan led standin
         runs = orderly_is_possible p (cycle_list p (outputs net v) (inputs net v) (made_firings p n rank v)) o w.open_then s w.state_then list_here
 
         one : OneCycle keep p net n rank v regs after s m
-        one = record { opened = o; now = now; whole = w; fired = refl; leads = refl; goes = (left keep p net n rank v regs after o s w now).goes }
+        one = record { opened = o; now = now; whole = w; fired = refl; leads = refl; goes = (left keep p net n rank v regs after o s w rises now).goes }
 
         by_rest : (length rest.cycles ≡ length vs) ⊎ BrokenFrom p net vs w.open_then w.state_then rest.cycles
             → (length (m ∷ rest.cycles) ≡ length (v ∷ vs)) ⊎ BrokenFrom p net (v ∷ vs) o s (m ∷ rest.cycles)
@@ -148,7 +148,7 @@ follows keep p net n rank regs (v ∷ vs) o s rises right parts plan led standin
     by_end (inl w) go =
         longer w
         (go w.open_then w.state_then (led_on p (whole_list p n rank v) o w.open_then s w.state_then led w.list)
-        (left keep p net n rank v regs after o s w now).standing)
+        (left keep p net n rank v regs after o s w rises now).standing)
     by_end (inr stopped) go =
         record {
           cycles = [];

@@ -37,6 +37,7 @@ pub mod EventLemmas
 pub mod CauseLemmas
 pub mod RankLemmas
 pub mod MadeLemmas
+pub mod SingleLemmas
 pub mod StepLemmas
 pub mod FollowLemmas
 pub mod PromptLemmas

@@ -1,17 +1,16 @@
 -- What the gates of each part make of a cycle whose list is orderly: the law of their gates, applied to the part's
 -- firings.
-use Rattle.std.proofs.Common.{◌≡◌, ℕ, ◌<◌, ◌≤◌, true, List, ◌++◌, Some, slice_get, length, refl, ◌∙◌, subst}
+use Rattle.std.proofs.Common.{◌≡◌, ℕ, ◌<◌, ◌≤◌, true, List, ◌++◌, Some, slice_get, length, refl, ◌∙◌, ap, subst}
 use Rattle.gos_netlist.specs.Nets.{Netlist}
 use Rattle.gos_netlist.specs.Settling.{Numbers}
 use Rattle.gos_plan.specs.Kinds.{Part, part_contacts}
-use Rattle.gos_plan.specs.Firing.{Slot, Token}
+use Rattle.gos_plan.specs.Firing.{State, Slot, Token}
 use Rattle.gos_plan.specs.Plans.{End, Plan}
 use Rattle.gos_plan.specs.Tokens.{Tokens}
 use Rattle.gos_plan.specs.Orderly.{Open}
-use Rattle.gos_macro.specs.Gates.{value_in, pulse_in, Shows, SameTokens}
-use Rattle.gos_macro.specs.Law.{Fired, pulsed, late_slots}
-use Rattle.gos_plan.specs.Firings.{Fires}
-use Rattle.gos_plan.specs.Made.{fires_of}
+use Rattle.gos_macro.specs.Gates.{value_in, pulse_in, ShowOne, SameTokens}
+use Rattle.gos_macro.specs.Law.{early_in_order, FiredInOrder, pulsed, late_slots}
+use Rattle.gos_plan.specs.Firings.{Asked, Fires}
 use Rattle.gos_plan.specs.Projection.{firings_of, asked_by}
 use Rattle.gos_expand.specs.Gates.{outs_of, late_of, pending_of, stands_of}
 use Rattle.gos_expand.specs.Starts.{Keep}
@@ -19,42 +18,55 @@ use Rattle.gos_expand.specs.Facts.{Places, incoming_at}
 use Rattle.gos_plan.specs.Accounts.{PartsPut}
 use Rattle.gos_expand.proofs.TallyLemmas.{Split, fires_split}
 use Rattle.gos_expand.proofs.StandingLemmas.{Now, values, values_if}
-use Rattle.gos_expand.proofs.ScheduleLemmas.{early_below, top, made_firings, slots_made, exactly_early}
+use Rattle.gos_expand.proofs.ScheduleLemmas.{top, made_firings, slots_made, order_at, early_listed, below_top}
 use Rattle.gos_expand.proofs.PossibleLemmas.{listing, firings_listed}
 use Rattle.gos_expand.proofs.CauseLemmas.{pulses_small, values_small}
 use Rattle.gos_expand.proofs.RankLemmas.{Whole}
 
--- what part i shows, holds back and stands for, where it puts these tokens in the cycle
-pub record PartStep (n : Places) (v regs after : Numbers) (t : Tokens) (i : ℕ) (k : Part) (ts : List Token) : Type 0 where
+-- the slots by which part i fires early in the cycle
+abbrev pub early_of : Plan → Places → (End → ℕ) → Numbers → ℕ → Part → List Slot
+early_of p n rank v i k = pulsed (pulse_in v (incoming_at p n i)) (early_in_order k (late_of k) (order_at rank i) (top p rank))
+
+-- What part i shows, holds back and stands for, where it puts these tokens in the cycle: first those that it puts early.
+pub record PartStep (p : Plan) (n : Places) (rank : End → ℕ) (v regs after : Numbers) (o : Open) (s t : Tokens) (i : ℕ) (k : Part) (ts : List Token) : Type 0 where
   pub first : List Token
   pub second : List Token
   pub puts : ts ≡ first ++ second
-  pub shows : Shows v 0 (outs_of k (n.start i)) (pending_of k (n.start i) regs ++ first)
+  pub between : Asked
+  pub state : State
+  pub sooner : Fires k (value_in k v (incoming_at p n i)) (asked_by i o) (s.state i) (early_of p n rank v i k) between state first
+  pub shows : ShowOne v (outs_of k (n.start i)) (pending_of k (n.start i) regs ++ first)
   pub same : SameTokens (pending_of k (n.start i) after) second
   pub stands : stands_of k (n.start i) after (t.state i)
 
 pub part_step : (keep : Keep) (p : Plan) (net : Netlist) (n : Places) (rank : End → ℕ) (v regs after : Numbers) (o : Open) (s : Tokens) (w : Whole p n rank v o s)
     (puts : ℕ → List Token) (i : ℕ) (k : Part)
     → Now keep p net n v regs after o s → PartsPut p (values p n v) puts (listing p n v (made_firings p n rank v)) o s w.open_then w.state_then → slice_get p.parts i ≡ Some k
-    → PartStep n v regs after w.state_then i k (puts i)
+    → PartStep p n rank v regs after o s w.state_then i k (puts i)
 part_step keep p net n rank v regs after o s w puts i k now fires is =
     record {
       first = split.first;
       second = split.second;
       puts = split.puts;
+      between = split.mid;
+      state = split.state;
+      sooner = split.one;
       shows = law.0;
       same = law.1;
       stands = law.2;
     }
   where
     early : List Slot
-    early = pulsed (pulse_in v (incoming_at p n i)) (firings_of i (fires_of (early_below p rank (top p rank))))
+    early = early_of p n rank v i k
 
     late : List Slot
     late = pulsed (pulse_in v (incoming_at p n i)) (late_slots k (late_of k))
 
     listed : firings_of i (listing p n v (made_firings p n rank v)) ≡ early ++ late
-    listed = firings_listed p n v i (made_firings p n rank v) ∙ slots_made p n rank v i k is
+    listed =
+        firings_listed p n v i (made_firings p n rank v)
+        ∙ (slots_made p n rank v i k is
+        ∙ ap (λ (l : List Slot). pulsed (pulse_in v (incoming_at p n i)) l ++ late) (early_listed p rank (top p rank) i k is))
 
     taken : values p n v i ≡ (λ h. value_in k v (incoming_at p n i) h)
     taken = λ l h. values_if (is l) v (incoming_at p n i) h
@@ -70,21 +82,21 @@ part_step keep p net n rank v regs after o s w puts i k now fires is =
     small : (g : ℕ) → g < length (part_contacts k) → pulse_in v (incoming_at p n i) g ≤ 1
     small g lt = pulses_small p n v (λ i k h. true) i k w.comes is g lt refl
 
-    fired : Fired k (late_of k) v (incoming_at p n i) (s.state i) (w.state_then.state i) split.first split.second
+    fired : FiredInOrder k (late_of k) (order_at rank i) v (incoming_at p n i) (s.state i) (w.state_then.state i) split.first split.second
     fired =
         record {
           before = asked_by i o;
           between = split.mid;
           behind = asked_by i w.open_then;
           state = split.state;
-          list = early;
-          exactly = λ x. exactly_early p rank (pulse_in v (incoming_at p n i)) i k x is small;
+          top = top p rank;
+          above = λ h lt. below_top p rank i h k is lt;
           sooner = split.one;
           later = split.two;
         }
 
-    law : Shows v 0 (outs_of k (n.start i)) (pending_of k (n.start i) regs ++ split.first) × SameTokens (pending_of k (n.start i) after) split.second
+    law : ShowOne v (outs_of k (n.start i)) (pending_of k (n.start i) regs ++ split.first) × SameTokens (pending_of k (n.start i) after) split.second
         × stands_of k (n.start i) after (w.state_then.state i)
     law =
-        (now.part_facts.gates i k is).law (n.start i) (incoming_at p n i) v regs after (s.state i) (w.state_then.state i) split.first split.second
+        (now.part_facts.gates i k is).law (order_at rank i) (n.start i) (incoming_at p n i) v regs after (s.state i) (w.state_then.state i) split.first split.second
         (now.facts.parts i k is) small (λ h. values_small p n v (λ i k h. true) i k w.comes is h refl) (now.standing.parts i k is) fired

@@ -1,18 +1,20 @@
 -- The order of a cycle's firings: the early ones by the ranks of the ends at which their tokens are taken, and then the late
 -- ones. Here it is told how often each slot stands in it, and which ranks there are.
-use Rattle.std.specs.Prelude.{◌&&◌, ◌||◌, nat_lt}
+use Rattle.std.specs.Prelude.{◌&&◌, nat_lt}
 use Rattle.std.proofs.Common.{◌≡◌, ℕ, zero, suc, ◌+◌, ◌≤◌, ◌<◌, Bool, true, false, not, List, [], ◌∷◌, ◌++◌, Some, slice_get, length, refl, sym, ◌∙◌, ap, subst, arith, nat_eq, if◌then◌else◌}
 use Rattle.gos_netlist.specs.Settling.{Numbers}
 use Rattle.gos_plan.specs.Kinds.{Part, Contact, part_contacts}
-use Rattle.gos_plan.specs.Firing.{Slot, same_slot}
+use Rattle.gos_plan.specs.Firing.{Slot}
 use Rattle.gos_plan.specs.Plans.{End, PartEnd, Plan}
 use Rattle.gos_plan.specs.Tokens.{Element, Fire, shake_of}
 use Rattle.gos_macro.specs.Gates.{slot_in, slots_of, is_among, pulse_in}
-use Rattle.gos_macro.specs.Law.{pulse_at, pulsed, late_slots, early_slots}
+use Rattle.gos_macro.specs.Law.{pulse_at, pulsed, late_slots, early_slots, Order, in_order}
+use Rattle.gos_macro.specs.laws.AnyOrder.{ranked_below, in_order_times, exactly_in_order}
+pub use Rattle.gos_macro.specs.laws.Counting.{times_pulsed}
+use Rattle.gos_macro.proofs.causal.FiringLemmas.{pulsed-append, same_in_order, none_pulsed}
 use Rattle.gos_plan.specs.Firings.{times}
 use Rattle.gos_plan.specs.Made.{PartFiring, fires_of}
 use Rattle.gos_plan.specs.Projection.{firings_of}
-use Rattle.gos_plan.specs.laws.Inversion.{same}
 use Rattle.gos_expand.specs.Gates.{late_of}
 use Rattle.gos_expand.specs.Facts.{Places, incoming_at}
 use Rattle.gos_expand.proofs.TallyLemmas.{Each, times-append, firings-append, each_once, pulse_there, shake_in}
@@ -181,114 +183,23 @@ with_pulse-append p n v (x ∷ xs) ys = by_test (nat_eq (pulse_in v (incoming_at
     by_test true h = ap (λ (l : List PartFiring). x ∷ l) h
     by_test false h = h
 
--- how often a slot stands among those with a pulse
-pub times_pulsed : (f : ℕ → ℕ) (s : Slot) (ts : List Slot) → times s (pulsed f ts) ≡ (if nat_eq (f (shake_of s)) 1 then times s ts else 0)
-times_pulsed f s [] = by_test (nat_eq (f (shake_of s)) 1)
-  where
-    none : ℕ
-    none = 0
+-- the order of a part's handshakes: the ranks of its ends
+abbrev pub order_at : (End → ℕ) → ℕ → Order
+order_at rank i h = rank (PartEnd i h)
 
-    by_test : (b : Bool) → none ≡ (if b then none else none)
-    by_test true = refl
-    by_test false = refl
-times_pulsed f s (t ∷ ts) = by_slot (same_slot t s) refl (times_pulsed f s ts)
-  where
-    test : Slot → Bool
-    test x = nat_eq (f (shake_of x)) 1
+-- the early firings of a part, of ranks below r, stand in this order
+pub early_listed : (p : Plan) (rank : End → ℕ) (r i : ℕ) (k : Part) → slice_get p.parts i ≡ Some k
+    → firings_of i (fires_of (early_below p rank r)) ≡ in_order (order_at rank i) r (is_early k) (part_contacts k)
+early_listed p rank zero i k is = refl
+early_listed p rank (suc r) i k is =
+    firings_joined i (early_below p rank r) (chosen_from (at_rank rank r) 0 p.parts)
+    ∙ (λ l. early_listed p rank r i k is l ++ firings_chosen p (at_rank rank r) i k is l)
 
-    own : (b : Bool) → same_slot t s ≡ true → times s (pulsed f ts) ≡ (if b then times s ts else 0)
-        → times s (if b then t ∷ pulsed f ts else pulsed f ts) ≡ (if b then suc (times s ts) else 0)
-    own true e h = rw e (ap suc h)
-    own false e h = h
-
-    other : (b : Bool) → same_slot t s ≡ false → times s (pulsed f ts) ≡ (if test s then times s ts else 0)
-        → times s (if b then t ∷ pulsed f ts else pulsed f ts) ≡ (if test s then times s ts else 0)
-    other true e h = rw e h
-    other false e h = h
-
-    by_slot : (x : Bool) → same_slot t s ≡ x → times s (pulsed f ts) ≡ (if test s then times s ts else 0)
-        → times s (if test t then t ∷ pulsed f ts else pulsed f ts) ≡ (if test s then (if x then suc (times s ts) else times s ts) else 0)
-    by_slot true e h =
-        let is : t ≡ s = same t s e in
-        ap (λ (y : Slot). times s (if test y then t ∷ pulsed f ts else pulsed f ts)) is ∙ own (test s) e h
-    by_slot false e h = other (test t) e h
-
-as_often : (f : ℕ → ℕ) (s : Slot) (xs ys : List Slot) → times s xs ≡ times s ys → times s (pulsed f xs) ≡ times s (pulsed f ys)
-as_often f s xs ys h =
-    times_pulsed f s xs ∙ (ap (λ (m : ℕ). if nat_eq (f (shake_of s)) 1 then m else 0) h ∙ sym (times_pulsed f s ys))
-
--- choices of which one is the two others
-split_times : (a b c : ℕ → Bool) (s : Slot) (h : ℕ) (cs : List Contact) → ((g : ℕ) → c g ≡ (a g || b g)) → ((g : ℕ) → a g ≡ true → b g ≡ false)
-    → times s (slots_of c h cs) ≡ times s (slots_of a h cs) + times s (slots_of b h cs)
-split_times a b c s h [] joins apart = omega arith
-split_times a b c s h (x ∷ cs) joins apart = by_tests (a h) (b h) (c h) (joins h) (apart h) (split_times a b c s (suc h) cs joins apart)
-  where
-    slot : Slot
-    slot = slot_in x.role h
-
-    in_a : List Slot
-    in_a = slots_of a (suc h) cs
-
-    in_b : List Slot
-    in_b = slots_of b (suc h) cs
-
-    in_c : List Slot
-    in_c = slots_of c (suc h) cs
-
-    first : (t : Bool) → times s in_c ≡ times s in_a + times s in_b
-        → (if t then suc (times s in_c) else times s in_c) ≡ (if t then suc (times s in_a) else times s in_a) + times s in_b
-    first true e = omega (arith, e)
-    first false e = e
-
-    second : (t : Bool) → times s in_c ≡ times s in_a + times s in_b
-        → (if t then suc (times s in_c) else times s in_c) ≡ times s in_a + (if t then suc (times s in_b) else times s in_b)
-    second true e = omega (arith, e)
-    second false e = e
-
-    by_tests : (u w z : Bool) → z ≡ (u || w) → (u ≡ true → w ≡ false) → times s in_c ≡ times s in_a + times s in_b
-        → times s (if z then slot ∷ in_c else in_c) ≡ times s (if u then slot ∷ in_a else in_a) + times s (if w then slot ∷ in_b else in_b)
-    by_tests true true z e only h = absurd (cc (only refl))
-    by_tests true false true e only h = first (same_slot slot s) h
-    by_tests true false false e only h = absurd (cc e)
-    by_tests false true true e only h = second (same_slot slot s) h
-    by_tests false true false e only h = absurd (cc e)
-    by_tests false false true e only h = absurd (cc e)
-    by_tests false false false e only h = h
-
-none_chosen : (f : ℕ → Bool) (h : ℕ) (cs : List Contact) → ((g : ℕ) → f g ≡ false) → slots_of f h cs ≡ []
-none_chosen f h [] none = refl
-none_chosen f h (c ∷ cs) none = let no = none h in rw no (none_chosen f (suc h) cs none)
-
--- the early firings of a part, of ranks below r
+-- so each slot stands there as often as by number
 pub early_times : (p : Plan) (rank : End → ℕ) (r i : ℕ) (k : Part) (s : Slot) → slice_get p.parts i ≡ Some k
     → times s (firings_of i (fires_of (early_below p rank r))) ≡ times s (slots_of (below_rank rank r i k) 0 (part_contacts k))
-early_times p rank zero i k s is = sym (ap (times s) (none_chosen (below_rank rank 0 i k) 0 (part_contacts k) (λ g. never (is_early k g) (rank (PartEnd i g)))))
-  where
-    never : (b : Bool) (m : ℕ) → (b && nat_lt m 0) ≡ false
-    never true m = grind arith
-    never false m = refl
-early_times p rank (suc r) i k s is =
-    ap (times s) (firings_joined i (early_below p rank r) (chosen_from (at_rank rank r) 0 p.parts))
-    ∙ (times-append s (firings_of i (fires_of (early_below p rank r))) (firings_of i (fires_of (chosen_from (at_rank rank r) 0 p.parts)))
-    ∙ ((λ l. early_times p rank r i k s is l + times s (firings_chosen p (at_rank rank r) i k is l))
-    ∙ sym (split_times (below_rank rank r i k) (at_rank rank r i k) (below_rank rank (suc r) i k) s 0 (part_contacts k)
-    (λ g. joins (is_early k g) (rank (PartEnd i g))) (λ g. apart (is_early k g) (rank (PartEnd i g))))))
-  where
-    joins : (b : Bool) (m : ℕ) → (b && nat_lt m (suc r)) ≡ ((b && nat_lt m r) || (b && nat_eq m r))
-    joins true m = grind arith
-    joins false m = refl
-
-    apart : (b : Bool) (m : ℕ) → (b && nat_lt m r) ≡ true → (b && nat_eq m r) ≡ false
-    apart true m h = grind (arith, h)
-    apart false m h = refl
-
--- what is chosen within a list of handshakes
-slots_same : (f g : ℕ → Bool) (h : ℕ) (cs : List Contact) → ((m : ℕ) → m < h + length cs → f m ≡ g m) → slots_of f h cs ≡ slots_of g h cs
-slots_same f g h [] all = refl
-slots_same f g h (c ∷ cs) all =
-    let here : f h ≡ g h = all h (omega arith) in
-    let rest : slots_of f (suc h) cs ≡ slots_of g (suc h) cs = slots_same f g (suc h) cs (λ m lt. all m (omega (arith, lt))) in
-    λ l. if here l then slot_in c.role h ∷ rest l else rest l
+early_times p rank r i k s is =
+    ap (times s) (early_listed p rank r i k is) ∙ in_order_times (order_at rank i) r (is_early k) (part_contacts k) s
 
 -- all ranks are below the top
 top_within : (f : ℕ → ℕ) (h g m : ℕ) (cs : List Contact) → m ≡ h + g → g < length cs → f m < top_of f h cs
@@ -316,60 +227,34 @@ pub below_top : (p : Plan) (rank : End → ℕ) (i h : ℕ) (k : Part) → slice
     → rank (PartEnd i h) < top p rank
 below_top p rank i h k is lt = top_among rank 0 i i h p.parts k (omega arith) is lt
 
-early_in_all : (p : Plan) (rank : End → ℕ) (i : ℕ) (k : Part) → slice_get p.parts i ≡ Some k
-    → slots_of (below_rank rank (top p rank) i k) 0 (part_contacts k) ≡ early_slots k (late_of k)
-early_in_all p rank i k is =
-    slots_same (below_rank rank (top p rank) i k) (is_early k) 0 (part_contacts k)
-    (λ m lt. by_test (is_early k m) (rank (PartEnd i m)) (below_top p rank i m k is (omega (arith, lt))))
-  where
-    by_test : (b : Bool) (r : ℕ) → r < top p rank → (b && nat_lt r (top p rank)) ≡ b
-    by_test true r lt = grind (arith, lt)
-    by_test false r lt = refl
-
--- Of the early slots a list has exactly those inside that have a pulse.
-only_inside : (f : ℕ → ℕ) (early inside : ℕ → Bool) (h : ℕ) (cs : List Contact) → ((g : ℕ) → inside g ≡ true → early g ≡ true)
-    → pulsed (λ g. if inside g then f g else 0) (slots_of early h cs) ≡ pulsed f (slots_of inside h cs)
-only_inside f early inside h [] sub = refl
-only_inside f early inside h (c ∷ cs) sub = by_tests (early h) (inside h) refl (sub h) (only_inside f early inside (suc h) cs sub)
+-- With the pulses of ranks below r alone, a list of more ranks is that of these.
+pub cut_order : (f : ℕ → ℕ) (rank : Order) (these : ℕ → Bool) (cs : List Contact) (r m t : ℕ) → t ≡ m + r
+    → pulsed (λ h. if ranked_below rank r these h then f h else 0) (in_order rank t these cs) ≡ pulsed f (in_order rank r these cs)
+cut_order f rank these cs r zero t is =
+    let here : t ≡ r = omega (arith, is) in
+    ap (λ (n : ℕ). pulsed g (in_order rank n these cs)) here ∙ same_in_order g f rank these cs r (λ h small in_these low. inside (these h) (rank h) (f h) in_these low)
   where
     g : ℕ → ℕ
-    g m = if inside m then f m else 0
+    g h = if ranked_below rank r these h then f h else 0
 
-    slot : Slot
-    slot = slot_in c.role h
-
-    in_early : List Slot
-    in_early = slots_of early (suc h) cs
-
-    in_inside : List Slot
-    in_inside = slots_of inside (suc h) cs
-
-    both : (b : Bool) → pulsed g in_early ≡ pulsed f in_inside → (if b then slot ∷ pulsed g in_early else pulsed g in_early) ≡ (if b then slot ∷ pulsed f in_inside else pulsed f in_inside)
-    both true e = ap (λ (l : List Slot). slot ∷ l) e
-    both false e = e
-
-    by_tests : (x y : Bool) → inside h ≡ y → (y ≡ true → x ≡ true) → pulsed g in_early ≡ pulsed f in_inside
-        → pulsed g (if x then slot ∷ in_early else in_early) ≡ pulsed f (if y then slot ∷ in_inside else in_inside)
-    by_tests true true is so e =
-        let at_h : g (shake_of slot) ≡ f (shake_of slot) = ap (λ (m : ℕ). if inside m then f m else 0) (shake_in c.role h) ∙ (rw is refl ∙ ap f (sym (shake_in c.role h))) in
-        ap (λ (m : ℕ). if nat_eq m 1 then slot ∷ pulsed g in_early else pulsed g in_early) at_h ∙ both (nat_eq (f (shake_of slot)) 1) e
-    by_tests true false is so e =
-        let at_h : g (shake_of slot) ≡ 0 = ap (λ (m : ℕ). if inside m then f m else 0) (shake_in c.role h) ∙ rw is refl in
-        ap (λ (m : ℕ). if nat_eq m 1 then slot ∷ pulsed g in_early else pulsed g in_early) at_h ∙ e
-    by_tests false true is so e = absurd (cc (so refl))
-    by_tests false false is so e = e
-
-pub exactly_inside : (f : ℕ → ℕ) (early inside : ℕ → Bool) (cs : List Contact) (ts : List Slot) → ((g : ℕ) → inside g ≡ true → early g ≡ true)
-    → ((g : ℕ) → g < length cs → inside g ≡ true → f g ≤ 1) → ((s : Slot) → times s ts ≡ times s (slots_of inside 0 cs))
-    → (s : Slot) → times s (pulsed f ts) ≡ pulse_at (λ g. if inside g then f g else 0) s (slots_of early 0 cs)
-exactly_inside f early inside cs ts sub small count s =
-    as_often f s ts (slots_of inside 0 cs) (count s)
-    ∙ (ap (times s) (sym (only_inside f early inside 0 cs sub))
-    ∙ each_once (λ g. if inside g then f g else 0) early 0 cs s (λ g lt. by_test (inside g) (small g (omega (arith, lt)))))
+    inside : (x : Bool) (n a : ℕ) → x ≡ true → n < r → (if x && nat_lt n r then a else 0) ≡ a
+    inside true n a e low = let below : nat_lt n r ≡ true = grind (arith, low) in rw below refl
+    inside false n a e low = absurd (cc e)
+cut_order f rank these cs r (suc m) zero is = absurd (omega (arith, is))
+cut_order f rank these cs r (suc m) (suc t) is =
+    pulsed-append g (in_order rank t these cs) (slots_of chosen 0 cs)
+    ∙ ((λ j. cut_order f rank these cs r m t (omega (arith, is)) j ++ none_pulsed g chosen (length cs) (λ h small at_t. behind (these h) (rank h) (f h) at_t) 0 cs (omega arith) j)
+    ∙ nil_right (pulsed f (in_order rank r these cs)))
   where
-    by_test : {m : ℕ} (b : Bool) → (b ≡ true → m ≤ 1) → (if b then m else 0) ≤ 1
-    by_test true h = h refl
-    by_test false h = omega arith
+    g : ℕ → ℕ
+    g h = if ranked_below rank r these h then f h else 0
+
+    chosen : ℕ → Bool
+    chosen h = these h && nat_eq (rank h) t
+
+    behind : (x : Bool) (n a : ℕ) → (x && nat_eq n t) ≡ true → (if x && nat_lt n r then a else 0) ≡ 0
+    behind true n a e = let not_below : nat_lt n r ≡ false = grind (arith, e, is) in rw not_below refl
+    behind false n a e = refl
 
 -- the slots of a part in all firings
 pub slots_made : (p : Plan) (n : Places) (rank : End → ℕ) (v : Numbers) (i : ℕ) (k : Part) → slice_get p.parts i ≡ Some k
@@ -388,9 +273,8 @@ pub exactly_early : (p : Plan) (rank : End → ℕ) (f : ℕ → ℕ) (i : ℕ) 
     → ((g : ℕ) → g < length (part_contacts k) → f g ≤ 1)
     → times s (pulsed f (firings_of i (fires_of (early_below p rank (top p rank))))) ≡ pulse_at f s (early_slots k (late_of k))
 exactly_early p rank f i k s is small =
-    as_often f s (firings_of i (fires_of (early_below p rank (top p rank)))) (early_slots k (late_of k))
-    (early_times p rank (top p rank) i k s is ∙ ap (times s) (early_in_all p rank i k is))
-    ∙ each_once f (is_early k) 0 (part_contacts k) s (λ g lt. small g (omega (arith, lt)))
+    ap (λ (l : List Slot). times s (pulsed f l)) (early_listed p rank (top p rank) i k is)
+    ∙ exactly_in_order f (order_at rank i) (top p rank) (is_early k) (part_contacts k) (λ h lt. below_top p rank i h k is lt) (λ h lt in_these. small h lt) s
 
 -- one slot stands once where its handshake is chosen
 all_pulsed : (ts : List Slot) → pulsed (λ h. 1) ts ≡ ts

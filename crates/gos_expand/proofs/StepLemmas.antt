@@ -2,12 +2,13 @@
 --
 -- What is put at an end is pending, or leaves it in this cycle; what leaves it is next in the joint's register, or arrives at
 -- the other end at once; what is taken there arrived, and a port's output holds it next.
-use Rattle.std.specs.Prelude.{Option}
+use Rattle.std.specs.Prelude.{Option, length}
+use Rattle.std.proofs.lemmas.Option.{slice_get_within}
 use Rattle.std.proofs.Common.{◌≡◌, ℕ, zero, suc, ◌+◌, ◌*◌, ◌^◌, ◌≤◌, ◌<◌, Bool, true, false, List, [], ◌++◌, Some, slice_get, refl, sym, ◌∙◌, ap, subst, arith, nat_eq, true≢false}
 use Rattle.gos_netlist.specs.Nets.{Netlist}
 use Rattle.gos_types.specs.Events.{Direction}
 use Rattle.gos_netlist.specs.Settling.{Numbers, at}
-use Rattle.gos_plan.specs.Kinds.{Part, Contact}
+use Rattle.gos_plan.specs.Kinds.{Part, Contact, part_contacts}
 use Rattle.gos_plan.specs.Firing.{Token}
 use Rattle.gos_plan.specs.Plans.{End, PartEnd, ImportEnd, ResultEnd, Joint, Plan, contact_at}
 use Rattle.gos_plan.specs.Tokens.{Tokens, Element, IsPortEnd, way_taken}
@@ -18,8 +19,8 @@ use Rattle.gos_plan.proofs.JointLemmas.{fits}
 use Rattle.gos_expand.specs.Gates.{outs_of, pending_of}
 use Rattle.gos_expand.specs.Blocks.{Nets}
 use Rattle.gos_expand.specs.Starts.{Keep, bits_taken}
-use Rattle.gos_expand.specs.Facts.{Places, Delays, source, target, width, bits_put, bits_out_at}
-use Rattle.gos_expand.proofs.TallyLemmas.{due-append, value_due-append, shows_at}
+use Rattle.gos_expand.specs.Facts.{Places, Delays, source, target, width, bits_put, bits_out_at, Rises}
+use Rattle.gos_expand.proofs.TallyLemmas.{due-append, value_due-append}
 use Rattle.gos_expand.proofs.StandingLemmas.{pending_if, pending_at, pending_numbers, shown_at, shown_numbers, held_pulse, held_number, number_by_pulse, carried, carried_same, Lies, Now, values, is_in_at, small_count}
 pub use Rattle.gos_expand.proofs.StandingLemmas.{Ends, ends_of}
 use Rattle.gos_expand.proofs.DueLemmas.{value_shape, pulse_shape, nothing_at_port, sum_taken_port, shown_port}
@@ -29,6 +30,7 @@ use Rattle.gos_expand.proofs.EventLemmas.{outs_listed, flag_is, number_is}
 use Rattle.gos_expand.proofs.PulseLemmas.{flag, number_if}
 use Rattle.gos_expand.proofs.CauseLemmas.{own_contact, part_there, pulses_small, due_carried, due_narrow, leaving_shows, Shown, shown_by_port}
 use Rattle.gos_expand.proofs.MadeLemmas.{PartStep, part_step}
+use Rattle.gos_expand.proofs.SingleLemmas.{single_ring}
 use Rattle.gos_expand.proofs.RankLemmas.{Whole}
 
 -- the list of the cycle with all its firings
@@ -52,8 +54,9 @@ pub record Got (p : Plan) (n : Places) (rank : End → ℕ) (v regs after : Numb
 sent_by_part : (keep : Keep) (p : Plan) (net : Netlist) (n : Places) (rank : End → ℕ) (v regs after : Numbers) (o : Open) (s : Tokens) (w : Whole p n rank v o s)
     (puts : ℕ → List Token) (i h : ℕ) (k : Part) (c : Contact)
     → Now keep p net n v regs after o s → PartsPut p (values p n v) puts (whole_list p n rank v) o s w.open_then w.state_then → slice_get p.parts i ≡ Some k
-    → contact_at p (PartEnd i h) ≡ Some c → Sent p n rank v regs after puts (PartEnd i h) (bits_put (Some c))
-sent_by_part keep p net n rank v regs after o s w puts i h k c now fires is there =
+    → contact_at p (PartEnd i h) ≡ Some c → ((step : PartStep p n rank v regs after o s w.state_then i k (puts i)) → pending_at p n regs (PartEnd i h) + due h step.first ≤ 1)
+    → Sent p n rank v regs after puts (PartEnd i h) (bits_put (Some c))
+sent_by_part keep p net n rank v regs after o s w puts i h k c now fires is there one =
     let pulse : at v (n.leaves (PartEnd i h)).pulse ≡ due h all = nets.0 in
     let split : due h all ≡ due h pending + due h step.first = due-append h pending step.first in
     let sums : value_due h all ≡ value_due h pending + value_due h step.first = value_due-append h pending step.first in
@@ -78,7 +81,7 @@ sent_by_part keep p net n rank v regs after o s w puts i h k c now fires is ther
     b : ℕ
     b = n.start i
 
-    step : PartStep n v regs after w.state_then i k (puts i)
+    step : PartStep p n rank v regs after o s w.state_then i k (puts i)
     step = part_step keep p net n rank v regs after o s w puts i k now fires is
 
     pending : List Token
@@ -87,13 +90,20 @@ sent_by_part keep p net n rank v regs after o s w puts i h k c now fires is ther
     all : List Token
     all = pending ++ step.first
 
+    held_then : pending_at p n regs (PartEnd i h) ≡ due h pending
+    held_then = ap (λ (f : Option Part). due h (pending_if f b regs)) is
+
+    alone : due h all ≤ 1
+    alone =
+        let split : due h all ≡ due h pending + due h step.first = due-append h pending step.first in
+        let was = held_then in
+        let single = one step in
+        omega (arith, split, was, single)
+
     nets : (at v (n.leaves (PartEnd i h)).pulse ≡ due h all) × (0 < bits_put (Some c) → at v (n.leaves (PartEnd i h)).number ≡ value_due h all)
     nets =
         leaving_shows keep p n v i h k c all now.plan_facts (now.part_facts.gates i k is) is there
-        (λ y out. (shows_at v 0 h h (outs_of k b) all y (omega arith) step.shows out).1)
-
-    held_then : pending_at p n regs (PartEnd i h) ≡ due h pending
-    held_then = ap (λ (f : Option Part). due h (pending_if f b regs)) is
+        (λ y out. step.shows h y out alone)
 
     held_next : pending_at p n after (PartEnd i h) ≡ due h (pending_of k b after)
     held_next = ap (λ (f : Option Part). due h (pending_if f b after)) is
@@ -116,25 +126,33 @@ sent_by_port keep p net n rank v regs after o s puts e c now port there =
       goes = let d = (nothing_at_port p n regs e port).0 in omega (arith, d);
     }
 
-pub sent : (keep : Keep) (p : Plan) (net : Netlist) (n : Places) (rank : End → ℕ) (v regs after : Numbers) (o : Open) (s : Tokens) (w : Whole p n rank v o s)
+-- what is pending at an end and what its part puts there early is together one token at most
+abbrev pub OneDue : (p : Plan) (n : Places) (rank : End → ℕ) (v regs after : Numbers) (o : Open) (s t : Tokens) (puts : ℕ → List Token) (e : End) → Type 0
+OneDue p n rank v regs after o s t puts e =
+    (i h : ℕ) (k : Part) → e ≡ PartEnd i h → slice_get p.parts i ≡ Some k → h < length (part_contacts k)
+    → (step : PartStep p n rank v regs after o s t i k (puts i)) → pending_at p n regs (PartEnd i h) + due h step.first ≤ 1
+
+sent : (keep : Keep) (p : Plan) (net : Netlist) (n : Places) (rank : End → ℕ) (v regs after : Numbers) (o : Open) (s : Tokens) (w : Whole p n rank v o s)
     (puts : ℕ → List Token) (e : End) (c : Contact)
     → Now keep p net n v regs after o s → PartsPut p (values p n v) puts (whole_list p n rank v) o s w.open_then w.state_then → contact_at p e ≡ Some c
-    → Sent p n rank v regs after puts e (bits_put (Some c))
-sent keep p net n rank v regs after o s w puts (PartEnd i h) c now fires there =
-    let k = part_there p i h c there in sent_by_part keep p net n rank v regs after o s w puts i h k.0 c now fires k.1 there
-sent keep p net n rank v regs after o s w puts (ImportEnd i h) c now fires there =
+    → OneDue p n rank v regs after o s w.state_then puts e → Sent p n rank v regs after puts e (bits_put (Some c))
+sent keep p net n rank v regs after o s w puts (PartEnd i h) c now fires there one =
+    let k = part_there p i h c there in
+    sent_by_part keep p net n rank v regs after o s w puts i h k.0 c now fires k.1 there
+    (one i h k.0 refl k.1 (slice_get_within (part_contacts k.0) h c (own_contact p i h k.0 c k.1 there)))
+sent keep p net n rank v regs after o s w puts (ImportEnd i h) c now fires there one =
     sent_by_port keep p net n rank v regs after o s puts (ImportEnd i h) c now tt there
-sent keep p net n rank v regs after o s w puts (ResultEnd h) c now fires there =
+sent keep p net n rank v regs after o s w puts (ResultEnd h) c now fires there one =
     sent_by_port keep p net n rank v regs after o s puts (ResultEnd h) c now tt there
 
 -- what leaves the end at which the tokens of a direction are put
 sent_from : (keep : Keep) (p : Plan) (net : Netlist) (n : Places) (rank : End → ℕ) (v regs after : Numbers) (o : Open) (s : Tokens) (w : Whole p n rank v o s)
     (puts : ℕ → List Token) (x : ℕ) (j : Joint) (way : Direction)
     → Now keep p net n v regs after o s → PartsPut p (values p n v) puts (whole_list p n rank v) o s w.open_then w.state_then → slice_get p.joints x ≡ Some j
-    → Sent p n rank v regs after puts (source j way) (width p j way)
-sent_from keep p net n rank v regs after o s w puts x j way now fires there =
+    → OneDue p n rank v regs after o s w.state_then puts (source j way) → Sent p n rank v regs after puts (source j way) (width p j way)
+sent_from keep p net n rank v regs after o s w puts x j way now fires there one =
     subst (λ (b : ℕ). Sent p n rank v regs after puts (source j way) b) ends.from_bits
-    (sent keep p net n rank v regs after o s w puts (source j way) ends.from now fires ends.from_there)
+    (sent keep p net n rank v regs after o s w puts (source j way) ends.from now fires ends.from_there one)
   where
     ends : Ends p j way
     ends = ends_of p j way (fits p [] p.joints j now.right (is_in_at x p.joints j there))
@@ -243,10 +261,10 @@ record Holds (keep : Keep) (p : Plan) (n : Places) (v regs after : Numbers) (x :
 
 pub passed : (keep : Keep) (p : Plan) (net : Netlist) (n : Places) (rank : End → ℕ) (v regs after : Numbers) (o : Open) (s : Tokens) (w : Whole p n rank v o s)
     (puts : ℕ → List Token) (x : ℕ) (j : Joint) (way : Direction)
-    → Now keep p net n v regs after o s → PartsPut p (values p n v) puts (whole_list p n rank v) o s w.open_then w.state_then
+    → Rises keep p rank → Now keep p net n v regs after o s → PartsPut p (values p n v) puts (whole_list p n rank v) o s w.open_then w.state_then
     → AddsUp (values p n v) puts (whole_list p n rank v) s w.state_then way j.asking (source j way) (target j way)
     → slice_get p.joints x ≡ Some j → Passed keep p n v regs after w.state_then x j way
-passed keep p net n rank v regs after o s w puts x j way now fires sums there =
+passed keep p net n rank v regs after o s w puts x j way rises now fires sums there =
     record {
       lies =
           record {
@@ -280,14 +298,57 @@ passed keep p net n rank v regs after o s w puts x j way now fires sums there =
     small_shown : shown_at n regs (target j way) ≤ 1
     small_shown = let small = small_count (s.in_place way j.asking) in omega (arith, counts, small)
 
-    out : Sent p n rank v regs after puts (source j way) (width p j way)
-    out = sent_from keep p net n rank v regs after o s w puts x j way now fires there
-
     in_there : Got p n rank v regs after way (target j way) (width p j way)
     in_there =
         subst (λ (d : Direction). Got p n rank v regs after d (target j way) (width p j way)) ends.to_way
         (subst (λ (b : ℕ). Got p n rank v regs after (way_taken ends.to.role) (target j way) b) ends.to_bits
         (got keep p net n rank v regs after o s w puts (target j way) ends.to now fires ends.to_there small_shown))
+
+    -- At most one token is due at the source. By the registers of a direction, and at a port, what is taken was held before. Else a
+    -- second token would need a ring.
+    one_due : OneDue p n rank v regs after o s w.state_then puts (source j way)
+    one_due i h k from is out_there step = by_keep (keep x way) refl
+      where
+        put : put_at puts (source j way) (whole_list p n rank v) ≡ due h step.first + due h step.second
+        put = ap (λ (e : End). put_at puts e (whole_list p n rank v)) from ∙ (ap (due h) step.puts ∙ due-append h step.first step.second)
+
+        pending : pending_at p n regs (source j way) ≡ pending_at p n regs (PartEnd i h)
+        pending = ap (pending_at p n regs) from
+
+        left : count (w.state_then.in_place way j.asking) ≤ 1
+        left = small_count (w.state_then.in_place way j.asking)
+
+        at_port : (e : End) → target j way ≡ e → IsPortEnd e → contact_at p e ≡ Some ends.to → keep x way ≡ false → pending_at p n regs (PartEnd i h) + due h step.first ≤ 1
+        at_port e to port contact straight =
+            let delays = now.facts.ports e ends.to port contact in
+            let next = delays.next in
+            let shown : shown_at n after (target j way) ≡ at after (n.shows e).pulse = ap (shown_at n after) to ∙ (shown_port n after e port).0 in
+            let arrives : at v (n.arrives (target j way)).pulse ≡ at v (n.arrives e).pulse = ap (λ (f : End). at v (n.arrives f).pulse) to in
+            let none : held_pulse (keep x way) regs (n.arrives (target j way)) ≡ 0 = ap (λ (b : Bool). held_pulse b regs (n.arrives (target j way))) straight in
+            let a = sums.counts in
+            let c = in_there.pulse in
+            omega (arith, put, pending, left, next, shown, arrives, none, a, c, counts)
+
+        by_target : (e : End) → target j way ≡ e → keep x way ≡ false → pending_at p n regs (PartEnd i h) + due h step.first ≤ 1
+        by_target (PartEnd d g) to straight =
+            let contact : contact_at p (PartEnd d g) ≡ Some ends.to = ap (contact_at p) (sym to) ∙ ends.to_there in
+            let l = part_there p d g ends.to contact in
+            single_ring keep p net n rank v regs after o s w (puts i) i h k x j way d g l.0 ends.to rises now there straight from is out_there to l.1
+            (slice_get_within (part_contacts l.0) g ends.to (own_contact p d g l.0 ends.to l.1 contact)) contact ends.to_way step
+        by_target (ImportEnd d g) to straight = at_port (ImportEnd d g) to tt (ap (contact_at p) (sym to) ∙ ends.to_there) straight
+        by_target (ResultEnd g) to straight = at_port (ResultEnd g) to tt (ap (contact_at p) (sym to) ∙ ends.to_there) straight
+
+        by_keep : (b : Bool) → keep x way ≡ b → pending_at p n regs (PartEnd i h) + due h step.first ≤ 1
+        by_keep true keeps =
+            let pulse = (now.facts.joints x j way there keeps).pulse in
+            let now_held = ap (λ (b : Bool). held_pulse b regs (n.arrives (target j way))) keeps in
+            let a = sums.counts in
+            let c = in_there.pulse in
+            omega (arith, put, pending, left, pulse, now_held, a, c, counts)
+        by_keep false straight = by_target (target j way) refl straight
+
+    out : Sent p n rank v regs after puts (source j way) (width p j way)
+    out = sent_from keep p net n rank v regs after o s w puts x j way now fires there one_due
 
     held : Holds keep p n v regs after x j way
     held = by_keep (keep x way) refl

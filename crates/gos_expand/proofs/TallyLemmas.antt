@@ -1,16 +1,16 @@
--- Counting: slots, tokens and firings in lists, and what a part's outgoing nets show of them.
+-- Counting: slots, tokens and firings in lists.
 use Rattle.std.proofs.Common.{◌≡◌, ℕ, zero, suc, ◌+◌, ◌≤◌, ◌<◌, Bool, true, false, List, [], ◌∷◌, ◌++◌, Some, slice_get, length, Contains, refl, sym, ◌∙◌, ap, subst, arith, nat_eq, append_assoc, if◌then◌else◌}
 use Rattle.gos_types.specs.declared.shakes.Role.{Role}
 use Rattle.gos_types.specs.declared.shakes.Role.TheVariants.{Serve, Ask}
 use Rattle.gos_netlist.specs.Nets.{Cell}
-use Rattle.gos_netlist.specs.Settling.{Numbers}
 use Rattle.gos_plan.specs.Kinds.{Part, Contact}
 use Rattle.gos_plan.specs.Firing.{State, Slot, Req, Ans, Token, same_slot}
 use Rattle.gos_plan.specs.Tokens.{Element, Fire, Out, In, shake_of}
-use Rattle.gos_macro.specs.Gates.{Outgoing, slot_in, slots_of, NetsShow, Shows}
+use Rattle.gos_macro.specs.Gates.{Outgoing, slot_in, slots_of}
 use Rattle.gos_plan.specs.Firings.{due, value_due, Asked, Fires, times}
 use Rattle.gos_macro.specs.Fit.{GoesOut, AllGoOut}
-use Rattle.gos_macro.specs.Law.{pulse_at, pulsed}
+use Rattle.gos_macro.specs.Law.{pulse_at}
+pub use Rattle.gos_macro.specs.laws.Counting.{times-append, apart, shake_in, each_once}
 use Rattle.gos_plan.specs.Made.{PartFiring, fires_of}
 use Rattle.gos_plan.specs.Projection.{firings_of}
 use Rattle.gos_plan.specs.laws.Inversion.{same}
@@ -70,17 +70,6 @@ no_value j (t ∷ ts) h = by_test (nat_eq (shake_of t.slot) j) h (no_value j ts)
     by_test true h go = absurd (omega (arith, h))
     by_test false h go = go h
 
--- what the nets of one handshake show
-pub shows_at : (v : Numbers) (j h g : ℕ) (os : List Outgoing) (ts : List Token) (o : Outgoing) → g ≡ j + h → Shows v j os ts → slice_get os h ≡ Some o
-    → (due g ts ≤ 1) × NetsShow v o (due g ts) (value_due g ts)
-shows_at v j h g [] ts o e shows there = absurd (grind (arith, there))
-shows_at v j zero g (x ∷ os) ts o e shows there =
-    let is : x ≡ o = cc there in
-    let at_j : j ≡ g = omega (arith, e) in
-    subst (λ (n : ℕ). (due n ts ≤ 1) × NetsShow v o (due n ts) (value_due n ts)) at_j
-    (subst (λ (y : Outgoing). (due j ts ≤ 1) × NetsShow v y (due j ts) (value_due j ts)) is (shows.0, shows.1))
-shows_at v j (suc h) g (x ∷ os) ts o e shows there = shows_at v (suc j) h g os ts o (omega (arith, e)) shows.2 there
-
 -- what goes out at a handshake that there is
 pub outgoing_at : (b h : ℕ) (cells : List Cell) (cs : List Contact) (os : List Outgoing) (c : Contact) → AllGoOut b cells cs os → slice_get cs h ≡ Some c
     → (o : Outgoing) × (slice_get os h ≡ Some o) × GoesOut b cells c o
@@ -89,75 +78,6 @@ outgoing_at b h cells (x ∷ cs) [] c all there = absurd all
 outgoing_at b zero cells (x ∷ cs) (o ∷ os) c all there =
     let is : x ≡ c = cc there in (o, refl, subst (λ (y : Contact). GoesOut b cells y o) is all.0)
 outgoing_at b (suc h) cells (x ∷ cs) (o ∷ os) c all there = outgoing_at b h cells cs os c all.1 there
-
--- how often a slot stands in two lists
-pub times-append : (s : Slot) (xs ys : List Slot) → times s (xs ++ ys) ≡ times s xs + times s ys
-times-append s [] ys = omega arith
-times-append s (x ∷ xs) ys = by_test (same_slot x s) (times-append s xs ys)
-  where
-    by_test : (b : Bool) → times s (xs ++ ys) ≡ times s xs + times s ys
-        → (if b then suc (times s (xs ++ ys)) else times s (xs ++ ys)) ≡ (if b then suc (times s xs) else times s xs) + times s ys
-    by_test true h = omega (arith, h)
-    by_test false h = h
-
--- a slot of an earlier handshake stands in none of the later ones
-pub apart : (role : Role) (h : ℕ) (s : Slot) → shake_of s < h → same_slot (slot_in role h) s ≡ false
-apart Serve h (Req j) lt = grind (arith, lt)
-apart Serve h (Ans j) lt = refl
-apart Ask h (Req j) lt = refl
-apart Ask h (Ans j) lt = grind (arith, lt)
-
-same_shake : (role : Role) (h : ℕ) (s : Slot) → same_slot (slot_in role h) s ≡ true → shake_of s ≡ h
-same_shake Serve h (Req j) e = grind (arith, e)
-same_shake Serve h (Ans j) e = absurd (cc e)
-same_shake Ask h (Req j) e = absurd (cc e)
-same_shake Ask h (Ans j) e = grind (arith, e)
-
-pub shake_in : (role : Role) (h : ℕ) → shake_of (slot_in role h) ≡ h
-shake_in Serve h = refl
-shake_in Ask h = refl
-
--- adds nothing, where it doesn't stand
-keeps_zero : (p : ℕ → ℕ) (s t : Slot) (ss : List Slot) → same_slot t s ≡ false → times s (pulsed p ss) ≡ 0 → times s (pulsed p (t ∷ ss)) ≡ 0
-keeps_zero p s t ss n h = by_test (nat_eq (p (shake_of t)) 1)
-  where
-    by_test : (b : Bool) → times s (if b then t ∷ pulsed p ss else pulsed p ss) ≡ 0
-    by_test true = rw n h
-    by_test false = h
-
-none_later : (p : ℕ → ℕ) (these : ℕ → Bool) (h : ℕ) (cs : List Contact) (s : Slot) → shake_of s < h → times s (pulsed p (slots_of these h cs)) ≡ 0
-none_later p these h [] s lt = refl
-none_later p these h (c ∷ cs) s lt = by_test (these h) (none_later p these (suc h) cs s (omega (arith, lt)))
-  where
-    by_test : (b : Bool) → times s (pulsed p (slots_of these (suc h) cs)) ≡ 0
-        → times s (pulsed p (if b then slot_in c.role h ∷ slots_of these (suc h) cs else slots_of these (suc h) cs)) ≡ 0
-    by_test true go = keeps_zero p s (slot_in c.role h) (slots_of these (suc h) cs) (apart c.role h s lt) go
-    by_test false go = go
-
--- of the slots of handshakes, those with a pulse are each there once
-one_slot : (p : ℕ → ℕ) (s t : Slot) (ss : List Slot) → p (shake_of t) ≤ 1 → (same_slot t s ≡ true → times s (pulsed p ss) ≡ 0)
-    → times s (pulsed p ss) ≡ pulse_at p s ss → times s (pulsed p (t ∷ ss)) ≡ pulse_at p s (t ∷ ss)
-one_slot p s t ss small none rest = by_tests (nat_eq (p (shake_of t)) 1) refl (same_slot t s) refl
-  where
-    by_tests : (b : Bool) → nat_eq (p (shake_of t)) 1 ≡ b → (d : Bool) → same_slot t s ≡ d → times s (pulsed p (t ∷ ss)) ≡ pulse_at p s (t ∷ ss)
-    by_tests true e true d = let z = none d in rw (e, d) (grind (arith, z, e))
-    by_tests true e false d = rw (e, d) rest
-    by_tests false e true d = let z = none d in rw (e, d) (grind (arith, z, e, small))
-    by_tests false e false d = rw (e, d) rest
-
-pub each_once : (p : ℕ → ℕ) (these : ℕ → Bool) (h : ℕ) (cs : List Contact) (s : Slot)
-    → ((g : ℕ) → g < h + length cs → p g ≤ 1) → times s (pulsed p (slots_of these h cs)) ≡ pulse_at p s (slots_of these h cs)
-each_once p these h [] s small = refl
-each_once p these h (c ∷ cs) s small = by_test (these h) (each_once p these (suc h) cs s (λ g lt. small g (omega (arith, lt))))
-  where
-    by_test : (b : Bool) → times s (pulsed p (slots_of these (suc h) cs)) ≡ pulse_at p s (slots_of these (suc h) cs)
-        → times s (pulsed p (if b then slot_in c.role h ∷ slots_of these (suc h) cs else slots_of these (suc h) cs))
-        ≡ pulse_at p s (if b then slot_in c.role h ∷ slots_of these (suc h) cs else slots_of these (suc h) cs)
-    by_test true go =
-        one_slot p s (slot_in c.role h) (slots_of these (suc h) cs)
-        (subst (λ (g : ℕ). p g ≤ 1) (sym (shake_in c.role h)) (small h (omega arith)))
-        (λ same. let is = same_shake c.role h s same in none_later p these (suc h) cs s (omega (arith, is))) go
-    by_test false go = go
 
 -- the pulse of a slot that there is
 no_pulse : (p : ℕ → ℕ) (these : ℕ → Bool) (h : ℕ) (cs : List Contact) (s : Slot) → shake_of s < h → pulse_at p s (slots_of these h cs) ≡ 0

@@ -13,6 +13,7 @@ use Rattle.gos_plan.specs.Firings.{due, value_due, Asked, after_taking, after_pu
 use Rattle.gos_macro.specs.Law.{GatesLaw}
 use Rattle.gos_macro.specs.Fit.{IsKnown, NameEarlier, BitsComeIn, HaveBits}
 use Rattle.gos_macro.specs.SmallGates.{SharedGates, shared_cells, shared_outs, shared_late, shared_pending, SharedStands}
+use Rattle.gos_macro.specs.laws.AnyOrder.{law_in_order}
 use Rattle.gos_plan.specs.laws.Inversion.{first_or_later, no_row, stepped}
 
 -- A Share of a command: what is answered goes to the branch.
@@ -276,7 +277,7 @@ shared_widths b i bits come (w0, (w1, (w2, (w3, (w4, (w5, (w6, (w7, (w8, nothing
 pub shared_gates : SharedGates
 shared_gates =
     record {
-      law = shared_law;
+      law = law_in_order (Share Com) shared_cells shared_outs shared_late shared_pending SharedStands shared_law;
       rests = λ b regs zeros. (
         record { rests = refl; branch = sym (zeros (b + 3)); one = omega (arith, zeros (b + 3)); held = omega (arith, zeros (b + 6)) },
         ap (held (Req 0)) (zeros (b + 6)),

@@ -2,3 +2,4 @@ pub mod GatesLemmas
 pub mod PathLemmas
 pub mod WireLemmas
 pub mod causal
+pub mod ChoiceLemmas

@@ -2,7 +2,7 @@
 --
 -- Read first: Firing; Settling of gos_netlist. At each handshake of a part something comes in, which is the request where
 -- the part serves and the answer where it asks, and something goes out. Either is a pulse, and a value where it has bits.
-use Rattle.std.specs.Prelude.{◌≡◌, ℕ, zero, suc, ◌+◌, ◌≤◌, Bool, List, [], ◌∷◌, nat_eq, if◌then◌else◌}
+use Rattle.std.specs.Prelude.{◌≡◌, ℕ, zero, suc, ◌+◌, ◌≤◌, Bool, List, [], ◌∷◌, nat_eq, if◌then◌else◌, Some, slice_get}
 use Rattle.std.specs.List.{list_any}
 use Rattle.gos_types.specs.declared.shakes.Role.{Role}
 use Rattle.gos_types.specs.declared.shakes.Role.TheVariants.{Serve, Ask}
@@ -75,6 +75,14 @@ NetsShow v (Bearing p a) n x = (at v p ≡ n) × (at v a ≡ x)
 abbrev pub Shows : Numbers → ℕ → List Outgoing → List Token → Type 0
 Shows v j [] ts = Unit {0}
 Shows v j (o ∷ os) ts = (due j ts ≤ 1) × NetsShow v o (due j ts) (value_due j ts) × Shows v (suc j) os ts
+
+-- at a handshake the nets show these tokens, if at most one is due there; where more are due, nothing is said
+abbrev pub ShowOneAt : Numbers → List Outgoing → List Token → ℕ → Type 0
+ShowOneAt v outs ts j = (o : Outgoing) → slice_get outs j ≡ Some o → due j ts ≤ 1 → NetsShow v o (due j ts) (value_due j ts)
+
+-- at each handshake at which at most one of these tokens is due, the nets show it, and else 0
+abbrev pub ShowOne : Numbers → List Outgoing → List Token → Type 0
+ShowOne v outs ts = (j : ℕ) → ShowOneAt v outs ts j
 
 -- as many tokens go out at each handshake, with the same value
 abbrev pub SameTokens : List Token → List Token → Type 0

@@ -7,14 +7,14 @@ use Rattle.gos_netlist.specs.Settling.{Numbers}
 use Rattle.gos_plan.specs.Kinds.{Part}
 use Rattle.gos_plan.specs.Firing.{State, Token}
 use Rattle.gos_macro.specs.Gates.{Incoming, Outgoing}
-use Rattle.gos_macro.specs.Law.{GatesLaw, RestsAtZero, StaySilent}
+use Rattle.gos_macro.specs.Law.{Order, LawInOrder, RestsAtZero, StaySilent}
 use Rattle.gos_macro.specs.Fit.{GatesFit}
 
--- In each cycle they do what the part does by its rows; registers that are all 0 stand for a part at rest; no number goes
+-- In each cycle they do what the part does by its rows, in whichever order; registers that are all 0 stand for a part at rest; no number goes
 -- out without its pulse; and in a netlist they keep what is asked of an accepted one.
 pub record KeepLaws (k : Part) (cells : ℕ → Incoming → List Cell) (outs : ℕ → List Outgoing) (late : List ℕ)
     (pending : ℕ → Numbers → List Token) (stands : ℕ → Numbers → State → Type 0) : Type 0 where
-  pub law : GatesLaw k cells outs late pending stands
+  pub law : (rank : Order) → LawInOrder k cells outs late pending stands rank
   pub rests : RestsAtZero pending stands
   pub silent : StaySilent k cells outs
   pub fits : GatesFit k cells outs

@@ -8,6 +8,9 @@ use Rattle.gos_netlist.specs.Nets.{Cell, pins}
 pub use Rattle.gos_netlist.specs.Renamed.{renamed, with_renamed}
 use Rattle.gos_netlist.specs.Cycles.{IsRegister}
 use Rattle.gos_plan.specs.Kinds.{Part, Contact, part_contacts}
+use Rattle.gos_plan.specs.Firing.{State, Slot, Row, firing}
+use Rattle.gos_plan.specs.Firings.{due}
+use Rattle.gos_plan.specs.Tokens.{shake_of}
 use Rattle.gos_macro.specs.Gates.{Incoming, Outgoing, Bare, Bearing, incoming_bits, is_among}
 
 -- net m is a pin of the part's cell that drives net n, and this cell is no register
@@ -69,9 +72,15 @@ pub record Renames (contacts : List Contact) (size : ℕ) (f : ℕ → ℕ) (b d
 abbrev pub is_pair : List (ℕ × ℕ) → ℕ → ℕ → Bool
 is_pair pairs from to = list_any (λ x. nat_eq x.0 from && nat_eq x.1 to) pairs
 
+-- What a part puts by a token that isn't late, it puts where a path leads.
+abbrev pub PutsPass : Part → List ℕ → (ℕ → ℕ → Bool) → Type 0
+PutsPass k late passing =
+    (q : State) (s : Slot) (w : Row) (x j : ℕ) → firing k q s ≡ Some w → shake_of s < length (part_contacts k)
+    → is_among late (shake_of s) ≡ false → j < length (part_contacts k) → 0 < due j (w.puts x) → passing (shake_of s) j ≡ true
+
 -- What the gates of a part keep as to paths. A path leads from one handshake to another exactly where `passing` says so, and
--- then one leads from pulse to pulse. What comes in late goes out nowhere in the same cycle. And the gates depend on their
--- place and on the nets that come in by name alone.
+-- then one leads from pulse to pulse. What comes in late goes out nowhere in the same cycle. What the part puts by a token
+-- that isn't late, it puts where a path leads. And the gates depend on their place and on the nets that come in by name alone.
 pub record KeepPaths (k : Part) (cells : ℕ → Incoming → List Cell) (outs : ℕ → List Outgoing) (late : List ℕ)
     (passing : ℕ → ℕ → Bool) : Type 0 where
   pub exact :
@@ -82,6 +91,7 @@ pub record KeepPaths (k : Part) (cells : ℕ → Incoming → List Cell) (outs :
       → PulseLeadsOn b i (cells b i) (outs b) from to
   pub waits :
       (from to : ℕ) → from < length (part_contacts k) → to < length (part_contacts k) → is_among late from ≡ true → passing from to ≡ false
+  pub puts : PutsPass k late passing
   pub named :
       (f : ℕ → ℕ) (b d : ℕ) (i j : Incoming) → Renames (part_contacts k) (length (cells b i)) f b d i j
       → cells d j ≡ map (with_renamed f) (cells b i)

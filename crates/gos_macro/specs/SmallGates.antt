@@ -1,14 +1,16 @@
--- Small gates that keep the law: those of Skip, and those of a Share of a command, which fires from three sides.
+-- Small gates that keep the law: those of Skip, and those of a Share of a command, which fires from three sides. And others
+-- that don't, or that keep only one of the two laws.
 --
 -- Read first: Law.
-use Rattle.std.specs.Prelude.{◌≡◌, ℕ, ◌+◌, ◌≤◌, List, [], ◌∷◌}
+use Rattle.std.specs.Prelude.{◌≡◌, ℕ, ◌+◌, ◌≤◌, List, [], ◌∷◌, nat_eq, if◌then◌else◌}
 use Rattle.gos_types.specs.Types.{Com}
-use Rattle.gos_netlist.specs.Nets.{Cell, Not, And, Or, Reg}
+use Rattle.gos_netlist.specs.Nets.{Cell, Const, Not, And, Or, Reg}
 use Rattle.gos_netlist.specs.Settling.{Numbers, at}
-use Rattle.gos_plan.specs.Kinds.{Skip, Share}
-use Rattle.gos_plan.specs.Firing.{Rest, State, Req, Token}
+use Rattle.gos_plan.specs.Kinds.{Skip, If, While, Share}
+use Rattle.gos_plan.specs.Firing.{Phase, Rest, Test, Branch, State, Req, Ans, Token}
 use Rattle.gos_macro.specs.Gates.{Incoming, Outgoing, Bare, held, nothing_pending}
 use Rattle.gos_macro.specs.Cells.{bit, buffer}
+use Rattle.gos_macro.specs.Law.{Order, early_in_order, GatesLaw, LawInOrder}
 use Rattle.gos_macro.specs.Kept.{KeepLaws}
 
 -- the request is the answer
@@ -54,3 +56,72 @@ pub record SharedStands (b : ℕ) (regs : Numbers) (q : State) : Type 0 where
 
 abbrev pub SharedGates : Type 0
 SharedGates = KeepLaws (Share Com) shared_cells shared_outs shared_late shared_pending SharedStands
+
+-- gates of Skip that answer nothing don't keep the law
+abbrev pub silent_cells : ℕ → Incoming → List Cell
+silent_cells b i = bit (Const 0) ∷ []
+
+abbrev pub SilenceIsNoAnswer : Type 0
+SilenceIsNoAnswer = LawInOrder Skip silent_cells skip_outs [] nothing_pending skip_stands (λ h. 0) → ⊥
+
+-- The gates of a choice between two commands whose request goes on in the same cycle. The answer of the test asks for the first
+-- command where it is 1, and else for the second. What either answers is passed on.
+abbrev pub choice_cells : ℕ → Incoming → List Cell
+choice_cells b i =
+    buffer (i.pulse 3)
+    ∷ bit (And (i.pulse 0) (i.value 0))
+    ∷ bit (Not (i.value 0))
+    ∷ bit (And (i.pulse 0) (b + 2))
+    ∷ bit (Or (i.pulse 1) (i.pulse 2)) ∷ []
+
+abbrev pub choice_outs : ℕ → List Outgoing
+choice_outs b = Bare (b + 0) ∷ Bare (b + 1) ∷ Bare (b + 3) ∷ Bare (b + 4) ∷ []
+
+abbrev pub IsChoice : Phase → Type 0
+IsChoice Rest = Unit {0}
+IsChoice Test = Unit {0}
+IsChoice Branch = Unit {0}
+IsChoice p = ⊥
+
+abbrev pub choice_stands : ℕ → Numbers → State → Type 0
+choice_stands b regs q = IsChoice q.phase
+
+-- By its rows a choice can end a run, begin another and end that too, all in one cycle. Then two answers are due on one net,
+-- so these gates don't keep the law that asks for each handshake to be shown. By the other law nothing is said of this net.
+abbrev pub ChoiceShowsOne : Type 0
+ChoiceShowsOne = GatesLaw (If 0) choice_cells choice_outs [] nothing_pending choice_stands → ⊥
+
+-- The gates of a repeated command whose first test is asked for in the same cycle. Cell 0 is the register of a later request: it
+-- or the caller's one asks for the test, whose answer asks for the command where it is 1, and else answers the caller.
+abbrev pub repeat_cells : ℕ → Incoming → List Cell
+repeat_cells b i =
+    bit (Reg (i.pulse 1))
+    ∷ bit (Or (b + 0) (i.pulse 2))
+    ∷ bit (And (i.pulse 0) (i.value 0))
+    ∷ bit (Not (i.value 0))
+    ∷ bit (And (i.pulse 0) (b + 3)) ∷ []
+
+abbrev pub repeat_outs : ℕ → List Outgoing
+repeat_outs b = Bare (b + 1) ∷ Bare (b + 2) ∷ Bare (b + 4) ∷ []
+
+abbrev pub repeat_pending : ℕ → Numbers → List Token
+repeat_pending b regs = held (Req 0) (at regs (b + 0))
+
+abbrev pub repeat_stands : ℕ → Numbers → State → Type 0
+repeat_stands b regs q = at regs (b + 0) ≡ 1 → q.phase ≡ Test
+
+-- By its rows it can ask for a test, end there, and be asked to run again, all in one cycle. Then two requests of the test are due.
+abbrev pub RepeatShowsOne : Type 0
+RepeatShowsOne = GatesLaw While repeat_cells repeat_outs (1 ∷ []) repeat_pending repeat_stands → ⊥
+
+-- the ranks of handshakes 1 and 2 are the same, and that of handshake 0 is higher
+abbrev pub last_first : Order
+last_first h = if nat_eq h 0 then 1 else 0
+
+-- in this order both callers' requests of a Share of a command come before its source's answer
+abbrev pub RequestsFirst : Type 0
+RequestsFirst = early_in_order (Share Com) [] last_first 2 ≡ Req 1 ∷ Req 2 ∷ Ans 0 ∷ []
+
+-- and by number alone they come behind it
+abbrev pub AnswerFirst : Type 0
+AnswerFirst = early_in_order (Share Com) [] (λ h. 0) 1 ≡ Ans 0 ∷ Req 1 ∷ Req 2 ∷ []

@@ -5,11 +5,11 @@
 use Rattle.std.specs.Prelude.{ℕ, Bool, true, false, List, [], ◌∷◌}
 use Rattle.gos_types.specs.Types.{Com}
 use Rattle.gos_netlist.specs.Nets.{Cell, Const}
-use Rattle.gos_plan.specs.Kinds.{Skip, Share}
+use Rattle.gos_plan.specs.Kinds.{Skip, If, Share}
 use Rattle.gos_macro.specs.Gates.{Incoming}
 use Rattle.gos_macro.specs.Cells.{bit}
 use Rattle.gos_macro.specs.SmallGates.{skip_cells, skip_outs, shared_cells, shared_outs}
-use Rattle.gos_macro.specs.Paths.{KeepPaths, TellsIfItPasses, is_pair}
+use Rattle.gos_macro.specs.Paths.{PutsPass, KeepPaths, TellsIfItPasses, is_pair}
 
 -- the gates of Skip pass the request on
 abbrev pub skip_passing : ℕ → ℕ → Bool
@@ -21,6 +21,23 @@ SkipPaths = KeepPaths Skip skip_cells skip_outs [] skip_passing
 -- who says that they don't is wrong
 abbrev pub SkipIsNoDeadEnd : Type 0
 SkipIsNoDeadEnd = KeepPaths Skip skip_cells skip_outs [] (λ from to. false) → ⊥
+
+-- its answer goes where the request leads, and it would be wrong to say so where no path leads
+abbrev pub SkipPuts : Type 0
+SkipPuts = PutsPass Skip [] skip_passing
+
+abbrev pub SkipPutsSomething : Type 0
+SkipPutsSomething = PutsPass Skip [] (λ from to. false) → ⊥
+
+-- A choice asks for its test by its caller's request. So a path has to lead there, where this request isn't late.
+abbrev pub held_passing : ℕ → ℕ → Bool
+held_passing = is_pair ((0, 1) ∷ (0, 2) ∷ (1, 3) ∷ (2, 3) ∷ [])
+
+abbrev pub ChoicePutsLate : Type 0
+ChoicePutsLate = PutsPass (If 0) (3 ∷ []) held_passing
+
+abbrev pub ChoicePutsEarly : Type 0
+ChoicePutsEarly = PutsPass (If 0) [] held_passing → ⊥
 
 -- a Share of a command passes the answer of its source on to its first caller
 abbrev pub SharedAnswersPass : Type 0

@@ -50,7 +50,7 @@ fn commands_side_by_side_take_eleven_cells(rt: HostRuntime) -> Result<(), Fail> 
 #[test]
 fn a_choice_of_commands_takes_five_cells(rt: HostRuntime) -> Result<(), Fail> {
     let choice = place_alone(rt.alloc(), &Control(Kind::If), &FOUR)?;
-    assert!(rt; choice.cells.len() == 5);
+    assert!(rt; choice.cells.len() == 5 && choice.registers() == 0);
     assert!(rt; choice.pulse_at(3) == 4 && choice.number_at(3) == 0);
     Ok(())
 }
@@ -58,7 +58,7 @@ fn a_choice_of_commands_takes_five_cells(rt: HostRuntime) -> Result<(), Fail> {
 #[test]
 fn a_choice_answers_one_of_two_numbers(rt: HostRuntime) -> Result<(), Fail> {
     let choice = place_alone(rt.alloc(), &Control(Kind::IfExp { w: 8 }), &FOUR)?;
-    assert!(rt; choice.cells.len() == 7 && choice.number_at(3) == 6);
+    assert!(rt; choice.cells.len() == 7 && choice.registers() == 0 && choice.number_at(3) == 6);
     assert!(rt; choice.cells[6].width == 8);
     assert!(rt;
         matches!(

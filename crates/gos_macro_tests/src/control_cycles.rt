@@ -85,14 +85,17 @@ fn a_par_keeps_the_first_answer_of_the_next_run(rt: HostRuntime) -> Result<(), F
 #[test]
 fn a_choice_runs_the_part_that_its_test_chooses(rt: HostRuntime) -> Result<(), Fail> {
     let cycles: &[ShortCycle] = &[
-        ([NO, NO, NO, PULSE], [NO, NO, NO, NO]),
-        ([NO, NO, NO, NO], [PULSE, NO, NO, NO]),
+        ([NO, NO, NO, PULSE], [PULSE, NO, NO, NO]),
         ([HOLDS, NO, NO, NO], [NO, PULSE, NO, NO]),
         // The end of a run, and the next run.
-        ([NO, PULSE, NO, PULSE], [NO, NO, NO, PULSE]),
-        // The test is answered in the cycle in which it is asked.
-        ([FAILS, NO, NO, NO], [PULSE, NO, PULSE, NO]),
+        ([NO, PULSE, NO, PULSE], [PULSE, NO, NO, PULSE]),
+        ([FAILS, NO, NO, NO], [NO, NO, PULSE, NO]),
         ([NO, NO, PULSE, NO], [NO, NO, NO, PULSE]),
+        // The test is answered in the cycle in which it is asked.
+        ([FAILS, NO, NO, PULSE], [PULSE, NO, PULSE, NO]),
+        ([NO, NO, PULSE, NO], [NO, NO, NO, PULSE]),
+        // A whole run in one cycle.
+        ([HOLDS, PULSE, NO, PULSE], [PULSE, PULSE, NO, PULSE]),
         ([NO, NO, NO, NO], [NO, NO, NO, NO]),
     ];
     runs_short(rt.alloc(), &Control(Kind::If), 4, [1; 6], cycles)
@@ -101,11 +104,13 @@ fn a_choice_runs_the_part_that_its_test_chooses(rt: HostRuntime) -> Result<(), F
 #[test]
 fn a_choice_answers_the_number_of_its_part(rt: HostRuntime) -> Result<(), Fail> {
     let cycles: &[ShortCycle] = &[
-        ([NO, NO, NO, PULSE], [NO, NO, NO, NO]),
-        ([HOLDS, NO, NO, NO], [PULSE, PULSE, NO, NO]),
-        ([NO, Some(3), NO, PULSE], [NO, NO, NO, Some(3)]),
-        ([FAILS, NO, NO, NO], [PULSE, NO, PULSE, NO]),
+        ([NO, NO, NO, PULSE], [PULSE, NO, NO, NO]),
+        ([HOLDS, NO, NO, NO], [NO, PULSE, NO, NO]),
+        ([NO, Some(3), NO, PULSE], [PULSE, NO, NO, Some(3)]),
+        ([FAILS, NO, NO, NO], [NO, NO, PULSE, NO]),
         ([NO, NO, Some(250), NO], [NO, NO, NO, Some(250)]),
+        // A whole run in one cycle.
+        ([FAILS, NO, Some(17), PULSE], [PULSE, NO, PULSE, Some(17)]),
         ([NO, NO, NO, NO], [NO, NO, NO, NO]),
     ];
     runs_short(
@@ -120,14 +125,16 @@ fn a_choice_answers_the_number_of_its_part(rt: HostRuntime) -> Result<(), Fail> 
 #[test]
 fn a_repeated_command_runs_until_its_test_fails(rt: HostRuntime) -> Result<(), Fail> {
     let cycles: &[ShortCycle] = &[
-        ([NO, NO, PULSE, NO], [NO, NO, NO, NO]),
-        ([NO, NO, NO, NO], [PULSE, NO, NO, NO]),
+        ([NO, NO, PULSE, NO], [PULSE, NO, NO, NO]),
         ([HOLDS, NO, NO, NO], [NO, PULSE, NO, NO]),
+        // Behind the command's end the test is asked for a cycle later.
         ([NO, PULSE, NO, NO], [NO, NO, NO, NO]),
         // The test is answered in the cycle in which it is asked.
         ([FAILS, NO, NO, NO], [PULSE, NO, PULSE, NO]),
-        // A run without its command.
-        ([NO, NO, PULSE, NO], [NO, NO, NO, NO]),
+        // A run without its command, in one cycle.
+        ([FAILS, NO, PULSE, NO], [PULSE, NO, PULSE, NO]),
+        // A request, its test and the command, all in one cycle.
+        ([HOLDS, PULSE, PULSE, NO], [PULSE, PULSE, NO, NO]),
         ([FAILS, NO, NO, NO], [PULSE, NO, PULSE, NO]),
         ([NO, NO, NO, NO], [NO, NO, NO, NO]),
     ];

@@ -23,10 +23,19 @@ const OPERANDS: [(u32, u32); 3] = [(70, 71), (72, 73), (74, 0)];
 fn subtraction_is_placed(rt: HostRuntime) -> Result<(), Fail> {
     let part = Arith(Kind::Op { op: Op2::Sub, w: 8 });
     let subtraction = place_alone(rt.alloc(), &part, &OPERANDS)?;
-    assert!(rt; subtraction.cells.len() == 7 && subtraction.shows(2, 4, 6));
     assert!(rt;
-        matches!(subtraction.cells[5].gate, Gate::Sub(NetId(2), NetId(73))),
+        subtraction.cells.len() == 12 && subtraction.registers() == 2 && subtraction.shows(2, 5, 11)
+    );
+    assert!(rt;
+        matches!(subtraction.cells[10].gate, Gate::Sub(NetId(9), NetId(73))),
         "it is no subtraction"
+    );
+    assert!(rt;
+        matches!(
+            subtraction.cells[9].gate,
+            Gate::Mux(NetId(6), NetId(2), NetId(71))
+        ),
+        "the left number is another"
     );
     Ok(())
 }
@@ -39,8 +48,10 @@ fn comparison_has_one_bit(rt: HostRuntime) -> Result<(), Fail> {
     });
     let comparison = place_alone(rt.alloc(), &part, &OPERANDS)?;
     let cells = &comparison.cells;
-    assert!(rt; cells.len() == 7);
-    assert!(rt; cells[2].width == 8 && cells[5].width == 1 && cells[6].width == 1);
+    assert!(rt; cells.len() == 12);
+    assert!(rt;
+        cells[2].width == 8 && cells[9].width == 8 && cells[10].width == 1 && cells[11].width == 1
+    );
     Ok(())
 }
 

@@ -21,17 +21,15 @@ fn literal_answers_its_number(rt: HostRuntime) -> Result<(), Fail> {
     )
 }
 
-// The right number is asked for a cycle after the left one came. The answer and the next request come in one cycle.
+// The right number is asked for in the cycle of the left one. The answer and the next request come in one cycle.
 #[test]
 fn comparison_holds_the_left_number(rt: HostRuntime) -> Result<(), Fail> {
     let cycles: &[ShortCycle] = &[
         ([NO, NO, PULSE, NO], [PULSE, NO, NO, NO]),
-        ([Some(3), NO, NO, NO], [NO, NO, NO, NO]),
-        ([NO, NO, NO, NO], [NO, PULSE, NO, NO]),
+        ([Some(3), NO, NO, NO], [NO, PULSE, NO, NO]),
         ([NO, NO, NO, NO], [NO, NO, NO, NO]),
         ([NO, Some(5), PULSE, NO], [PULSE, NO, Some(1), NO]),
-        ([Some(5), NO, NO, NO], [NO, NO, NO, NO]),
-        ([NO, NO, NO, NO], [NO, PULSE, NO, NO]),
+        ([Some(5), NO, NO, NO], [NO, PULSE, NO, NO]),
         ([NO, Some(3), NO, NO], [NO, NO, PULSE, NO]),
     ];
     runs_short(
@@ -47,14 +45,36 @@ fn comparison_holds_the_left_number(rt: HostRuntime) -> Result<(), Fail> {
 }
 
 // The right number comes with the next request and the next left number. The answer is of the left number that is
-// held, and the next right number is asked for a cycle later.
+// held, and the next right number is asked for at once.
 #[test]
 fn subtraction_keeps_two_left_numbers_apart(rt: HostRuntime) -> Result<(), Fail> {
     let cycles: &[ShortCycle] = &[
-        ([Some(9), NO, PULSE, NO], [PULSE, NO, NO, NO]),
-        ([NO, NO, NO, NO], [NO, PULSE, NO, NO]),
-        ([Some(30), Some(2), PULSE, NO], [PULSE, NO, Some(7), NO]),
-        ([NO, Some(5), NO, NO], [NO, PULSE, Some(25), NO]),
+        ([Some(9), NO, PULSE, NO], [PULSE, PULSE, NO, NO]),
+        ([Some(30), Some(2), PULSE, NO], [PULSE, PULSE, Some(7), NO]),
+        ([NO, NO, NO, NO], [NO, NO, NO, NO]),
+        ([NO, Some(5), NO, NO], [NO, NO, Some(25), NO]),
+    ];
+    runs_short(
+        rt.alloc(),
+        &Arith(Kind::Op { op: Op2::Sub, w: 8 }),
+        3,
+        [8, 8, 1, 1, 1, 1],
+        cycles,
+    )
+}
+
+// Both numbers come in one cycle: the answer is of the left one that comes, and not of the one that was held for the answer
+// before. A left number that comes alone afterwards is held as before.
+#[test]
+fn subtraction_takes_a_left_number_as_it_comes(rt: HostRuntime) -> Result<(), Fail> {
+    let cycles: &[ShortCycle] = &[
+        ([Some(9), NO, PULSE, NO], [PULSE, PULSE, NO, NO]),
+        ([NO, Some(2), NO, NO], [NO, NO, Some(7), NO]),
+        ([Some(30), Some(4), PULSE, NO], [PULSE, PULSE, Some(26), NO]),
+        ([NO, NO, PULSE, NO], [PULSE, NO, NO, NO]),
+        ([Some(8), Some(3), NO, NO], [NO, PULSE, Some(5), NO]),
+        ([Some(50), NO, PULSE, NO], [PULSE, PULSE, NO, NO]),
+        ([NO, Some(1), NO, NO], [NO, NO, Some(49), NO]),
     ];
     runs_short(
         rt.alloc(),
@@ -67,11 +87,15 @@ fn subtraction_keeps_two_left_numbers_apart(rt: HostRuntime) -> Result<(), Fail>
 
 // An operator gives this number of two numbers of 8 bits.
 fn computes(alloc: Global, op: Op2, left: u64, right: u64, wanted: u64) -> Result<(), Fail> {
-    let cycles: [ShortCycle; 4] = [
+    let cycles: [ShortCycle; 5] = [
         ([NO, NO, PULSE, NO], [PULSE, NO, NO, NO]),
-        ([Some(left), NO, NO, NO], [NO, NO, NO, NO]),
-        ([NO, NO, NO, NO], [NO, PULSE, NO, NO]),
+        ([Some(left), NO, NO, NO], [NO, PULSE, NO, NO]),
         ([NO, Some(right), NO, NO], [NO, NO, Some(wanted), NO]),
+        ([NO, NO, PULSE, NO], [PULSE, NO, NO, NO]),
+        (
+            [Some(left), Some(right), NO, NO],
+            [NO, PULSE, Some(wanted), NO],
+        ),
     ];
     runs_short(
         alloc,

@@ -115,6 +115,17 @@ fn short_gates_go(rt: HostRuntime) -> Result<(), Fail> {
     )
 }
 
+// What comes through a Xor twice is left, in each order of its nets.
+#[test]
+fn a_xor_of_a_xor_goes(rt: HostRuntime) -> Result<(), Fail> {
+    becomes(
+        &rt,
+        rt.alloc(),
+        "gosnet 1\ncells 13\ninput 1\nreg 1 0\nxor 1 0 1\nxor 1 0 2\nxor 1 3 0\nxor 1 4 0\nxor 1 1 0\nxor 1 0 6\nxor 1 2 0\nand 1 5 7\nand 1 9 8\nand 1 10 3\nreg 1 11\nports 1\ngive main com 0 12\nend\n",
+        "gosnet 1\ncells 3\ninput 1\nreg 1 0\nreg 1 1\nports 1\ngive main com 0 2\nend\n",
+    )
+}
+
 // The cells of two constants and a gate that folds, whose number is shown by an Exp port of so many bits.
 fn folds(rt: &impl Abort, alloc: Global, gate: &str, shown: &str) -> Result<(), Fail> {
     let text = format!(in alloc;

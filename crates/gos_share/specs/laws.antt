@@ -17,6 +17,7 @@ pub mod Widths
 pub mod Kept
 pub mod Cones
 pub mod Pairs
+pub mod Puts
 pub mod Origins
 pub mod Ways
 pub mod Named

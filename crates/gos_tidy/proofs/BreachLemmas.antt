@@ -1,7 +1,7 @@
 -- What the pins of a cell allow, and a table of the cells so far.
 --
 -- Read first: Breaches.
-use Rattle.std.specs.Prelude.{◌≡◌, ◌≢◌, ◌⊎◌, ℕ, ◌+◌, ◌<◌, ◌≤◌, Bool, true, false, cond, ◌↔◌, List, length, Option, Some, None, IsNone, IfSome, slice_get}
+use Rattle.std.specs.Prelude.{◌≡◌, ◌≢◌, ◌⊎◌, ℕ, ◌+◌, ◌<◌, ◌≤◌, Bool, true, false, cond, ◌↔◌, List, length, Option, Some, None, IsNone, IfSome, MatchOption, slice_get}
 use Rattle.std.proofs.Common.{arith, rules, eqb, eq-eqb, refl, sym, ap, subst, inl, inr, ◌∙◌}
 use Rattle.std.proofs.lemmas.Bool.{cases_order, and_parts, and_from, eqb-true}
 use Rattle.std.proofs.lemmas.Option.{same_Some, slice_get_within}
@@ -13,11 +13,12 @@ use Rattle.gos_tidy.specs.declared.shape.Shape.{Shape}
 use Rattle.gos_tidy.specs.declared.shape.Kind.{Kind}
 use Rattle.gos_tidy.specs.contracts.shape.ShapePartialEq.TheImpl.{eq-value}
 use Rattle.gos_tidy.specs.contracts.shape.KindPartialEq.TheImpl.{eq-value as kind-eq}
-use Rattle.gos_tidy.specs.Tidy.{AllLead, IsTidy}
+use Rattle.gos_tidy.specs.Mapped.{IsXorOf}
+use Rattle.gos_tidy.specs.Tidy.{AllLead, IsSpare, IsTidy}
 use Rattle.gos_tidy.specs.inner.Shapes.{shape_in, shape_of, cell_by}
 use Rattle.gos_tidy.specs.inner.Breaches.{Allows, MayBe, IsFirm, IsAgain, IsNew, IsFirmAt, AllFirm, HasCells}
 use Rattle.gos_tidy.proofs.NarrowLemmas.{less_or}
-use Rattle.gos_tidy.proofs.RenamedLemmas.{one_cell, one_gate}
+use Rattle.gos_tidy.proofs.RenamedLemmas.{one_cell, one_gate, xor_gate}
 
 -- A shape is of one cell.
 
@@ -160,6 +161,17 @@ may_be cells n c there (change.Net t) h = (c, there, inl h)
 pub at_width : (cells : List Cell) (w : ℕ) (g : Function) (o : Option Change) → IfSome o (λ r. (x : ℕ) → Allows cells x g r) → IfSome o (Allows cells w g)
 at_width cells w g None h = tt
 at_width cells w g (Some r) h = h w
+
+-- a net that isn't the Xor of a net and another one, by its gate
+pub no_rest : {T : Type 0} (cells : List Cell) (n a : ℕ) (c : Cell) (found : T → Type 0) (o : Option T) → slice_get cells n ≡ Some c
+    → MatchOption o ((t : ℕ) → (c.gate ≡ Xor a t) ⊎ (c.gate ≡ Xor t a) → ⊥) found → IsNone o → (w t : ℕ) → IsXorOf cells w n a t → ⊥
+no_rest cells n a c found None there never none w t is = never t (xor_gate cells n w a t c is there)
+no_rest cells n a c found (Some r) there rest none w t is = absurd (cc none)
+
+-- neither net is the Xor of the other one and of a third
+pub none_left : (cells : List Cell) (a b : ℕ) → ((w t : ℕ) → IsXorOf cells w b a t → ⊥) → ((w t : ℕ) → IsXorOf cells w a b t → ⊥) → IsSpare cells (Xor a b) → ⊥
+none_left cells a b first second (w, t, inl is) = first w t is
+none_left cells a b first second (w, t, inr is) = second w t is
 
 pub none_of : (o : Option Change) → ((r : Change) → o ≡ Some r → ⊥) → IsNone o
 none_of None never = refl

@@ -9,7 +9,7 @@ use Rattle.gos_netlist.specs.Settling.{shown}
 use Rattle.gos_netlist.specs.Cycles.{IsRegister, Feeds, HasCycle}
 use Rattle.gos_netlist.proofs.RepeatLemmas.{same_or_not}
 use Rattle.gos_netcheck.specs.CellRules.{width_at, widths_of, OperandsFit, NetsExist, WidthsFit}
-use Rattle.gos_tidy.specs.Mapped.{renamed, IsConst, IsKept, IsShort, Stands}
+use Rattle.gos_tidy.specs.Mapped.{renamed, IsConst, IsXorOf, IsKept, IsShort, Stands}
 use Rattle.gos_tidy.specs.Reduced.{HasWidth, IsClosed, Stays, IsQuotient}
 use Rattle.gos_tidy.specs.Tidy.{Folds}
 use Rattle.gos_tidy.specs.inner.Changes.{skip, ShowsNet, GoesTo, ShowsNumber, IsShut, BecomesNumber}
@@ -78,6 +78,29 @@ module _ (cells : List Cell) (n t : ℕ) (acyclic : HasCycle cells → ⊥) (fit
       no_self cells acyclic n may.0 may.1 (λ r. free (r.0, sym is ∙ r.1))
       (subst (λ (x : ℕ). Contains (pins may.0.gate) x) same (subst (λ (h : Function). Contains (pins h) a) (sym is) pin))
 
+  -- a Xor of which a pin is one has not the net itself as its pin
+  xor_apart : (g : Function) → may.0.gate ≡ g → (IsRegister g → ⊥) → (a x : ℕ) → Contains (pins g) a → IsXorOf cells may.0.width a x t → t ≢ n
+  xor_apart g is free a x pin there same = by_order there
+    where
+      apart : n ≢ a
+      apart e = pin_apart g is free a pin (sym e)
+
+      in_net : Contains (pins may.0.gate) a
+      in_net = subst (λ (k : Function). Contains (pins k) a) (sym is) pin
+
+      is_free : IsRegister may.0.gate → ⊥
+      is_free r = free (r.0, sym is ∙ r.1)
+
+      by_order : IsXorOf cells may.0.width a x t → ⊥
+      by_order (inl h) =
+          let mix : Cell = record { width = may.0.width; gate = Xor x t } in
+          no_pair cells acyclic n a may.0 mix apart (may.0, mix, may.1, h, is_free, subst (λ (y : ℕ). Contains (x ∷ t ∷ []) y) same (pin_second x t []))
+          (mix, may.0, h, may.1, (λ r. cc r.1), in_net)
+      by_order (inr h) =
+          let mix : Cell = record { width = may.0.width; gate = Xor t x } in
+          no_pair cells acyclic n a may.0 mix apart (may.0, mix, may.1, h, is_free, subst (λ (y : ℕ). Contains (t ∷ x ∷ []) y) same (pin_first t (x ∷ [])))
+          (mix, may.0, h, may.1, (λ r. cc r.1), in_net)
+
   -- the net that is shown is another one, of the same width
   shown_apart : (g : Function) → may.0.gate ≡ g → ShowsNet cells may.0.width g t → t ≢ n
   shown_apart Input is h = absurd h
@@ -90,7 +113,8 @@ module _ (cells : List Cell) (n t : ℕ) (acyclic : HasCycle cells → ⊥) (fit
       (turn, may.0, h, may.1, (λ r. cc r.1), subst (λ (k : Function). Contains (pins k) a) (sym is) (pin_first a []))
   shown_apart (And a b) is (one, same) = λ e. pin_apart (And a b) is (λ r. cc r.1) a (pin_first a (b ∷ [])) (sym same ∙ e)
   shown_apart (Or a b) is (one, same) = λ e. pin_apart (Or a b) is (λ r. cc r.1) a (pin_first a (b ∷ [])) (sym same ∙ e)
-  shown_apart (Xor a b) is h = absurd h
+  shown_apart (Xor a b) is (inl there) = xor_apart (Xor a b) is (λ r. cc r.1) b a (pin_second a b []) there
+  shown_apart (Xor a b) is (inr there) = xor_apart (Xor a b) is (λ r. cc r.1) a b (pin_first a (b ∷ [])) there
   shown_apart (Mux s a b) is (inl (one, same)) = λ e. pin_apart (Mux s a b) is (λ r. cc r.1) a (pin_second s a (b ∷ [])) (sym same ∙ e)
   shown_apart (Mux s a b) is (inr (k, other, const, same)) = λ e. pin_apart (Mux s a b) is (λ r. cc r.1) b (pin_third s a b) (sym same ∙ e)
   shown_apart (Add a b) is h = absurd h
@@ -109,7 +133,10 @@ module _ (cells : List Cell) (n t : ℕ) (acyclic : HasCycle cells → ⊥) (fit
   shown_width (Not a) is h = (fits a (record { width = may.0.width; gate = Not t }) h).2
   shown_width (And a b) is (one, same) = ap (width_at (widths_of cells)) same ∙ (fit_as (And a b) is).0
   shown_width (Or a b) is (one, same) = ap (width_at (widths_of cells)) same ∙ (fit_as (Or a b) is).0
-  shown_width (Xor a b) is h = absurd h
+  shown_width (Xor a b) is (inl (inl h)) = (fits b (record { width = may.0.width; gate = Xor a t }) h).3
+  shown_width (Xor a b) is (inl (inr h)) = (fits b (record { width = may.0.width; gate = Xor t a }) h).2
+  shown_width (Xor a b) is (inr (inl h)) = (fits a (record { width = may.0.width; gate = Xor b t }) h).3
+  shown_width (Xor a b) is (inr (inr h)) = (fits a (record { width = may.0.width; gate = Xor t b }) h).2
   shown_width (Mux s a b) is (inl (one, same)) = ap (width_at (widths_of cells)) same ∙ (fit_as (Mux s a b) is).1
   shown_width (Mux s a b) is (inr (k, other, const, same)) = ap (width_at (widths_of cells)) same ∙ (fit_as (Mux s a b) is).2
   shown_width (Add a b) is h = absurd h
@@ -156,6 +183,12 @@ module _ (cells others : List Cell) (f : ℕ → ℕ) (roots : List ℕ) (n t : 
   const_kept : (s k : ℕ) → s ≢ n → IsConst cells s k → IsConst others (f s) k
   const_kept s k apart (w, is) = (w, kept_other s (record { width = w; gate = Const k }) apart is)
 
+  xor_kept : (m x : ℕ) → m ≢ n → IsXorOf cells may.0.width m x t → IsXorOf others may.0.width (f m) (f x) (f n)
+  xor_kept m x apart (inl h) =
+      inl (kept_other m (record { width = may.0.width; gate = Xor x t }) apart h ∙ ap (λ (y : ℕ). Some (record { width = may.0.width; gate = Xor (f x) y })) (sym made.goes))
+  xor_kept m x apart (inr h) =
+      inr (kept_other m (record { width = may.0.width; gate = Xor t x }) apart h ∙ ap (λ (y : ℕ). Some (record { width = may.0.width; gate = Xor y (f x) })) (sym made.goes))
+
   -- a net that shows another one is short
   short_moved : (g : Function) → may.0.gate ≡ g → ShowsNet cells may.0.width g t → IsShort others f n may.0.width g
   short_moved Input is h = absurd h
@@ -166,7 +199,8 @@ module _ (cells others : List Cell) (f : ℕ → ℕ) (roots : List ℕ) (n t : 
       ∙ ap (λ (x : ℕ). Some (record { width = may.0.width; gate = Not x })) (sym made.goes)
   short_moved (And a b) is (one, same) = (ap f one, made.goes ∙ ap f same)
   short_moved (Or a b) is (one, same) = (ap f one, made.goes ∙ ap f same)
-  short_moved (Xor a b) is h = absurd h
+  short_moved (Xor a b) is (inl there) = inl (xor_kept b a (pin_apart cells n t acyclic fits may (Xor a b) is (λ r. cc r.1) b (pin_second a b [])) there)
+  short_moved (Xor a b) is (inr there) = inr (xor_kept a b (pin_apart cells n t acyclic fits may (Xor a b) is (λ r. cc r.1) a (pin_first a (b ∷ []))) there)
   short_moved (Mux s a b) is (inl (one, same)) =
       inl (const_kept s 1 (pin_apart cells n t acyclic fits may (Mux s a b) is (λ r. cc r.1) s (pin_first s (a ∷ b ∷ []))) one, made.goes ∙ ap f same)
   short_moved (Mux s a b) is (inr (k, other, const, same)) =

@@ -1,11 +1,12 @@
 -- What a cell shows through a map of nets.
 use Rattle.std.specs.Prelude.{◌≡◌, ◌≢◌, ℕ, ◌<◌, Bool, List, [], ◌∷◌, Contains, bit_and, bit_or, bit_xor, nat_eq, nat_lt, if◌then◌else◌, ◌+◌, ◌-◌, ◌^◌, ◌%◌}
 use Rattle.std.proofs.Common.{arith, refl, sym, ap, inl, inr, ◌∙◌}
-use Rattle.std.specs.Int.Bits.{and_self, or_self}
+use Rattle.std.specs.Int.Bits.{and_self, or_self, xor_assoc, xor_self}
 use Rattle.std.proofs.lemmas.Bool.{ne_eqb}
+use Rattle.std.proofs.lemmas.Nat.{xor_comm}
 use Rattle.gos_netlist.specs.Nets.{Function, Input, Const, Not, And, Or, Xor, Mux, Add, Sub, Eq, Less, Gate, Reg, Cell, pins}
 use Rattle.gos_netlist.specs.Settling.{Numbers, at, shown, Settling}
-use Rattle.gos_tidy.specs.Mapped.{renamed, IsConst, IsShort, Stands}
+use Rattle.gos_tidy.specs.Mapped.{renamed, IsConst, IsXorOf, IsShort, Stands}
 use Rattle.gos_tidy.specs.Laws.{PulledBack}
 
 first : (a : ℕ) (ns : List ℕ) → Contains (a ∷ ns) a
@@ -61,6 +62,14 @@ chosen_one s a b e = ap (λ (x : ℕ). if nat_eq x 1 then a else b) e
 chosen_other : (s k a b : ℕ) → s ≡ k → k ≢ 1 → (if nat_eq s 1 then a else b) ≡ b
 chosen_other s k a b e other = ap (λ (x : ℕ). if nat_eq x 1 then a else b) e ∙ ap (λ (t : Bool). if t then a else b) (ne_eqb k 1 other)
 
+-- what comes through a Xor twice
+xor_twice : (a t : ℕ) → bit_xor a (bit_xor a t) ≡ t
+xor_twice a t = sym (xor_assoc a a t) ∙ ap (λ (x : ℕ). bit_xor x t) (xor_self a)
+
+xor_shows : (others : List Cell) (regs ins v : Numbers) (w n a t : ℕ) → Settling others regs ins v → IsXorOf others w n a t → at v n ≡ bit_xor (at v a) (at v t)
+xor_shows others regs ins v w n a t settles (inl there) = settles.1 n (record { width = w; gate = Xor a t }) there
+xor_shows others regs ins v w n a t settles (inr there) = settles.1 n (record { width = w; gate = Xor t a }) there ∙ xor_comm (at v t) (at v a)
+
 short_shows : (others : List Cell) (f : ℕ → ℕ) (regs ins v : Numbers) (n w r i : ℕ) (g : Function) → Settling others regs ins v
     → at v (f n) < 2 ^ w → IsShort others f n w g → at v (f n) ≡ shown w g r i (λ a. at v (f a))
 short_shows others f regs ins v n w r i Input settles narrow h = absurd h
@@ -72,7 +81,11 @@ short_shows others f regs ins v n w r i (And a b) settles narrow (one, is) =
     ap (at v) is ∙ sym (and_self (at v (f a))) ∙ ap (λ (x : ℕ). bit_and (at v (f a)) (at v x)) one
 short_shows others f regs ins v n w r i (Or a b) settles narrow (one, is) =
     ap (at v) is ∙ sym (or_self (at v (f a))) ∙ ap (λ (x : ℕ). bit_or (at v (f a)) (at v x)) one
-short_shows others f regs ins v n w r i (Xor a b) settles narrow h = absurd h
+short_shows others f regs ins v n w r i (Xor a b) settles narrow (inl there) =
+    sym (ap (bit_xor (at v (f a))) (xor_shows others regs ins v w (f b) (f a) (f n) settles there) ∙ xor_twice (at v (f a)) (at v (f n)))
+short_shows others f regs ins v n w r i (Xor a b) settles narrow (inr there) =
+    sym (ap (λ (x : ℕ). bit_xor x (at v (f b))) (xor_shows others regs ins v w (f a) (f b) (f n) settles there)
+    ∙ (xor_comm (bit_xor (at v (f b)) (at v (f n))) (at v (f b)) ∙ xor_twice (at v (f b)) (at v (f n))))
 short_shows others f regs ins v n w r i (Mux s a b) settles narrow (inl (one, is)) =
     ap (at v) is ∙ sym (chosen_one (at v (f s)) (at v (f a)) (at v (f b)) (const_shows others regs ins v (f s) 1 settles one))
 short_shows others f regs ins v n w r i (Mux s a b) settles narrow (inr (k, other, const, is)) =

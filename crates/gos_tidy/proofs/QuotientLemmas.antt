@@ -1,7 +1,7 @@
 -- Cells that others are merged to keep widths and have no combinational cycle, where the others do.
 --
--- Read first: Reduced; GroundLemmas. A fact of nets that a Not hands on leads from each net back to a pin: a gate that is kept
--- has such a pin, and one that is short goes where a pin of its goes, or is the pin's Not. So no net of the first cells goes
+-- Read first: Reduced; GroundLemmas. A fact of nets that a Not and a Xor hand on leads from each net back to a pin: a gate
+-- that is kept has such a pin, and one that is short goes where a pin of its goes, or where a net of the pin's Not or Xor goes. So no net of the first cells goes
 -- where such a fact holds. A ring makes one, and so does a constant that is too wide.
 use Rattle.std.proofs.Common.{◌≡◌, ◌⊎◌, inl, inr, ◌^◌, ◌<◌, ◌≤◌, ℕ, zero, suc, List, [], ◌∷◌, length, get_or, slice_get, Option, Some, Contains, refl, sym, ap, subst, ◌∙◌, arith, pow_pos}
 use Rattle.std.proofs.lemmas.Option.{slice_get_within, slice_get_cases}
@@ -10,11 +10,11 @@ use Rattle.gos_netlist.specs.Nets.{Function, Input, Const, Not, And, Or, Xor, Mu
 use Rattle.gos_netlist.specs.Settling.{shown}
 use Rattle.gos_netlist.specs.Cycles.{IsRegister, Feeds, Chain, HasCycle}
 use Rattle.gos_netcheck.specs.CellRules.{width_at, widths_of, OperandsFit, NetsExist, WidthsFit}
-use Rattle.gos_tidy.specs.Mapped.{renamed, IsConst, IsKept, IsShort, Stands, Mapped}
+use Rattle.gos_tidy.specs.Mapped.{renamed, IsConst, IsXorOf, IsKept, IsShort, Stands, Mapped}
 use Rattle.gos_tidy.specs.Reduced.{IsClosed, Stays, IsQuotient}
 use Rattle.gos_tidy.proofs.GroundLemmas.{ungrounded}
 use Rattle.gos_tidy.proofs.NarrowLemmas.{pin_first, pin_second, pin_third, narrow_shown, narrow_or_wide, less_or, width_is}
-use Rattle.gos_tidy.proofs.RenamedLemmas.{renamed_const, renamed_not, renamed_pins, from_mapped, each_of, one_cell, one_gate, one_width, one_const, renamed_fits}
+use Rattle.gos_tidy.proofs.RenamedLemmas.{renamed_const, renamed_not, renamed_xor, xor_gate, renamed_pins, from_mapped, each_of, one_cell, one_gate, one_width, one_const, renamed_fits}
 
 -- a cell at each net below the count
 pub cell_there : (cells : List Cell) (n : ℕ) → n < length cells → (c : Cell) × (slice_get cells n ≡ Some c)
@@ -64,16 +64,18 @@ kept_or_const others f n c (inr (inr closed)) = inr (0, closed_zero others f n c
 module _ (cells others : List Cell) (f : ℕ → ℕ) (acyclic : HasCycle cells → ⊥) (exist : NetsExist cells) (mapped : Mapped cells others f)
     (R : ℕ → Type 0) (free : (m : ℕ) (e : Cell) → R m → slice_get others m ≡ Some e → IsRegister e.gate → ⊥)
     (turned : (m w x : ℕ) → slice_get others m ≡ Some (record { width = w; gate = Not x }) → R x → R m)
+    (mixed : (m w a x : ℕ) → IsXorOf others w m a x → R x → R m)
     (nothing : (m : ℕ) → IsConst others m 0 → R m → ⊥)
     (pin_of : (n : ℕ) (c : Cell) → slice_get cells n ≡ Some c → R (f n) → Stays others f n c → (a : ℕ) × Contains (pins c.gate) a × R (f a)) where
-  -- a short gate goes where a pin of its goes, or is the pin's Not
+  -- a short gate goes where a pin of its goes, or where a net of the pin's Not or Xor goes
   short_back : (n w : ℕ) (g : Function) → R (f n) → IsShort others f n w g → (a : ℕ) × Contains (pins g) a × R (f a)
   short_back n w Input r h = absurd h
   short_back n w (Const k) r h = absurd h
   short_back n w (Not a) r h = (a, pin_first a [], turned (f a) w (f n) h r)
   short_back n w (And a b) r (one, is) = (a, pin_first a (b ∷ []), subst R is r)
   short_back n w (Or a b) r (one, is) = (a, pin_first a (b ∷ []), subst R is r)
-  short_back n w (Xor a b) r h = absurd h
+  short_back n w (Xor a b) r (inl there) = (b, pin_second a b [], mixed (f b) w (f a) (f n) there r)
+  short_back n w (Xor a b) r (inr there) = (a, pin_first a (b ∷ []), mixed (f a) w (f b) (f n) there r)
   short_back n w (Mux s a b) r (inl (one, is)) = (a, pin_second s a (b ∷ []), subst R is r)
   short_back n w (Mux s a b) r (inr (k, other, const, is)) = (b, pin_third s a b, subst R is r)
   short_back n w (Add a b) r h = absurd h
@@ -173,6 +175,24 @@ module _ (others : List Cell) (z : ℕ) (ns : List ℕ) (chain : Chain others (z
         Fed x m (e, turn, second, there, r.0 e second, pin_first x []) r.1,
       )
 
+  cycle_mixed : (m w a x : ℕ) → IsXorOf others w m a x → InCycle x → InCycle m
+  unfolding InCycle
+  cycle_mixed m w a x there r =
+      let (b, in_ring, (c, e, first, second, free, pin)) = cycle_feeder x r in
+      by_order there e second
+    where
+      by_order : IsXorOf others w m a x → (e : Cell) → slice_get others x ≡ Some e → IsFree others m × Behind others (z ∷ ns) m
+      by_order (inl is) e second =
+          let mix : Cell = record { width = w; gate = Xor a x } in (
+            (λ d there (b, gate). let never : Xor a x ≡ Reg b = one_gate others m mix d is there ∙ gate in cc),
+            Fed x m (e, mix, second, is, r.0 e second, pin_second a x []) r.1,
+          )
+      by_order (inr is) e second =
+          let mix : Cell = record { width = w; gate = Xor x a } in (
+            (λ d there (b, gate). let never : Xor x a ≡ Reg b = one_gate others m mix d is there ∙ gate in cc),
+            Fed x m (e, mix, second, is, r.0 e second, pin_first x (a ∷ [])) r.1,
+          )
+
   cycle_const : (m k : ℕ) → IsConst others m k → InCycle m → ⊥
   cycle_const m k (w, there) r =
       let (a, in_ring, (c, e, first, second, free, pin)) = cycle_feeder m r in
@@ -213,21 +233,27 @@ quotient_acyclic cells others f roots acyclic exist q (z ∷ ns, (apart, chain))
     let (b, (c, e, first, second, free, pin)) = chain_next others z ns z z chain (pin_first z ns) in
     let (n, d, to, there, stays) = root_of cells others f roots q z (slice_get_within others z c first) in
     none_there cells others f acyclic exist q.mapped (InCycle others z ns chain) (cycle_free others z ns chain) (cycle_turned others z ns chain)
-    (λ m is r. cycle_const others z ns chain m 0 is r) (λ m x is r stay. cycle_pin others z ns chain f m x r stay) n (slice_get_within cells n d there)
+    (cycle_mixed others z ns chain) (λ m is r. cycle_const others z ns chain m 0 is r) (λ m x is r stay. cycle_pin others z ns chain f m x r stay) n (slice_get_within cells n d there)
     (subst (InCycle others z ns chain) (sym to) (ring_in_cycle others z ns chain))
 
 -- Widths.
 
--- a constant of too many bits, or a Not of such
+-- a constant of too many bits, or a Not or a Xor of such
 data IsTooWide (others : List Cell) : ℕ → Type 0 where
   Much : (m w k : ℕ) → slice_get others m ≡ Some (record { width = w; gate = Const k }) → 2 ^ w ≤ k → IsTooWide others m
   Turned : (m w x : ℕ) → slice_get others m ≡ Some (record { width = w; gate = Not x }) → IsTooWide others x → IsTooWide others m
+  Mixed : (m w a x : ℕ) → IsXorOf others w m a x → IsTooWide others x → IsTooWide others m
 
 wide_free : (others : List Cell) (m : ℕ) (e : Cell) → IsTooWide others m → slice_get others m ≡ Some e → IsRegister e.gate → ⊥
 wide_free others m e (Much _ w k there much) is (b, gate) =
     let never : Const k ≡ Reg b = one_gate others m (record { width = w; gate = Const k }) e there is ∙ gate in cc
 wide_free others m e (Turned _ w x there wide) is (b, gate) =
     let never : Not x ≡ Reg b = one_gate others m (record { width = w; gate = Not x }) e there is ∙ gate in cc
+wide_free others m e (Mixed _ w a x there wide) is (b, gate) = by_order (xor_gate others m w a x e there is)
+  where
+    by_order : (e.gate ≡ Xor a x) ⊎ (e.gate ≡ Xor x a) → ⊥
+    by_order (inl same) = let never : Xor a x ≡ Reg b = sym same ∙ gate in cc
+    by_order (inr same) = let never : Xor x a ≡ Reg b = sym same ∙ gate in cc
 
 -- a constant that is too wide is so by its own number
 wide_const : (others : List Cell) (m w k : ℕ) → slice_get others m ≡ Some (record { width = w; gate = Const k }) → IsTooWide others m → 2 ^ w ≤ k
@@ -237,6 +263,11 @@ wide_const others m w k is (Much _ u j there much) =
     subst (λ (v : ℕ). 2 ^ v ≤ k) width (subst (λ (v : ℕ). 2 ^ u ≤ v) number much)
 wide_const others m w k is (Turned _ u x there wide) =
     absurd (let never : Not x ≡ Const k = one_gate others m (record { width = u; gate = Not x }) (record { width = w; gate = Const k }) there is in cc)
+wide_const others m w k is (Mixed _ u a x there wide) = absurd (by_order (xor_gate others m u a x (record { width = w; gate = Const k }) there is))
+  where
+    by_order : (Const k ≡ Xor a x) ⊎ (Const k ≡ Xor x a) → ⊥
+    by_order (inl same) = cc
+    by_order (inr same) = cc
 
 module _ (cells others : List Cell) (f : ℕ → ℕ) (roots : List ℕ) (acyclic : HasCycle cells → ⊥) (exist : NetsExist cells) (fits : WidthsFit cells)
     (q : IsQuotient cells others f roots) where
@@ -266,6 +297,10 @@ module _ (cells others : List Cell) (f : ℕ → ℕ) (roots : List ℕ) (acycli
           let here : slice_get others (f n) ≡ Some (record { width = w; gate = Not x }) = subst (λ (y : ℕ). slice_get others y ≡ Some (record { width = w; gate = Not x })) at_f is in
           let (a, pin, same) = renamed_not f c.gate x (one_gate others (f n) (record { width = c.width; gate = renamed f c.gate }) (record { width = w; gate = Not x }) kept here) in
           (a, pin, subst (IsTooWide others) (sym same) wide)
+      by_kind m at_f (Mixed _ w x y is wide) =
+          let here : IsXorOf others w (f n) x y = subst (λ (z : ℕ). IsXorOf others w z x y) at_f is in
+          let (a, pin, same) = renamed_xor f c.gate x y (xor_gate others (f n) w x y (record { width = c.width; gate = renamed f c.gate }) here kept) in
+          (a, pin, subst (IsTooWide others) (sym same) wide)
   wide_pin n c there wide (inr (inr closed)) =
       let (w, is) = closed_zero others f n c.gate closed in
       absurd (let much = wide_const others (f n) w 0 is wide in let some = pow_pos w in omega (arith, much, some))
@@ -291,6 +326,7 @@ module _ (cells others : List Cell) (f : ℕ → ℕ) (roots : List ℕ) (acycli
   none_too_wide m low wide =
       let (n, c, to, there, stays) = root_of cells others f roots q m low in
       none_there cells others f acyclic exist q.mapped (IsTooWide others) (wide_free others) (λ x w y is r. Turned x w y is r)
+      (λ x w a y is r. Mixed x w a y is r)
       (λ x (w, is) r. let much = wide_const others x w 0 is r in let some = pow_pos w in omega (arith, much, some)) wide_pin n (slice_get_within cells n c there)
       (subst (IsTooWide others) (sym to) wide)
 

@@ -1,10 +1,10 @@
 -- What a renamed function tells of the function.
-use Rattle.std.proofs.Common.{◌≡◌, ℕ, zero, suc, List, [], ◌∷◌, map, slice_get, Some, Contains, refl, sym, ap, subst, ◌∙◌, arith}
+use Rattle.std.proofs.Common.{◌≡◌, ◌⊎◌, inl, inr, ℕ, zero, suc, List, [], ◌∷◌, map, slice_get, Some, Contains, refl, sym, ap, subst, ◌∙◌, arith}
 use Rattle.std.specs.List.{AllByRecursion}
 use Rattle.std.proofs.lemmas.Option.{same_Some}
 use Rattle.gos_netlist.specs.Nets.{Function, Input, Const, Not, And, Or, Xor, Mux, Add, Sub, Eq, Less, Gate, Reg, Cell, pins}
 use Rattle.gos_netcheck.specs.CellRules.{width_at, OperandsFit}
-use Rattle.gos_tidy.specs.Mapped.{renamed, IsConst}
+use Rattle.gos_tidy.specs.Mapped.{renamed, IsConst, IsXorOf}
 use Rattle.gos_tidy.proofs.NarrowLemmas.{pin_first, pin_second, pin_third}
 
 pub renamed_input : (f : ℕ → ℕ) (g : Function) → renamed f g ≡ Input → g ≡ Input
@@ -67,6 +67,30 @@ renamed_not f (Less x y) b e = absurd (cc e)
 renamed_not f (Gate s x) b e = absurd (cc e)
 renamed_not f (Reg a) b e = absurd (cc e)
 
+renamed_mix : (f : ℕ → ℕ) (g : Function) (x y : ℕ) → renamed f g ≡ Xor x y → (a : ℕ) × (b : ℕ) × (g ≡ Xor a b) × (f a ≡ x) × (f b ≡ y)
+renamed_mix f Input x y e = absurd (cc e)
+renamed_mix f (Const k) x y e = absurd (cc e)
+renamed_mix f (Not a) x y e = absurd (cc e)
+renamed_mix f (And a b) x y e = absurd (cc e)
+renamed_mix f (Or a b) x y e = absurd (cc e)
+renamed_mix f (Xor a b) x y e = (a, b, refl, cc e, cc e)
+renamed_mix f (Mux s a b) x y e = absurd (cc e)
+renamed_mix f (Add a b) x y e = absurd (cc e)
+renamed_mix f (Sub a b) x y e = absurd (cc e)
+renamed_mix f (Eq a b) x y e = absurd (cc e)
+renamed_mix f (Less a b) x y e = absurd (cc e)
+renamed_mix f (Gate s a) x y e = absurd (cc e)
+renamed_mix f (Reg a) x y e = absurd (cc e)
+
+-- a Xor in either order has a net that goes to the second of these
+pub renamed_xor : (f : ℕ → ℕ) (g : Function) (x y : ℕ) → (renamed f g ≡ Xor x y) ⊎ (renamed f g ≡ Xor y x) → (a : ℕ) × Contains (pins g) a × (f a ≡ y)
+renamed_xor f g x y (inl e) =
+    let (a, b, same, first, second) = renamed_mix f g x y e in
+    (b, subst (λ (h : Function). Contains (pins h) b) (sym same) (pin_second a b []), second)
+renamed_xor f g x y (inr e) =
+    let (a, b, same, first, second) = renamed_mix f g y x e in
+    (a, subst (λ (h : Function). Contains (pins h) a) (sym same) (pin_first a (b ∷ [])), first)
+
 pub renamed_pins : (f : ℕ → ℕ) (g : Function) → pins (renamed f g) ≡ map f (pins g)
 renamed_pins f Input = refl
 renamed_pins f (Const k) = refl
@@ -109,6 +133,11 @@ one_cell cells n c e first second = same_Some c e (sym first ∙ second)
 
 pub one_gate : (cells : List Cell) (n : ℕ) (c e : Cell) → slice_get cells n ≡ Some c → slice_get cells n ≡ Some e → c.gate ≡ e.gate
 one_gate cells n c e first second = ap (λ (x : Cell). x.gate) (one_cell cells n c e first second)
+
+-- the gate of a Xor of two nets
+pub xor_gate : (cells : List Cell) (m w a x : ℕ) (e : Cell) → IsXorOf cells w m a x → slice_get cells m ≡ Some e → (e.gate ≡ Xor a x) ⊎ (e.gate ≡ Xor x a)
+xor_gate cells m w a x e (inl there) is = inl (sym (one_gate cells m (record { width = w; gate = Xor a x }) e there is))
+xor_gate cells m w a x e (inr there) is = inr (sym (one_gate cells m (record { width = w; gate = Xor x a }) e there is))
 
 pub one_width : (cells : List Cell) (n : ℕ) (c e : Cell) → slice_get cells n ≡ Some c → slice_get cells n ≡ Some e → c.width ≡ e.width
 one_width cells n c e first second = ap (λ (x : Cell). x.width) (one_cell cells n c e first second)

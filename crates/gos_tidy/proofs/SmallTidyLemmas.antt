@@ -6,7 +6,7 @@ use Rattle.std.specs.List.{AllByRecursion}
 use Rattle.std.specs.Prelude.{codes}
 use Rattle.std.proofs.lemmas.Option.{slice_get_within, same_Some}
 use Rattle.gos_types.specs.Types.{Com}
-use Rattle.gos_netlist.specs.Nets.{Input, Const, Not, And, Or, Mux, Reg, Cell, NetPort, Netlist, Give, pins}
+use Rattle.gos_netlist.specs.Nets.{Input, Const, Not, And, Or, Xor, Mux, Reg, Cell, NetPort, Netlist, Give, pins}
 use Rattle.gos_netlist.specs.Settling.{at, shown}
 use Rattle.gos_netlist.specs.SmallNets.{bit, latch}
 use Rattle.gos_netlist.specs.Cycles.{Feeds, IsRegister, HasCycle}
@@ -21,7 +21,7 @@ use Rattle.gos_pace.proofs.SilentLemmas.{silent_lags}
 use Rattle.gos_tidy.specs.Mapped.{IsConst, IsKept, Stands}
 use Rattle.gos_tidy.specs.Reduced.{HasWidth, Stays, IsQuotient, IsPart, IsReduced, NotYet, Again}
 use Rattle.gos_tidy.specs.Tidy.{LeadsTo, IsEnd, IsPin, NamesConstants, IsSpare, Folds, IsTidy}
-use Rattle.gos_tidy.specs.SmallTidy.{command, folding, LatchIsTidied, FoldingIsTidied, TwiceIsNotTidy, SpareIsNotTidy, ChosenIsNotTidy, TurnedIsNotTidy, FoldedIsNotTidy, IdleIsNotTidy, HeldIsTidy, OtherSideIsNotMapped, RegisterIsNotFolded, InputsStayApart, InputsStay, SilentIsNotAlike}
+use Rattle.gos_tidy.specs.SmallTidy.{command, folding, LatchIsTidied, FoldingIsTidied, TwiceIsNotTidy, SpareIsNotTidy, ChosenIsNotTidy, TurnedIsNotTidy, MixedIsNotTidy, FoldedIsNotTidy, IdleIsNotTidy, HeldIsTidy, OtherSideIsNotMapped, RegisterIsNotFolded, InputsStayApart, InputsStay, SilentIsNotAlike}
 use Rattle.gos_tidy.proofs.NarrowLemmas.{pin_first}
 use Rattle.gos_tidy.proofs.RenamedLemmas.{each_of, one_gate}
 use Rattle.gos_tidy.proofs.QuotientLemmas.{ring_back, register_kept}
@@ -370,6 +370,9 @@ chosen_is_not_tidy tidy = tidy.short 2 (bit (Mux 1 0 3)) refl (0, (1, refl))
 
 pub turned_is_not_tidy : TurnedIsNotTidy
 turned_is_not_tidy tidy = tidy.short 2 (bit (Not 1)) refl (1, 0, refl)
+
+pub mixed_is_not_tidy : MixedIsNotTidy
+mixed_is_not_tidy tidy = tidy.short 3 (bit (Xor 2 0)) refl (1, 1, inr (inl refl))
 
 pub folded_is_not_tidy : FoldedIsNotTidy
 folded_is_not_tidy tidy =

@@ -21,11 +21,18 @@ IsFolded others f n c =
     (v : ℕ → ℕ) × ((a : ℕ) → Contains (pins c.gate) a → IsConst others (f a) (v a))
     × ((r i : ℕ) → IsConst others (f n) (shown c.width c.gate r i v))
 
--- The gate shows what one of its nets shows, or 0: a selector is constant, a Not is read by a Not, or both nets are one.
+-- net n is the Xor of net a and net t, in either order, of w bits
+abbrev pub IsXorOf : List Cell → ℕ → ℕ → ℕ → ℕ → Type 0
+IsXorOf cells w n a t =
+    (slice_get cells n ≡ Some (record { width = w; gate = Xor a t })) ⊎ (slice_get cells n ≡ Some (record { width = w; gate = Xor t a }))
+
+-- The gate shows what one of its nets shows, or 0, or what a net of theirs shows: a selector is constant, a Not is read by a
+-- Not, both nets are one, or one net of a Xor is a Xor of the other one.
 abbrev pub IsShort : List Cell → (ℕ → ℕ) → ℕ → ℕ → Function → Type 0
 IsShort others f n w (Not a) = slice_get others (f a) ≡ Some (record { width = w; gate = Not (f n) })
 IsShort others f n w (And a b) = (f a ≡ f b) × (f n ≡ f a)
 IsShort others f n w (Or a b) = (f a ≡ f b) × (f n ≡ f a)
+IsShort others f n w (Xor a b) = IsXorOf others w (f b) (f a) (f n) ⊎ IsXorOf others w (f a) (f b) (f n)
 IsShort others f n w (Mux s a b) =
     (IsConst others (f s) 1 × (f n ≡ f a)) ⊎ ((k : ℕ) × (k ≢ 1) × IsConst others (f s) k × (f n ≡ f b))
 IsShort others f n w (Gate s a) =

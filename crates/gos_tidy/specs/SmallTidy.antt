@@ -3,7 +3,7 @@
 -- Read first: Alike; SmallNets of gos_netlist; SmallPace of gos_pace.
 use Rattle.std.specs.Prelude.{ℕ, List, [], ◌∷◌, codes}
 use Rattle.gos_types.specs.Types.{Com}
-use Rattle.gos_netlist.specs.Nets.{Input, Const, Not, And, Or, Mux, Gate, Reg, Cell, Netlist, Give}
+use Rattle.gos_netlist.specs.Nets.{Input, Const, Not, And, Or, Xor, Mux, Gate, Reg, Cell, Netlist, Give}
 use Rattle.gos_netlist.specs.SmallNets.{bit, latch}
 use Rattle.gos_netlist.specs.Settling.{at}
 use Rattle.gos_pace.specs.SmallPace.{skip_circuit, silent_circuit}
@@ -27,8 +27,8 @@ folding = command (bit Input ∷ bit (Const 1) ∷ bit (And 1 1) ∷ bit (Gate 2
 abbrev pub FoldingIsTidied : Type 0
 FoldingIsTidied = IsTidied folding (command (bit Input ∷ bit (Reg 0) ∷ []) (0 ∷ 1 ∷ []))
 
--- Not tidy: two equal registers; a gate whose pins are one net; a constant selector; a Not of a Not; a gate of constants; and a cell
--- that leads nowhere.
+-- Not tidy: two equal registers; a gate whose pins are one net; a constant selector; a Not of a Not; a Xor of a net and of a
+-- Xor of this net; a gate of constants; and a cell that leads nowhere.
 abbrev pub TwiceIsNotTidy : Type 0
 TwiceIsNotTidy = IsTidy latch.cells (3 ∷ []) → ⊥
 
@@ -40,6 +40,9 @@ ChosenIsNotTidy = IsTidy (bit Input ∷ bit (Const 0) ∷ bit (Mux 1 0 3) ∷ bi
 
 abbrev pub TurnedIsNotTidy : Type 0
 TurnedIsNotTidy = IsTidy (bit Input ∷ bit (Not 0) ∷ bit (Not 1) ∷ bit (Reg 2) ∷ []) (3 ∷ []) → ⊥
+
+abbrev pub MixedIsNotTidy : Type 0
+MixedIsNotTidy = IsTidy (bit Input ∷ bit (Reg 0) ∷ bit (Xor 0 1) ∷ bit (Xor 2 0) ∷ bit (Reg 3) ∷ []) (4 ∷ []) → ⊥
 
 abbrev pub FoldedIsNotTidy : Type 0
 FoldedIsNotTidy = IsTidy (bit (Const 0) ∷ bit (Not 0) ∷ bit (Reg 1) ∷ []) (2 ∷ []) → ⊥

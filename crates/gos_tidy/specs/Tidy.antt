@@ -1,9 +1,9 @@
 -- Tidy cells: none that leads nowhere, none twice, and no gate that is a constant or one of its own nets.
 --
 -- Read first: Mapped. Says nothing of what tidy cells were made from.
-use Rattle.std.specs.Prelude.{◌≡◌, ◌≢◌, ℕ, List, Some, slice_get, Contains}
-use Rattle.gos_netlist.specs.Nets.{Function, Input, Const, Not, And, Or, Mux, Gate, Reg, Cell, pins}
-use Rattle.gos_tidy.specs.Mapped.{IsConst}
+use Rattle.std.specs.Prelude.{◌≡◌, ◌≢◌, ◌⊎◌, ℕ, List, Some, slice_get, Contains}
+use Rattle.gos_netlist.specs.Nets.{Function, Input, Const, Not, And, Or, Xor, Mux, Gate, Reg, Cell, pins}
+use Rattle.gos_tidy.specs.Mapped.{IsConst, IsXorOf}
 
 -- net n leads by pins, through registers too, to one of these nets: it is one, or a pin of a cell whose net leads there
 pub data LeadsTo (cells : List Cell) (ends : List ℕ) : ℕ → Type 0 where
@@ -23,6 +23,7 @@ abbrev pub IsSpare : List Cell → Function → Type 0
 IsSpare cells (Not a) = (w b : ℕ) × (slice_get cells a ≡ Some (record { width = w; gate = Not b }))
 IsSpare cells (And a b) = a ≡ b
 IsSpare cells (Or a b) = a ≡ b
+IsSpare cells (Xor a b) = (w t : ℕ) × (IsXorOf cells w b a t ⊎ IsXorOf cells w a b t)
 IsSpare cells (Mux s a b) = (k : ℕ) × IsConst cells s k
 IsSpare cells (Gate s a) = (k : ℕ) × IsConst cells s k
 IsSpare cells g = ⊥

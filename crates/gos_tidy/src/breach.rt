@@ -1,8 +1,9 @@
 // The first cell that may be changed.
-ghost use Rattle.std.specs.Prelude.{◌≡◌, ◌≢◌, ◌+◌, ◌<◌, ◌≤◌, ◌^◌, ℕ, IsNone, IfOk, IfSome, MatchOption, map, length, slice_get};
-ghost use Rattle.gos_netlist.specs.Nets.{Not, Mux, Gate as Through};
+ghost use Rattle.std.specs.Prelude.{◌≡◌, ◌≢◌, ◌⊎◌, ◌+◌, ◌<◌, ◌≤◌, ◌^◌, ℕ, IsNone, IfOk, IfSome, MatchOption, map, length, slice_get};
+ghost use Rattle.gos_netlist.specs.Nets.{Not, Xor, Mux, Gate as Through};
 ghost use Rattle.gos_netlist.specs.Seen.{cell_of, function_of};
 ghost use Rattle.gos_netcheck.specs.CellRules.{WidthsFit, OperandsFit, width_at, widths_of};
+ghost use Rattle.gos_tidy.specs.Mapped.{IsXorOf};
 ghost use Rattle.gos_tidy.specs.Tidy.{IsSpare};
 ghost use Rattle.gos_tidy.specs.inner.Breaches.{Allows, IsBreach, MayBe, IsFirm, IsFirmAt, AllFirm, IsNew, IsAgain, HasCells};
 
@@ -109,6 +110,7 @@ fn short_change(cells: &[Cell], width: u32, gate: Gate) -> Option<Change>
     match gate {
         Gate::Not(a) => turned_change(cells, width, a),
         Gate::And(a, b) | Gate::Or(a, b) => same_change(a, b),
+        Gate::Xor(a, b) => mixed_change(cells, width, a, b),
         Gate::Mux(s, a, b) => chosen_change(cells, s, a, b),
         Gate::Gate(s, a) => through_change(cells, s, a),
         _ => None,
@@ -133,6 +135,54 @@ fn inner_change(gate: Gate) -> Option<Change>
 {
     match gate {
         Gate::Not(b) => Some(Change::Net(b.0)),
+        _ => None,
+    }
+}
+
+// Of a Xor of which a pin is a Xor of the other one: the net that is left.
+fn mixed_change(cells: &[Cell], width: u32, a: NetId, b: NetId) -> Option<Change>
+    requires first { width_at (widths_of (map cell_of cells.now)) a.0 ≡ width }
+    requires second { width_at (widths_of (map cell_of cells.now)) b.0 ≡ width }
+    ensures allows { IfSome result (Allows (map cell_of cells.now) width (Xor a.0 b.0)) }
+    ensures none { IsNone result → IsSpare (map cell_of cells.now) (Xor a.0 b.0) → ⊥ }
+{
+    match rest_at(cells, width, b, a) {
+        Some(rest) => Some(Change::Net(rest.0)),
+        None => match rest_at(cells, width, a, b) {
+            Some(rest) => Some(Change::Net(rest.0)),
+            None => None,
+        },
+    }
+}
+
+// The net whose Xor with another one a net of so many bits is.
+fn rest_at(cells: &[Cell], width: u32, net: NetId, a: NetId) -> Option<NetId>
+    requires { width_at (widths_of (map cell_of cells.now)) net.0 ≡ width }
+    ensures some { IfSome result (λ rest. IsXorOf (map cell_of cells.now) width net.0 a.0 rest.0) }
+    ensures none { IsNone result → (w t : ℕ) → IsXorOf (map cell_of cells.now) w net.0 a.0 t → ⊥ }
+{
+    match cell_at(cells, net.0) {
+        Some(cell) => rest_of(cell.gate, a),
+        None => None,
+    }
+}
+
+// The net whose Xor with another one a gate is.
+fn rest_of(gate: Gate, a: NetId) -> Option<NetId>
+    ensures { MatchOption result
+        ((t : ℕ) → (function_of gate ≡ Xor a.0 t) ⊎ (function_of gate ≡ Xor t a.0) → ⊥)
+        (λ rest. (function_of gate ≡ Xor a.0 rest.0) ⊎ (function_of gate ≡ Xor rest.0 a.0)) }
+{
+    match gate {
+        Gate::Xor(first, second) => {
+            if first.0 == a.0 {
+                Some(second)
+            } else if second.0 == a.0 {
+                Some(first)
+            } else {
+                None
+            }
+        }
         _ => None,
     }
 }

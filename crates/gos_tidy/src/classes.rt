@@ -14,6 +14,8 @@ pub(crate) enum Known {
     Number(u64),
     // They show the complement of this class.
     Complement(NetId),
+    // They show the Xor of these classes.
+    Mixed(NetId, NetId),
 }
 
 // What a cell is, read by classes.
@@ -96,6 +98,13 @@ impl Classes {
                 _ => Form::Whole(whole),
             },
             Gate::And(a, b) | Gate::Or(a, b) if a.0 == b.0 => Form::Short(a),
+            Gate::Xor(a, b) => match self.rest(b, a) {
+                Some(rest) => Form::Short(rest),
+                None => match self.rest(a, b) {
+                    Some(rest) => Form::Short(rest),
+                    None => Form::Whole(whole),
+                },
+            },
             Gate::Mux(s, a, b) => match self.number(s) {
                 Some(1) => Form::Short(a),
                 Some(_) => Form::Short(b),
@@ -113,11 +122,33 @@ impl Classes {
         }
     }
 
-    // Whether it says more of a class than what is known of it.
+    // The class whose Xor with another one a class is known to show.
+    fn rest(&self, class: NetId, other: NetId) -> Option<NetId> {
+        match self.known_of(class) {
+            Known::Mixed(a, b) => {
+                let first = self.of(a.0);
+                let second = self.of(b.0);
+                if first == other.0 {
+                    Some(NetId(second))
+                } else if second == other.0 {
+                    Some(NetId(first))
+                } else {
+                    None
+                }
+            }
+            _ => None,
+        }
+    }
+
+    // Whether it says more of a class than what is known of it: also where it says the same by classes that others went to.
     pub(crate) fn is_news(&self, class: u32, known: Known) -> bool {
         match (self.known_of(NetId(class)), known) {
-            (Known::Nothing, Known::Number(_) | Known::Complement(_)) => true,
-            (Known::Complement(_), Known::Number(_)) => true,
+            (Known::Nothing, Known::Nothing) => false,
+            (Known::Nothing, _) => true,
+            (Known::Complement(_) | Known::Mixed(_, _), Known::Number(_)) => true,
+            (Known::Mixed(a, b), Known::Mixed(c, d)) => {
+                (a.0 != c.0 || b.0 != d.0) && self.of(a.0) == c.0 && self.of(b.0) == d.0
+            }
             _ => false,
         }
     }
@@ -153,6 +184,7 @@ fn known_by(gate: Gate) -> Known {
     match gate {
         Gate::Const(k) => Known::Number(k),
         Gate::Not(a) => Known::Complement(a),
+        Gate::Xor(a, b) => Known::Mixed(a, b),
         _ => Known::Nothing,
     }
 }

@@ -9,6 +9,7 @@ ghost use Rattle.gos_tidy.specs.SmallTidy.{
   InputsStay,
   InputsStayApart,
   LatchIsTidied,
+  MixedIsNotTidy,
   OtherSideIsNotMapped,
   RegisterIsNotFolded,
   SilentIsNotAlike,
@@ -43,6 +44,7 @@ pub fn small_netlists()
     ensures spare { SpareIsNotTidy }
     ensures chosen { ChosenIsNotTidy }
     ensures turned { TurnedIsNotTidy }
+    ensures mixed { MixedIsNotTidy }
     ensures folded { FoldedIsNotTidy }
     ensures idle { IdleIsNotTidy }
     ensures held { HeldIsTidy }

@@ -4,7 +4,7 @@ ghost use Rattle.gos_netlist.specs.Nets.{Input, Not, Mux, Gate as Through};
 ghost use Rattle.gos_netlist.specs.Seen.{cell_of, function_of};
 ghost use Rattle.gos_netlist.specs.Settling.{at};
 ghost use Rattle.gos_netcheck.specs.Rules.{Kept};
-ghost use Rattle.gos_tidy.specs.Mapped.{IsConst};
+ghost use Rattle.gos_tidy.specs.Mapped.{IsConst, IsXorOf};
 ghost use Rattle.gos_tidy.specs.Reduced.{HasWidth, IsQuotient};
 ghost use Rattle.gos_tidy.specs.inner.Reading.{FoldsTo, IsClosedOf, IsShortOf};
 ghost use Rattle.gos_tidy.specs.inner.Roots.{IsPlaced, IsRoot, StaysAs, AreRoots};
@@ -32,6 +32,7 @@ pub(crate) fn is_short(cells: &[Cell], net: u32, width: u32, gate: Gate) -> bool
     match gate {
         Gate::Not(a) => is_complement(cells, a, net, width),
         Gate::And(a, b) | Gate::Or(a, b) => a.0 == b.0 && net == a.0,
+        Gate::Xor(a, b) => is_xor(cells, b, width, a, net) || is_xor(cells, a, width, b, net),
         Gate::Mux(s, a, b) => is_chosen(cells, net, s, a, b),
         Gate::Gate(s, a) => is_let_through(cells, net, s, a),
         _ => false,
@@ -68,6 +69,16 @@ fn is_complement(cells: &[Cell], net: NetId, of: u32, width: u32) -> bool
 {
     let gate = Gate::Not(NetId(of));
     is_kept(cells, net.0, &Cell { width, gate })
+}
+
+// Whether a net's cell is the Xor of these two nets, in either order, of so many bits.
+fn is_xor(cells: &[Cell], net: NetId, width: u32, a: NetId, of: u32) -> bool
+    ensures { IsTrue result → IsXorOf (map cell_of cells.now) width net.0 a.0 of }
+{
+    let one = Gate::Xor(a, NetId(of));
+    let other = Gate::Xor(NetId(of), a);
+    is_kept(cells, net.0, &Cell { width, gate: one })
+        || is_kept(cells, net.0, &Cell { width, gate: other })
 }
 
 // Whether a net's cell is the constant 0.

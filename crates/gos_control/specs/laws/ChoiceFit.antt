@@ -16,7 +16,7 @@ choice_com_fits =
       );
       inner = λ b i. ((λ same. cc same), ((λ same. cc same), ((λ same. cc same), ((λ same. cc same), ((λ same. cc same), tt)))));
       order = λ b i. (
-        (inl (3, omega arith, inl refl), tt),
+        (inl (3, omega arith, inl refl), (inl (3, omega arith, inl refl), tt)),
         (
           (inl (0, omega arith, inl refl), (inl (0, omega arith, inr (omega arith, refl)), tt)),
           (
@@ -34,7 +34,7 @@ choice_com_fits =
           let p1 = (come 1 (omega arith)).0 in
           let p2 = (come 2 (omega arith)).0 in
           let p3 = (come 3 (omega arith)).0 in (
-            (omega arith, omega arith, p3),
+            (omega arith, omega arith, (p3, p3)),
             (
               (omega arith, omega arith, (p0.0, test)),
               ((omega arith, omega arith, test), ((omega arith, omega arith, (p0.0, w2)), ((omega arith, omega arith, (p1, p2)), tt))),
@@ -57,7 +57,7 @@ choice_exp_fits w some small =
         ((λ same. cc same), ((λ same. cc same), ((λ same. cc same), ((λ same. cc same), ((λ same. cc same), ((λ same. cc same), tt)))))),
       );
       order = λ b i. (
-        (inl (3, omega arith, inl refl), tt),
+        (inl (3, omega arith, inl refl), (inl (3, omega arith, inl refl), tt)),
         (
           (inl (0, omega arith, inl refl), (inl (0, omega arith, inr (omega arith, refl)), tt)),
           (
@@ -87,7 +87,7 @@ choice_exp_fits w some small =
           let p1 = come 1 (omega arith) in
           let p2 = come 2 (omega arith) in
           let p3 = (come 3 (omega arith)).0 in (
-            (omega arith, omega arith, p3),
+            (omega arith, omega arith, (p3, p3)),
             (
               (omega arith, omega arith, (p0.0, test)),
               (

@@ -1,7 +1,7 @@
 -- What gates show, for pulses of 0 or 1.
 --
 -- Read first: Passing.
-use Rattle.std.proofs.Common.{◌≡◌, ℕ, zero, suc, ◌+◌, ◌≤◌, Bool, true, false, List, ◌++◌, refl, sym, subst, arith}
+use Rattle.std.proofs.Common.{◌≡◌, ℕ, zero, suc, ◌+◌, ◌≤◌, Bool, true, false, List, ◌++◌, refl, sym, ap, subst, arith}
 use Rattle.std.specs.Prelude.{◌-◌, ◌<◌, nat_eq, if◌then◌else◌, bit_or, bit_and}
 use Rattle.std.proofs.lemmas.Nat.{le_or_l, le_or_r}
 use Rattle.gos_plan.specs.Firing.{Req, Token}
@@ -25,18 +25,19 @@ test_table (suc zero) (suc zero) h k = (refl, refl)
 test_table (suc (suc p)) t h k = absurd (omega (arith, h))
 test_table p (suc (suc t)) h k = absurd (omega (arith, k))
 
--- a pulse goes to one of two sides
-pub to_one_side : (t : ℕ) (p : ℕ) → p ≤ 1 → ((if nat_eq t 1 then p else 0) ≤ 1) × ((if nat_eq t 1 then 0 else p) ≤ 1)
-to_one_side t p h = by_test (nat_eq t 1)
-  where
-    by_test : (b : Bool) → ((if b then p else 0) ≤ 1) × ((if b then 0 else p) ≤ 1)
-    by_test true = (h, omega arith)
-    by_test false = (omega arith, h)
-
 -- nothing goes to either side without a pulse
 pub to_no_side : (t : Bool) (p : ℕ) → p ≡ 0 → (0 ≡ (if t then p else 0)) × (0 ≡ (if t then 0 else p))
 to_no_side true p h = (sym h, refl)
 to_no_side false p h = (refl, sym h)
+
+-- one more on the side of a test
+pub one_more : (t : Bool) (d m : ℕ) → d ≡ (if t then m else 0) → (if t then suc d else d) ≡ (if t then suc m else 0)
+one_more true d m h = ap suc h
+one_more false d m h = h
+
+pub one_less : (t : Bool) (d m : ℕ) → d ≡ (if t then 0 else m) → (if t then d else suc d) ≡ (if t then 0 else suc m)
+one_less true d m h = h
+one_less false d m h = ap suc h
 
 -- of two pulses at most one comes
 pub or_table : (p q : ℕ) → p + q ≤ 1 → bit_or p q ≡ p + q

@@ -11,6 +11,7 @@ use Rattle.gos_plan.specs.Firings.{due, value_due, Asked, Fires, times}
 use Rattle.gos_macro.specs.Law.{GatesLaw, StaySilent}
 use Rattle.gos_macro.specs.Kept.{KeepLaws}
 use Rattle.gos_plan.specs.laws.Inversion.{by_one_row}
+use Rattle.gos_macro.specs.laws.AnyOrder.{law_in_order}
 use Rattle.gos_macro.specs.laws.Passing.{buffered, repeated, bears, let_through, same_tokens}
 use Rattle.gos_control.specs.laws.Pulses.{neither, passed_over}
 use Rattle.gos_control.specs.Seq.{seq_com_layout, seq_exp_layout, seq_com_outs, seq_exp_outs, IsSeqPhase, seq_stands}
@@ -102,7 +103,7 @@ seq_exp_silent w b i v regs after (c0, k0, (c1, k1, (c2, k2, (c3, k3, none)))) p
 pub seq_com_gates : KeepLaws (Seq 0) (λ b. seq_com_layout) seq_com_outs [] nothing_pending seq_stands
 seq_com_gates =
     record {
-      law = seq_com_law;
+      law = law_in_order (Seq 0) (λ b. seq_com_layout) seq_com_outs [] nothing_pending seq_stands seq_com_law;
       rests = λ b regs zeros. (tt, refl);
       silent = λ b i v regs after settled pulses. tt;
       fits =
@@ -127,7 +128,7 @@ seq_com_gates =
 pub seq_exp_gates : (w : ℕ) → 1 ≤ w → w ≤ GREATEST_WIDTH → KeepLaws (Seq w) (λ b. seq_exp_layout w) seq_exp_outs [] nothing_pending seq_stands
 seq_exp_gates w some small =
     record {
-      law = seq_exp_law w some;
+      law = law_in_order (Seq w) (λ b. seq_exp_layout w) seq_exp_outs [] nothing_pending seq_stands (seq_exp_law w some);
       rests = λ b regs zeros. (tt, refl);
       silent = seq_exp_silent w;
       fits =

@@ -13,6 +13,7 @@ use Rattle.gos_macro.specs.Gates.{held}
 use Rattle.gos_macro.specs.Law.{StaySilent}
 use Rattle.gos_macro.specs.Fit.{GatesFit}
 use Rattle.gos_macro.specs.Kept.{KeepLaws}
+use Rattle.gos_macro.specs.laws.AnyOrder.{law_in_order}
 use Rattle.gos_macro.specs.laws.SettledCells.{settled_both}
 use Rattle.gos_data.specs.BodyAnswer.{number_cells}
 use Rattle.gos_data.specs.Array.{array_nets, array_words, array_cells, array_outs, array_late, array_pending, found, ArrayStands}
@@ -47,7 +48,7 @@ pub array_gates : (w n u : ℕ) → IsWidth w → IsLength n → u ≤ GREATEST_
 array_gates w n u width long small =
     let known = indexed n long in
     record {
-      law = array_law w n u width known.narrow.0;
+      law = law_in_order (Array w n u) (array_cells w n u) (array_outs n u) array_late array_pending (ArrayStands n) (array_law w n u width known.narrow.0);
       rests = λ b regs zeros. (
         record {
           entered = omega (arith, zeros (b + 0));

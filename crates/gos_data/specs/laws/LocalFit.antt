@@ -13,6 +13,7 @@ use Rattle.gos_macro.specs.Gates.{Incoming, held}
 use Rattle.gos_macro.specs.Law.{StaySilent}
 use Rattle.gos_macro.specs.Fit.{IsKnown, NameEarlier, BitsComeIn, HaveBits, GatesFit}
 use Rattle.gos_macro.specs.Kept.{KeepLaws}
+use Rattle.gos_macro.specs.laws.AnyOrder.{law_in_order}
 use Rattle.gos_data.specs.BodyAnswer.{number_cells}
 use Rattle.gos_data.specs.Local.{variable_cells, local_cells, local_outs, local_late, local_pending, LocalStands}
 use Rattle.gos_data.specs.laws.LocalKept.{local_law}
@@ -130,7 +131,7 @@ local_silent w (suc u) b i v regs after
 pub local_gates : (w u : ℕ) → IsWidth w → u ≤ GREATEST_WIDTH → KeepLaws (Local w u) (local_cells w u) (local_outs u) local_late local_pending LocalStands
 local_gates w u width small =
     record {
-      law = local_law w u width;
+      law = law_in_order (Local w u) (local_cells w u) (local_outs u) local_late local_pending LocalStands (local_law w u width);
       rests = λ b regs zeros. (
         record {
           asked = omega (arith, zeros (b + 0));

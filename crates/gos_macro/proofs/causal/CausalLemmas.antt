@@ -9,15 +9,16 @@ use Rattle.gos_netlist.specs.Nets.{Cell}
 use Rattle.gos_netlist.specs.Settling.{Numbers, at}
 use Rattle.gos_plan.specs.Kinds.{Part, part_contacts}
 use Rattle.gos_plan.specs.Firing.{State, Token}
-use Rattle.gos_macro.specs.Gates.{Incoming, Outgoing, pulse_in, is_among, Shows}
+use Rattle.gos_macro.specs.Gates.{Incoming, Outgoing, pulse_in, is_among, ShowOneAt, ShowOne}
 use Rattle.gos_plan.specs.Firings.{due, value_due}
+use Rattle.gos_macro.specs.Law.{Order}
 use Rattle.gos_macro.specs.Kept.{KeepLaws}
 use Rattle.gos_macro.specs.Paths.{Path, IsIn, IsOut, KeepPaths}
-use Rattle.gos_macro.specs.causal.Causal.{Set, all, ShowsAt, HearsAll, FollowRows, CausalLaw, LateIsUnseen, AreCausal}
+use Rattle.gos_macro.specs.causal.Causal.{Set, all, HearsAll, FollowRows, CausalLaw, LateIsUnseen, AreCausal}
 use Rattle.gos_macro.proofs.causal.CellLemmas.{meets}
 use Rattle.gos_macro.proofs.causal.SpreadLemmas.{of_pulse, of_value}
 use Rattle.gos_macro.proofs.causal.AgreeLemmas.{Both, agree}
-use Rattle.gos_macro.proofs.causal.OutLemmas.{shows_at, shows_each, goes_out, is_own, same_nets}
+use Rattle.gos_macro.proofs.causal.OutLemmas.{goes_out, is_own, same_nets}
 use Rattle.gos_macro.proofs.causal.PartedLemmas.{Cycle, shakes, wires, back, values, Parted, parted}
 use Rattle.gos_macro.proofs.causal.LessLemmas.{less_pulse, less_number, counted, less_shows}
 
@@ -71,31 +72,29 @@ at_out k cells outs late passing b i v regs after y inside x to hears o is z out
 
 shows_partly : (k : Part) (cells : ℕ → Incoming → List Cell) (outs : ℕ → List Outgoing) (late : List ℕ) (passing : ℕ → ℕ → Bool) (b : ℕ) (i : Incoming) (v regs after : Numbers)
     → Cycle k cells outs late passing b i v regs after → (inside : Set) → Parted k cells late b i v regs inside → (ts : List Token)
-    → ((x : Parted k cells late b i v regs inside) → Shows x.less.now 0 (outs b) ts)
-    → (to : ℕ) → HearsAll k passing inside to → ShowsAt v (outs b) ts to
-shows_partly k cells outs late passing b i v regs after y inside x ts less_show to hears o is =
-    let shows = shows_at x.less.now (outs b) ts (less_show x) to o is in
-    (shows.0, same_nets v x.less.now o (due to ts) (value_due to ts) (at_out k cells outs late passing b i v regs after y inside x to hears o is) shows.1)
+    → ((x : Parted k cells late b i v regs inside) → ShowOne x.less.now (outs b) ts)
+    → (to : ℕ) → HearsAll k passing inside to → ShowOneAt v (outs b) ts to
+shows_partly k cells outs late passing b i v regs after y inside x ts less_show to hears o is alone =
+    same_nets v x.less.now o (due to ts) (value_due to ts) (at_out k cells outs late passing b i v regs after y inside x to hears o is) (less_show x to o is alone)
 
 -- Gates that follow the rows of their part show what some firings put, where a handshake hears all by them.
 pub causal : CausalLaw
-causal k cells outs late passing fits paths b regs q pending follow i v after inside s ts settled range fired =
+causal k cells outs late rank passing fits paths b regs q pending follow i v after inside s ts settled range fired =
     let y : Cycle k cells outs late passing b i v regs after = record { fits = fits; paths = paths; settled = settled } in
     shows_partly k cells outs late passing b i v regs after y inside (parted k cells outs late passing b i v regs after y inside) (pending ++ ts)
-    (λ x. less_shows k cells outs late b i v regs inside q s pending ts follow x range fired)
+    (λ x. less_shows k cells outs late rank b i v regs inside q s pending ts follow x range fired)
 
 -- They show what the early firings put, whatever comes in late.
 pub late_is_unseen : LateIsUnseen
-late_is_unseen k cells outs late passing fits paths b regs q pending follow i v after s ts settled range fired =
-    shows_each v (outs b) (pending ++ ts)
-    (λ to. causal k cells outs late passing fits paths b regs q pending follow i v after all s ts settled range fired to (λ from small passes. refl))
+late_is_unseen k cells outs late rank passing fits paths b regs q pending follow i v after s ts settled range fired =
+    λ to. causal k cells outs late rank passing fits paths b regs q pending follow i v after all s ts settled range fired to (λ from small passes. refl)
 
 -- gates that keep the law follow the rows from registers that stand for a state
 pub follow_rows : (k : Part) (cells : ℕ → Incoming → List Cell) (outs : ℕ → List Outgoing) (late : List ℕ) (pending : ℕ → Numbers → List Token)
-    → (stands : ℕ → Numbers → State → Type 0) → KeepLaws k cells outs late pending stands → (b : ℕ) (regs : Numbers) (q : State) → stands b regs q
-    → FollowRows k cells outs late b regs q (pending b regs)
-follow_rows k cells outs late pending stands keep b regs q at_state i v after s ts us settled pulses fit fired =
-    (keep.law b i v regs after q s ts us settled pulses fit at_state fired).0
+    → (stands : ℕ → Numbers → State → Type 0) → KeepLaws k cells outs late pending stands → (rank : Order) (b : ℕ) (regs : Numbers) (q : State) → stands b regs q
+    → FollowRows k cells outs late rank b regs q (pending b regs)
+follow_rows k cells outs late pending stands keep rank b regs q at_state i v after s ts us settled pulses fit fired =
+    (keep.law rank b i v regs after q s ts us settled pulses fit at_state fired).0
 
 -- so they are causal
 pub are_causal : (k : Part) (cells : ℕ → Incoming → List Cell) (outs : ℕ → List Outgoing) (late : List ℕ) (pending : ℕ → Numbers → List Token)
@@ -103,6 +102,6 @@ pub are_causal : (k : Part) (cells : ℕ → Incoming → List Cell) (outs : ℕ
     → AreCausal k cells outs late pending stands passing
 are_causal k cells outs late pending stands passing keep paths =
     record {
-      partly = λ b regs q at_state. causal k cells outs late passing keep.fits paths b regs q (pending b regs) (follow_rows k cells outs late pending stands keep b regs q at_state);
-      early = λ b regs q at_state. late_is_unseen k cells outs late passing keep.fits paths b regs q (pending b regs) (follow_rows k cells outs late pending stands keep b regs q at_state);
+      partly = λ rank b regs q at_state. causal k cells outs late rank passing keep.fits paths b regs q (pending b regs) (follow_rows k cells outs late pending stands keep rank b regs q at_state);
+      early = λ rank b regs q at_state. late_is_unseen k cells outs late rank passing keep.fits paths b regs q (pending b regs) (follow_rows k cells outs late pending stands keep rank b regs q at_state);
     }

@@ -1,36 +1,60 @@
 -- Slots with a pulse, and firings by them, where pulses and values agree.
 use Rattle.std.proofs.Common.{◌≡◌, ℕ, zero, suc, ◌+◌, ◌<◌, ◌≤◌, Bool, true, false, List, [], ◌∷◌, ◌++◌, length, refl, sym, ◌∙◌, ap, subst, arith, if◌then◌else◌}
-use Rattle.std.specs.Prelude.{nat_eq}
-use Rattle.gos_types.specs.declared.shakes.Role.{Role}
-use Rattle.gos_types.specs.declared.shakes.Role.TheVariants.{Serve, Ask}
+use Rattle.std.specs.Prelude.{nat_eq, ◌&&◌}
 use Rattle.gos_plan.specs.Kinds.{Part, Contact}
 use Rattle.gos_plan.specs.Firing.{State, Slot, Req, Ans, Token, same_slot}
 use Rattle.gos_plan.specs.Tokens.{shake_of}
 use Rattle.gos_macro.specs.Gates.{incoming_bits, slot_in, slots_of}
-use Rattle.gos_macro.specs.Law.{pulse_at, pulsed}
+use Rattle.gos_macro.specs.Law.{pulse_at, pulsed, Order, in_order}
+use Rattle.gos_macro.specs.laws.Counting.{shake_in}
 use Rattle.gos_plan.specs.Firings.{Asked, after_taking, after_putting, PutsWell, Fires, times}
 use Rattle.gos_plan.specs.laws.Inversion.{same as same_slots}
 
-shake_in : (r : Role) (h : ℕ) → shake_of (slot_in r h) ≡ h
-shake_in Serve h = refl
-shake_in Ask h = refl
-
--- pulses that agree at some handshakes agree at their slots
-pub same_pulses : (p r : ℕ → ℕ) (these : ℕ → Bool) (limit : ℕ) (s : Slot) → ((h : ℕ) → h < limit → these h ≡ true → p h ≡ r h)
-    → (h : ℕ) (cs : List Contact) → h + length cs ≤ limit → pulse_at p s (slots_of these h cs) ≡ pulse_at r s (slots_of these h cs)
-same_pulses p r these limit s same h [] within = refl
-same_pulses p r these limit s same h (c ∷ cs) within =
-    by_test (these h) (same h (omega (arith, within))) (same_pulses p r these limit s same (suc h) cs (omega (arith, within))) refl
+-- pulses that agree at some handshakes are those of the same slots
+same_pulsed : (p r : ℕ → ℕ) (these : ℕ → Bool) (limit : ℕ) → ((h : ℕ) → h < limit → these h ≡ true → p h ≡ r h)
+    → (h : ℕ) (cs : List Contact) → h + length cs ≤ limit → pulsed p (slots_of these h cs) ≡ pulsed r (slots_of these h cs)
+same_pulsed p r these limit same h [] within = refl
+same_pulsed p r these limit same h (c ∷ cs) within =
+    by_test (these h) (same h (omega (arith, within))) (same_pulsed p r these limit same (suc h) cs (omega (arith, within))) refl
   where
     at_slot : p h ≡ r h → p (shake_of (slot_in c.role h)) ≡ r (shake_of (slot_in c.role h))
     at_slot here = ap p (shake_in c.role h) ∙ (here ∙ ap r (sym (shake_in c.role h)))
 
-    by_test : (t : Bool) → (these h ≡ true → p h ≡ r h) → pulse_at p s (slots_of these (suc h) cs) ≡ pulse_at r s (slots_of these (suc h) cs) → these h ≡ t
-        → pulse_at p s (if t then slot_in c.role h ∷ slots_of these (suc h) cs else slots_of these (suc h) cs)
-        ≡ pulse_at r s (if t then slot_in c.role h ∷ slots_of these (suc h) cs else slots_of these (suc h) cs)
+    by_test : (t : Bool) → (these h ≡ true → p h ≡ r h) → pulsed p (slots_of these (suc h) cs) ≡ pulsed r (slots_of these (suc h) cs) → these h ≡ t
+        → pulsed p (if t then slot_in c.role h ∷ slots_of these (suc h) cs else slots_of these (suc h) cs)
+        ≡ pulsed r (if t then slot_in c.role h ∷ slots_of these (suc h) cs else slots_of these (suc h) cs)
     by_test true here rest is =
-        λ j. if same_slot (slot_in c.role h) s then at_slot (here is) j else rest j
+        λ j. if nat_eq (at_slot (here is) j) 1 then slot_in c.role h ∷ rest j else rest j
     by_test false here rest is = rest
+
+pub pulsed-append : (p : ℕ → ℕ) (xs ys : List Slot) → pulsed p (xs ++ ys) ≡ pulsed p xs ++ pulsed p ys
+pulsed-append p [] ys = refl
+pulsed-append p (x ∷ xs) ys = by_test (nat_eq (p (shake_of x)) 1) (pulsed-append p xs ys)
+  where
+    by_test : (b : Bool) → pulsed p (xs ++ ys) ≡ pulsed p xs ++ pulsed p ys
+        → (if b then x ∷ pulsed p (xs ++ ys) else pulsed p (xs ++ ys)) ≡ (if b then x ∷ pulsed p xs else pulsed p xs) ++ pulsed p ys
+    by_test true h = ap (λ (l : List Slot). x ∷ l) h
+    by_test false h = h
+
+-- in each order, below a rank
+pub same_in_order : (p r : ℕ → ℕ) (rank : Order) (these : ℕ → Bool) (cs : List Contact) (top : ℕ)
+    → ((h : ℕ) → h < length cs → these h ≡ true → rank h < top → p h ≡ r h) → pulsed p (in_order rank top these cs) ≡ pulsed r (in_order rank top these cs)
+same_in_order p r rank these cs zero same = refl
+same_in_order p r rank these cs (suc top) same =
+    pulsed-append p (in_order rank top these cs) here
+    ∙ ((λ j. same_in_order p r rank these cs top (λ h small is low. same h small is (omega (arith, low))) j
+    ++ same_pulsed p r chosen (length cs) (λ h small is. at_top h small (these h) refl is) 0 cs (omega arith) j)
+    ∙ sym (pulsed-append r (in_order rank top these cs) here))
+  where
+    chosen : ℕ → Bool
+    chosen h = these h && nat_eq (rank h) top
+
+    here : List Slot
+    here = slots_of chosen 0 cs
+
+    at_top : (h : ℕ) → h < length cs → (x : Bool) → these h ≡ x → (x && nat_eq (rank h) top) ≡ true → p h ≡ r h
+    at_top h small true is same_rank = let equal : rank h ≡ top = grind (arith, same_rank) in same h small is (omega (arith, equal))
+    at_top h small false is same_rank = absurd (cc same_rank)
 
 -- where there are no pulses, no slot has one
 pub none_pulsed : (p : ℕ → ℕ) (these : ℕ → Bool) (limit : ℕ) → ((h : ℕ) → h < limit → these h ≡ true → p h ≡ 0)

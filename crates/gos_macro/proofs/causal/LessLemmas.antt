@@ -6,12 +6,13 @@ use Rattle.gos_netlist.specs.Settling.{Numbers, at}
 use Rattle.gos_plan.specs.Kinds.{Part, part_contacts}
 use Rattle.gos_plan.specs.Firing.{State, Slot, Token}
 use Rattle.gos_plan.specs.Tokens.{shake_of}
-use Rattle.gos_macro.specs.Gates.{Incoming, Outgoing, incoming_bits, pulse_in, value_in, is_among, Shows}
-use Rattle.gos_macro.specs.Law.{pulsed, late_slots, Fired, PulsesComeIn}
+use Rattle.gos_macro.specs.Gates.{Incoming, Outgoing, incoming_bits, pulse_in, value_in, is_among, ShowOne}
+use Rattle.gos_macro.specs.Law.{pulsed, late_slots, Order, early_in_order, FiredInOrder, PulsesComeIn}
 use Rattle.gos_plan.specs.Firings.{Fires, times}
 use Rattle.gos_macro.specs.causal.Causal.{Set, pulses_of, PartlyFired, ComeInRange, FollowRows}
+use Rattle.gos_macro.specs.laws.AnyOrder.{exactly_in_order}
 use Rattle.gos_macro.proofs.causal.SpreadLemmas.{of_pulse, of_value}
-use Rattle.gos_macro.proofs.causal.FiringLemmas.{same_pulses, none_pulsed, bits_within, same_value, has_value, value_fits, pulsing, fires_same}
+use Rattle.gos_macro.proofs.causal.FiringLemmas.{same_in_order, none_pulsed, bits_within, same_value, has_value, value_fits, pulsing, fires_same}
 use Rattle.gos_macro.proofs.causal.PartedLemmas.{shakes, wires, cut, values, Parted}
 
 -- what the second settling has at the wires
@@ -53,6 +54,14 @@ not_late : (a : Bool) → not a ≡ true → a ≡ true → ⊥
 not_late true e h = cc e
 not_late false e h = cc h
 
+is_early : (a : Bool) → not a ≡ true → a ≡ false
+is_early true e = cc e
+is_early false e = refl
+
+at_most_one : (c : Bool) (p : ℕ) → (c ≡ true → p ≤ 1) → (if c then p else 0) ≤ 1
+at_most_one true p small = small refl
+at_most_one false p small = omega arith
+
 in_set : (c : Bool) (p : ℕ) → 1 ≤ (if c then p else 0) → c ≡ true
 in_set true p some = refl
 in_set false p some = absurd (omega (arith, some))
@@ -66,17 +75,21 @@ less_value k cells late b i v regs inside x h early is =
     (λ some. counted (is_among late h) (inside h) (values v i h) early is ∙ sym (less_number k cells late b i v regs inside x h some))
 
 -- so the part fires by the rest, and nothing is late
-less_fired : (k : Part) (cells : ℕ → Incoming → List Cell) (late : List ℕ) (b : ℕ) (i : Incoming) (v regs : Numbers) (inside : Set) (q s : State) (ts : List Token)
-    → (x : Parted k cells late b i v regs inside) → PartlyFired k late v i inside q s ts → Fired k late x.less.now (wires k cells b i) q s ts []
-less_fired k cells late b i v regs inside q s ts x fired =
+less_fired : (k : Part) (cells : ℕ → Incoming → List Cell) (late : List ℕ) (rank : Order) (b : ℕ) (i : Incoming) (v regs : Numbers) (inside : Set) (q s : State) (ts : List Token)
+    → (x : Parted k cells late b i v regs inside) → ComeInRange k late v i inside → PartlyFired k late rank v i inside q s ts
+    → FiredInOrder k late rank x.less.now (wires k cells b i) q s ts []
+less_fired k cells late rank b i v regs inside q s ts x range fired =
     record {
       before = fired.before;
       between = fired.behind;
       behind = fired.behind;
       state = s;
-      list = fired.list;
-      exactly = λ t. fired.exactly t ∙ same_pulses (pulses_of inside (pulse_in v i)) pulse these (shakes k) t early 0 (part_contacts k) (omega arith);
-      sooner = fires_same k (value_in k v i) (value_in k x.less.now (wires k cells b i)) fired.before q fired.list fired.behind s ts listed fired.fires;
+      top = fired.top;
+      above = fired.above;
+      sooner =
+          subst (λ (l : List Slot). Fires k (value_in k x.less.now (wires k cells b i)) fired.before q l fired.behind s ts)
+          (same_in_order (pulses_of inside (pulse_in v i)) pulse rank these (part_contacts k) fired.top (λ h small kept low. early h small kept))
+          (fires_same k (value_in k v i) (value_in k x.less.now (wires k cells b i)) fired.before q slots fired.behind s ts listed fired.fires);
       later = subst (λ (l : List Slot). Fires k (value_in k x.less.now (wires k cells b i)) fired.behind s l fired.behind s []) (sym nothing) (refl, refl, refl);
     }
   where
@@ -85,6 +98,12 @@ less_fired k cells late b i v regs inside q s ts x fired =
 
     these : ℕ → Bool
     these h = not (is_among late h)
+
+    slots : List Slot
+    slots = pulsed (pulses_of inside (pulse_in v i)) (early_in_order k late rank fired.top)
+
+    small_early : (h : ℕ) → h < shakes k → these h ≡ true → pulses_of inside (pulse_in v i) h ≤ 1
+    small_early h small kept = at_most_one (inside h) (pulse_in v i h) (λ is. (range h small is (is_early (is_among late h) kept)).0)
 
     early : (h : ℕ) → h < shakes k → these h ≡ true → pulses_of inside (pulse_in v i) h ≡ pulse h
     early h small kept = kept_in (is_among late h) (inside h) (pulse_in v i h) kept ∙ sym (less_pulse k cells late b i v regs inside x h small)
@@ -95,9 +114,9 @@ less_fired k cells late b i v regs inside q s ts x fired =
         (λ h small waits. less_pulse k cells late b i v regs inside x h small ∙ left_out (is_among late h) (inside h) (pulse_in v i h) waits)
         0 (part_contacts k) (omega arith)
 
-    listed : (t : Slot) → 1 ≤ times t fired.list → value_in k v i (shake_of t) ≡ value_in k x.less.now (wires k cells b i) (shake_of t)
+    listed : (t : Slot) → 1 ≤ times t slots → value_in k v i (shake_of t) ≡ value_in k x.less.now (wires k cells b i) (shake_of t)
     listed t some =
-        let there = pulsing (pulses_of inside (pulse_in v i)) these (shakes k) t 0 (part_contacts k) (omega arith) (subst (λ (n : ℕ). 1 ≤ n) (fired.exactly t) some) in
+        let there = pulsing (pulses_of inside (pulse_in v i)) these (shakes k) t 0 (part_contacts k) (omega arith) (subst (λ (n : ℕ). 1 ≤ n) (exactly_in_order (pulses_of inside (pulse_in v i)) rank fired.top these (part_contacts k) fired.above small_early t) some) in
         less_value k cells late b i v regs inside x (shake_of t) (not_late (is_among late (shake_of t)) there.among) (in_set (inside (shake_of t)) (pulse_in v i (shake_of t)) there.some)
 
 -- what comes in is in range
@@ -120,9 +139,9 @@ less_values k cells late b i v regs inside x range h =
     positive = pow_pos (incoming_bits (part_contacts k) h)
 
 -- and the gates show what is put
-pub less_shows : (k : Part) (cells : ℕ → Incoming → List Cell) (outs : ℕ → List Outgoing) (late : List ℕ) (b : ℕ) (i : Incoming) (v regs : Numbers) (inside : Set)
-    → (q s : State) (pending ts : List Token) → FollowRows k cells outs late b regs q pending → (x : Parted k cells late b i v regs inside)
-    → ComeInRange k late v i inside → PartlyFired k late v i inside q s ts → Shows x.less.now 0 (outs b) (pending ++ ts)
-less_shows k cells outs late b i v regs inside q s pending ts follow x range fired =
+pub less_shows : (k : Part) (cells : ℕ → Incoming → List Cell) (outs : ℕ → List Outgoing) (late : List ℕ) (rank : Order) (b : ℕ) (i : Incoming) (v regs : Numbers) (inside : Set)
+    → (q s : State) (pending ts : List Token) → FollowRows k cells outs late rank b regs q pending → (x : Parted k cells late b i v regs inside)
+    → ComeInRange k late v i inside → PartlyFired k late rank v i inside q s ts → ShowOne x.less.now (outs b) (pending ++ ts)
+less_shows k cells outs late rank b i v regs inside q s pending ts follow x range fired =
     follow (wires k cells b i) x.less.now x.less.after s ts [] x.less.settled (less_pulses k cells late b i v regs inside x range)
-    (less_values k cells late b i v regs inside x range) (less_fired k cells late b i v regs inside q s ts x fired)
+    (less_values k cells late b i v regs inside x range) (less_fired k cells late rank b i v regs inside q s ts x range fired)

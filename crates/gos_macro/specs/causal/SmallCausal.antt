@@ -5,10 +5,10 @@ use Rattle.std.specs.Prelude.{[], ◌∷◌, false}
 use Rattle.gos_netlist.specs.Settling.{Numbers}
 use Rattle.gos_plan.specs.Kinds.{Skip}
 use Rattle.gos_plan.specs.Firing.{Rest, Ans, at, put}
-use Rattle.gos_macro.specs.Gates.{Incoming, nothing_pending}
+use Rattle.gos_macro.specs.Gates.{Incoming, ShowOneAt, nothing_pending}
 use Rattle.gos_macro.specs.SmallGates.{skip_cells, skip_outs, skip_stands}
 use Rattle.gos_macro.specs.SmallPaths.{skip_passing}
-use Rattle.gos_macro.specs.causal.Causal.{Set, PartlyFired, all, ShowsAt, CausalUnder, AreCausal}
+use Rattle.gos_macro.specs.causal.Causal.{Set, PartlyFired, all, CausalUnder, AreCausal}
 
 -- all nets that come in are net 1
 abbrev pub joined : Incoming
@@ -24,11 +24,11 @@ none h = false
 
 -- Skip fires by its request, and puts an answer
 abbrev pub SkipFiresPartly : Type 0
-SkipFiresPartly = PartlyFired Skip [] asked_once joined all (at Rest 0) (at Rest 0) (put (Ans 0) 0 ∷ [])
+SkipFiresPartly = PartlyFired Skip [] (λ h. 0) asked_once joined all (at Rest 0) (at Rest 0) (put (Ans 0) 0 ∷ [])
 
 -- and by no pulse, and then puts nothing
 abbrev pub SkipFiresByNone : Type 0
-SkipFiresByNone = PartlyFired Skip [] asked_once joined none (at Rest 0) (at Rest 0) []
+SkipFiresByNone = PartlyFired Skip [] (λ h. 0) asked_once joined none (at Rest 0) (at Rest 0) []
 
 -- its gates are causal
 abbrev pub SkipIsCausal : Type 0
@@ -36,7 +36,11 @@ SkipIsCausal = AreCausal Skip skip_cells skip_outs [] nothing_pending skip_stand
 
 -- they show the answer, and it would be wrong to say that they show none
 abbrev pub SkipShowsItsAnswer : Type 0
-SkipShowsItsAnswer = ShowsAt asked_once (skip_outs 0) (put (Ans 0) 0 ∷ []) 0 × (ShowsAt asked_once (skip_outs 0) [] 0 → ⊥)
+SkipShowsItsAnswer = ShowOneAt asked_once (skip_outs 0) (put (Ans 0) 0 ∷ []) 0 × (ShowOneAt asked_once (skip_outs 0) [] 0 → ⊥)
+
+-- where two answers are due, nothing is said
+abbrev pub TwoAreNotShown : Type 0
+TwoAreNotShown = (v : Numbers) → ShowOneAt v (skip_outs 0) (put (Ans 0) 0 ∷ put (Ans 0) 0 ∷ []) 0
 
 -- So the law needs its demand: without one, the gates of Skip would show nothing at their handshake.
 abbrev pub DemandIsNeeded : Type 0

@@ -75,8 +75,5 @@ no_value_held j s (suc (suc m)) small = absurd (omega (arith, small))
 pub due_behind : (j : ℕ) (s : Slot) (m : ℕ) (ts : List Token) → m ≤ 1 → due j (held s m ++ ts) ≡ (if nat_eq (shake_of s) j then m else 0) + due j ts
 due_behind j s m ts small = due_append j (held s m) ts ∙ ap (λ (n : ℕ). n + due j ts) (due_held j s m small)
 
-pub value_behind : (j : ℕ) (s : Slot) (m : ℕ) (ts : List Token) → m ≤ 1 → value_due j (held s m ++ ts) ≡ value_due j ts
-value_behind j s m ts small = omega (arith, value_append j (held s m) ts, no_value_held j s m small)
-
 pub same_tokens : (ts us : List Token) → ts ≡ us → SameTokens ts us
 same_tokens ts us same = λ j. (ap (due j) same, ap (value_due j) same)

@@ -2,9 +2,11 @@
 use Rattle.std.proofs.Common.{◌≡◌, inl, inr, ◌⊎◌, ℕ, suc, List, [], ◌∷◌, Some, refl, sym, ◌∙◌, ap, subst, arith}
 use Rattle.gos_plan.specs.Kinds.{Skip}
 use Rattle.gos_plan.specs.Firing.{Rest, State, Slot, Req, Ans, Token, row, at, put, row_for}
-use Rattle.gos_macro.specs.Gates.{pulse_in, value_in}
+use Rattle.gos_macro.specs.Gates.{pulse_in, value_in, nothing_pending}
+use Rattle.gos_macro.specs.Law.{GatesLaw}
 use Rattle.gos_plan.specs.Firings.{due, value_due, Asked, Fires, times}
-use Rattle.gos_macro.specs.SmallGates.{SkipGates}
+use Rattle.gos_macro.specs.SmallGates.{skip_cells, skip_outs, skip_stands, SkipGates}
+use Rattle.gos_macro.specs.laws.AnyOrder.{law_in_order}
 use Rattle.gos_plan.specs.laws.Inversion.{first_or_later, no_row, stepped, passes, at_rest}
 
 -- Skip: each request is answered.
@@ -22,18 +24,21 @@ skip_counts x o n (s ∷ ss) p r ts (w, us, f, well, puts, go) = by_row (first_o
         (ap (due 0) e.puts ∙ (ap suc known.0 ∙ sym (ap (λ (c : Slot). times (Req 0) (c ∷ ss)) e.is)), known.1)
     by_row (inr none) ih = absurd (no_row w s none)
 
+skip_law : GatesLaw Skip skip_cells skip_outs [] nothing_pending skip_stands
+skip_law b i v regs after q s ts us settled pulses values stands fired =
+    let early = subst (λ (c : State). Fires Skip (value_in Skip v i) fired.before c fired.list fired.between fired.state ts) (at_rest q stands) fired.sooner in
+    let counts = skip_counts (value_in Skip v i) fired.before q.number fired.list fired.between fired.state ts early in
+    let pulse = fired.exactly (Req 0) in
+    let passed = passes (pulse_in v i 0) (pulses 0 (omega arith)) in (
+      (omega (arith, counts.0, pulse, pulses 0 (omega arith)), settled.0 ∙ (passed ∙ sym (counts.0 ∙ pulse)), tt),
+      (λ j. (sym (ap (due j) fired.later.2), sym (ap (value_due j) fired.later.2))),
+      ap (λ (c : State). c.phase) fired.later.1 ∙ counts.1,
+    )
+
 pub skip_gates : SkipGates
 skip_gates =
     record {
-      law = λ b i v regs after q s ts us settled pulses values stands fired.
-          let early = subst (λ (c : State). Fires Skip (value_in Skip v i) fired.before c fired.list fired.between fired.state ts) (at_rest q stands) fired.sooner in
-          let counts = skip_counts (value_in Skip v i) fired.before q.number fired.list fired.between fired.state ts early in
-          let pulse = fired.exactly (Req 0) in
-          let passed = passes (pulse_in v i 0) (pulses 0 (omega arith)) in (
-            (omega (arith, counts.0, pulse, pulses 0 (omega arith)), settled.0 ∙ (passed ∙ sym (counts.0 ∙ pulse)), tt),
-            (λ j. (sym (ap (due j) fired.later.2), sym (ap (value_due j) fired.later.2))),
-            ap (λ (c : State). c.phase) fired.later.1 ∙ counts.1,
-          );
+      law = law_in_order Skip skip_cells skip_outs [] nothing_pending skip_stands skip_law;
       rests = λ b regs zeros. (refl, refl);
       silent = λ b i v regs after settled pulses. tt;
       fits =

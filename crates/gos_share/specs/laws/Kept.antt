@@ -6,6 +6,7 @@ use Rattle.gos_types.specs.Types.{type_of}
 use Rattle.gos_plan.specs.Kinds.{Share, contacts_of}
 use Rattle.gos_plan.specs.Ranges.{IsSmall}
 use Rattle.gos_macro.specs.Kept.{KeepLaws}
+use Rattle.gos_macro.specs.laws.AnyOrder.{law_in_order}
 use Rattle.gos_share.specs.Layout.{layout, outs_of, late_of, pending_of, stands_of}
 use Rattle.gos_share.specs.laws.Keeping.{share_law, share_rests}
 use Rattle.gos_share.specs.laws.Silent.{share_silent}
@@ -21,7 +22,9 @@ ShareGates t =
 pub share_gates : (t : Ty) → IsSmall t → ShareGates t
 share_gates t small =
     record {
-      law = share_law (type_of t);
+      law =
+          law_in_order (Share (type_of t)) (layout (Share (type_of t))) (outs_of (Share (type_of t))) (late_of (Share (type_of t))) (pending_of (Share (type_of t)))
+          (stands_of (Share (type_of t))) (share_law (type_of t));
       rests = share_rests (contacts_of (type_of t));
       silent = share_silent (type_of t);
       fits =

@@ -82,7 +82,7 @@ pub all_pass : (ks : List Contact) → AtAllPairs (Passes (share_passing ks)) (l
 all_pass ks = row_passes (share_passing ks) (length ks) 0 ks (λ from to passes. passes)
 
 -- a test that tells the handshakes that are served, at one of them
-tells_at : (f : ℕ → Bool) (h m e : ℕ) (ks : List Contact) (k : Contact) → e ≡ h + m → Tells f h ks → slice_get ks m ≡ Some k → f e ≡ is_served k.role
+pub tells_at : (f : ℕ → Bool) (h m e : ℕ) (ks : List Contact) (k : Contact) → e ≡ h + m → Tells f h ks → slice_get ks m ≡ Some k → f e ≡ is_served k.role
 tells_at f h m e [] k is tells there = absurd (cc there)
 tells_at f h zero e (l ∷ ks) k is tells there =
     let same : l ≡ k = cc there in

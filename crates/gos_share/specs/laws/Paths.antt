@@ -11,6 +11,7 @@ use Rattle.gos_macro.specs.Gates.{Outgoing, Bare, Bearing}
 use Rattle.gos_macro.specs.Paths.{IsOut, IsPulseOut, LeadsOn, PulseLeadsOn, TellsIfItPasses, KeepPaths}
 use Rattle.gos_share.specs.Layout.{layout, outs_of, late_of, passing_of}
 use Rattle.gos_share.specs.laws.Pairs.{share_waits}
+use Rattle.gos_share.specs.laws.Puts.{share_puts}
 use Rattle.gos_share.specs.laws.Origins.{share_from}
 use Rattle.gos_share.specs.laws.Ways.{share_ways}
 use Rattle.gos_share.specs.laws.Named.{share_named}
@@ -43,5 +44,6 @@ share_paths t small =
       exact = λ from to low near. share_passes (type_of t) from to low;
       pulses = λ b i from to apart low near yes. share_ways b i (contacts_of (type_of t)) from to yes;
       waits = λ from to low near late. share_waits (contacts_of (type_of t)) from to late;
+      puts = share_puts (type_of t);
       named = λ f b d i o names. share_named (contacts_of (type_of t)) f b d i o names;
     }

@@ -4,11 +4,11 @@
 use Rattle.std.specs.Prelude.{◌≡◌, ◌≢◌, ◌⊎◌, ℕ, zero, suc, ◌+◌, ◌-◌, ◌<◌, nat_eq, nat_lt, if◌then◌else◌, List, [], ◌∷◌, length, Some, slice_get, slice_set, slice_index_or, Contains}
 use Rattle.gos_netlist.specs.declared.nets.Cell as declared
 use Rattle.gos_netlist.specs.declared.nets.Gate.TheVariants as gates
-use Rattle.gos_netlist.specs.Nets.{Function, Input, Const, Not, And, Or, Mux, Gate, Cell, pins}
+use Rattle.gos_netlist.specs.Nets.{Function, Input, Const, Not, And, Or, Xor, Mux, Gate, Cell, pins}
 use Rattle.gos_netlist.specs.Settling.{at, shown}
 use Rattle.gos_netlist.specs.Cycles.{HasCycle}
 use Rattle.gos_netcheck.specs.CellRules.{NetsExist, WidthsFit}
-use Rattle.gos_tidy.specs.Mapped.{IsConst}
+use Rattle.gos_tidy.specs.Mapped.{IsConst, IsXorOf}
 use Rattle.gos_tidy.specs.Tidy.{Folds}
 
 -- cells that name cells, have right widths and no ring
@@ -22,6 +22,7 @@ abbrev pub ShowsNet : List Cell → ℕ → Function → ℕ → Type 0
 ShowsNet cells w (Not a) t = slice_get cells a ≡ Some (record { width = w; gate = Not t })
 ShowsNet cells w (And a b) t = (a ≡ b) × (t ≡ a)
 ShowsNet cells w (Or a b) t = (a ≡ b) × (t ≡ a)
+ShowsNet cells w (Xor a b) t = IsXorOf cells w b a t ⊎ IsXorOf cells w a b t
 ShowsNet cells w (Mux s a b) t = (IsConst cells s 1 × (t ≡ a)) ⊎ ((k : ℕ) × (k ≢ 1) × IsConst cells s k × (t ≡ b))
 ShowsNet cells w (Gate s a) t = IsConst cells s 1 × (t ≡ a)
 ShowsNet cells w g t = ⊥

@@ -4,7 +4,7 @@
 use Rattle.std.specs.Prelude.{◌≡◌, ◌≢◌, ◌⊎◌, ℕ, ◌+◌, ◌-◌, ◌^◌, ◌%◌, List, Option, Some, None, slice_get, Contains, bit_and, bit_or, bit_xor, nat_eq, nat_lt, if◌then◌else◌}
 use Rattle.gos_netlist.specs.Nets.{Function, Const, Not, And, Or, Xor, Mux, Add, Sub, Eq, Less, Gate, Cell, pins}
 use Rattle.gos_netlist.specs.Settling.{shown}
-use Rattle.gos_tidy.specs.Mapped.{IsConst}
+use Rattle.gos_tidy.specs.Mapped.{IsConst, IsXorOf}
 use Rattle.gos_tidy.specs.Tidy.{Folds}
 
 -- the nets of a gate that may fold, where the last one stands for those that it lacks
@@ -81,6 +81,7 @@ abbrev pub IsShortOf : List Cell → ℕ → ℕ → Function → Type 0
 IsShortOf others n w (Not a) = slice_get others a ≡ Some (record { width = w; gate = Not n })
 IsShortOf others n w (And a b) = (a ≡ b) × (n ≡ a)
 IsShortOf others n w (Or a b) = (a ≡ b) × (n ≡ a)
+IsShortOf others n w (Xor a b) = IsXorOf others w b a n ⊎ IsXorOf others w a b n
 IsShortOf others n w (Mux s a b) =
     (IsConst others s 1 × (n ≡ a)) ⊎ ((k : ℕ) × (k ≢ 1) × IsConst others s k × (n ≡ b))
 IsShortOf others n w (Gate s a) =

@@ -171,11 +171,12 @@ tells_so contacts cs os late passing t from to small near b i apart = (forth, ba
             (waits_so cs os late passing from to (t.so from to small near) fails) b i apart leads_on)
 
 pub told_is_kept : ToldIsKept
-told_is_kept k cells outs late passing named outs_named told =
+told_is_kept k cells outs late passing named outs_named told puts =
     record {
       exact = exact;
       pulses = pulses;
       waits = waits;
+      puts = puts;
       named = λ f b d i j r. named_by_name contacts cells (length cs) named t.known f b d i j (sized b i f d j r);
     }
   where

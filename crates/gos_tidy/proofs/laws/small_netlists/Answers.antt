@@ -1,4 +1,4 @@
-use Rattle.gos_tidy.proofs.SmallTidyLemmas.{latch_is_tidied, folding_is_tidied, twice_is_not_tidy, spare_is_not_tidy, chosen_is_not_tidy, turned_is_not_tidy, folded_is_not_tidy, idle_is_not_tidy, held_is_tidy}
+use Rattle.gos_tidy.proofs.SmallTidyLemmas.{latch_is_tidied, folding_is_tidied, twice_is_not_tidy, spare_is_not_tidy, chosen_is_not_tidy, turned_is_not_tidy, mixed_is_not_tidy, folded_is_not_tidy, idle_is_not_tidy, held_is_tidy}
 use Rattle.gos_tidy.proofs.laws.small_netlists.Goals as goal
 
 pub returns-clause-latch : goal.returns-clause-latch
@@ -18,6 +18,9 @@ returns-clause-chosen c = chosen_is_not_tidy
 
 pub returns-clause-turned : goal.returns-clause-turned
 returns-clause-turned c = turned_is_not_tidy
+
+pub returns-clause-mixed : goal.returns-clause-mixed
+returns-clause-mixed c = mixed_is_not_tidy
 
 pub returns-clause-folded : goal.returns-clause-folded
 returns-clause-folded c = folded_is_not_tidy

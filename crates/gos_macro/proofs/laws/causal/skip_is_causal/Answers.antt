@@ -13,5 +13,8 @@ returns-clause-causal c = small.skip_is_causal
 pub returns-clause-shows : goal.returns-clause-shows
 returns-clause-shows c = small.skip_shows_its_answer
 
+pub returns-clause-two : goal.returns-clause-two
+returns-clause-two c = small.two_are_not_shown
+
 pub returns-clause-needed : goal.returns-clause-needed
 returns-clause-needed c = small.demand_is_needed
