@@ -17,7 +17,7 @@ use Rattle.gos_macro.specs.laws.AnyOrder.{law_in_order}
 use Rattle.gos_plan.specs.laws.Inversion.{first_or_later, no_row, stepped}
 
 -- A Share of a command: what is answered goes to the branch.
-abbrev to_branch : ℕ → ℕ
+abbrev pub to_branch : ℕ → ℕ
 to_branch n = 1 + n * 1 + 0
 
 abbrev SharedCounts : ℕ → List Slot → State → List Token → Type 0
@@ -68,18 +68,18 @@ shared_answers x o (suc zero) fs p r ts small none no_other fires =
 shared_answers x o (suc (suc n)) fs p r ts small none no_other fires = absurd (omega (arith, small))
 
 -- the requests of the callers, by whether each has a pulse
-abbrev requests : ℕ → ℕ → List Slot
+abbrev pub requests : ℕ → ℕ → List Slot
 requests a c = if nat_eq a 1 then Req 1 ∷ (if nat_eq c 1 then Req 2 ∷ [] else []) else (if nat_eq c 1 then Req 2 ∷ [] else [])
 
-abbrev next_branch : ℕ → ℕ → ℕ → ℕ
+abbrev pub next_branch : ℕ → ℕ → ℕ → ℕ
 next_branch n a c = if nat_eq c 1 then 1 else (if nat_eq a 1 then 0 else n)
 
 -- a request of either is passed on, and of both none can be
-record Passed (n a c : ℕ) (s : State) (us : List Token) : Type 0 where
-  is : s ≡ at Rest (next_branch n a c)
-  due_source : due 0 us ≡ bit_or a c
-  no_value : value_due 0 us ≡ 0
-  others : (j : ℕ) → nat_eq 0 j ≡ false → (due j us ≡ 0) × (value_due j us ≡ 0)
+pub record Passed (n a c : ℕ) (s : State) (us : List Token) : Type 0 where
+  pub is : s ≡ at Rest (next_branch n a c)
+  pub due_source : due 0 us ≡ bit_or a c
+  pub no_value : value_due 0 us ≡ 0
+  pub others : (j : ℕ) → nat_eq 0 j ≡ false → (due j us ≡ 0) × (value_due j us ≡ 0)
 
 no_token : (n a c : ℕ) (s : State) (us : List Token) → us ≡ [] → s ≡ at Rest (next_branch n a c) → 0 ≡ bit_or a c → Passed n a c s us
 no_token n a c s us nothing is none =
@@ -99,7 +99,7 @@ one_token n a c x s us one none is some =
       others = λ j apart. (ap (due j) one ∙ rw apart refl, ap (value_due j) one ∙ rw apart refl);
     }
 
-shared_requests : (x : ℕ → ℕ) (o : Asked) (n a c : ℕ) (p : Asked) (s : State) (us : List Token) → a ≤ 1 → c ≤ 1 → x 1 ≡ 0 → x 2 ≡ 0
+pub shared_requests : (x : ℕ → ℕ) (o : Asked) (n a c : ℕ) (p : Asked) (s : State) (us : List Token) → a ≤ 1 → c ≤ 1 → x 1 ≡ 0 → x 2 ≡ 0
     → Fires (Share Com) x o (at Rest n) (requests a c) p s us → Passed n a c s us
 shared_requests x o n zero zero p s us small_a small_c no_one no_two (h0, h1, h2) = no_token n 0 0 s us h2 h1 refl
 shared_requests x o n (suc zero) zero p s us small_a small_c no_one no_two (w, vs, f, well, puts, (h0, h1, h2)) =
@@ -124,7 +124,7 @@ shared_requests x o n (suc (suc a)) c p s us small_a small_c no_one no_two fires
 shared_requests x o n a (suc (suc c)) p s us small_a small_c no_one no_two fires = absurd (omega (arith, small_c))
 
 -- what the gates compute, for numbers of one bit
-branch_table : (n a c : ℕ) → n ≤ 1 → a ≤ 1 → c ≤ 1 → (bit_or c (bit_and n (1 - a)) ≡ next_branch n a c) × (next_branch n a c ≤ 1)
+pub branch_table : (n a c : ℕ) → n ≤ 1 → a ≤ 1 → c ≤ 1 → (bit_or c (bit_and n (1 - a)) ≡ next_branch n a c) × (next_branch n a c ≤ 1)
 branch_table zero zero zero p q r = (refl, omega arith)
 branch_table zero zero (suc zero) p q r = (refl, omega arith)
 branch_table zero (suc zero) zero p q r = (refl, omega arith)
@@ -137,7 +137,7 @@ branch_table (suc (suc n)) a c p q r = absurd (omega (arith, p))
 branch_table n (suc (suc a)) c p q r = absurd (omega (arith, q))
 branch_table n a (suc (suc c)) p q r = absurd (omega (arith, r))
 
-answer_table : (n a : ℕ) → n ≤ 1 → a ≤ 1 → (bit_and a (1 - n) ≡ (if nat_eq n 0 then a else 0)) × (bit_and a n ≡ (if nat_eq n 0 then 0 else a))
+pub answer_table : (n a : ℕ) → n ≤ 1 → a ≤ 1 → (bit_and a (1 - n) ≡ (if nat_eq n 0 then a else 0)) × (bit_and a n ≡ (if nat_eq n 0 then 0 else a))
 answer_table zero zero p q = (refl, refl)
 answer_table zero (suc zero) p q = (refl, refl)
 answer_table (suc zero) zero p q = (refl, refl)

@@ -3,3 +3,4 @@ pub mod PathLemmas
 pub mod WireLemmas
 pub mod causal
 pub mod ChoiceLemmas
+pub mod PassingShareLemmas

@@ -2,15 +2,16 @@
 -- that don't, or that keep only one of the two laws.
 --
 -- Read first: Law.
-use Rattle.std.specs.Prelude.{◌≡◌, ℕ, ◌+◌, ◌≤◌, List, [], ◌∷◌, nat_eq, if◌then◌else◌}
-use Rattle.gos_types.specs.Types.{Com}
-use Rattle.gos_netlist.specs.Nets.{Cell, Const, Not, And, Or, Reg}
+use Rattle.std.specs.Prelude.{◌≡◌, ℕ, ◌+◌, ◌≤◌, false, List, [], ◌∷◌, nat_eq, if◌then◌else◌}
+use Rattle.gos_types.specs.Types.{Com, Exp, Pair}
+use Rattle.gos_netlist.specs.Nets.{Cell, Const, Not, And, Or, Gate, Reg}
 use Rattle.gos_netlist.specs.Settling.{Numbers, at}
-use Rattle.gos_plan.specs.Kinds.{Skip, If, While, Share}
-use Rattle.gos_plan.specs.Firing.{Phase, Rest, Test, Branch, State, Req, Ans, Token}
-use Rattle.gos_macro.specs.Gates.{Incoming, Outgoing, Bare, held, nothing_pending}
+use Rattle.gos_plan.specs.Kinds.{Skip, If, While, Deref, Share}
+use Rattle.gos_plan.specs.Firing.{Phase, Rest, Test, Branch, State, Slot, Req, Ans, Token, put, at as at_phase}
+use Rattle.gos_plan.specs.Firings.{Asked, Fires}
+use Rattle.gos_macro.specs.Gates.{Incoming, Outgoing, Bare, Bearing, held, nothing_pending}
 use Rattle.gos_macro.specs.Cells.{bit, buffer}
-use Rattle.gos_macro.specs.Law.{Order, early_in_order, GatesLaw, LawInOrder}
+use Rattle.gos_macro.specs.Law.{Order, early_in_order, GatesLaw, LawInOrder, StaySilent}
 use Rattle.gos_macro.specs.Kept.{KeepLaws}
 
 -- the request is the answer
@@ -114,6 +115,42 @@ repeat_stands b regs q = at regs (b + 0) ≡ 1 → q.phase ≡ Test
 abbrev pub RepeatShowsOne : Type 0
 RepeatShowsOne = GatesLaw While repeat_cells repeat_outs (1 ∷ []) repeat_pending repeat_stands → ⊥
 
+-- The gates of a Share of a command that passes on all that comes in within the cycle. Cell 3 is the register of the branch,
+-- and cell 2 the branch that the requests of this cycle leave. The source's answer goes to the caller of the branch that net
+-- `branch` shows.
+abbrev pub passing_cells : ℕ → ℕ → Incoming → List Cell
+passing_cells branch b i =
+    bit (Not (i.pulse 1))
+    ∷ bit (And (b + 3) (b + 0))
+    ∷ bit (Or (i.pulse 2) (b + 1))
+    ∷ bit (Reg (b + 2))
+    ∷ bit (Not (b + branch))
+    ∷ bit (Or (i.pulse 1) (i.pulse 2))
+    ∷ bit (And (i.pulse 0) (b + 4))
+    ∷ bit (And (i.pulse 0) (b + branch)) ∷ []
+
+abbrev pub passing_outs : ℕ → List Outgoing
+passing_outs b = Bare (b + 5) ∷ Bare (b + 6) ∷ Bare (b + 7) ∷ []
+
+-- by the branch of the register, as where the answer comes before all requests, and by that behind them
+abbrev pub answer_first_cells : ℕ → Incoming → List Cell
+answer_first_cells = passing_cells 3
+
+abbrev pub answer_last_cells : ℕ → Incoming → List Cell
+answer_last_cells = passing_cells 2
+
+pub record PassingStands (b : ℕ) (regs : Numbers) (q : State) : Type 0 where
+  pub rests : q.phase ≡ Rest
+  pub branch : q.number ≡ at regs (b + 3)
+  pub one : at regs (b + 3) ≤ 1
+
+-- Gates for one order do what the part does in this order, and not what it does in another.
+abbrev pub AnswerGatesInOrder : Order → Type 0
+AnswerGatesInOrder = LawInOrder (Share Com) answer_first_cells passing_outs [] nothing_pending PassingStands
+
+abbrev pub GatesOfTheOrder : Type 0
+GatesOfTheOrder = AnswerGatesInOrder (λ h. 0)
+
 -- the ranks of handshakes 1 and 2 are the same, and that of handshake 0 is higher
 abbrev pub last_first : Order
 last_first h = if nat_eq h 0 then 1 else 0
@@ -125,3 +162,34 @@ RequestsFirst = early_in_order (Share Com) [] last_first 2 ≡ Req 1 ∷ Req 2 �
 -- and by number alone they come behind it
 abbrev pub AnswerFirst : Type 0
 AnswerFirst = early_in_order (Share Com) [] (λ h. 0) 1 ≡ Ans 0 ∷ Req 1 ∷ Req 2 ∷ []
+
+abbrev pub GatesOfAnotherOrder : Type 0
+GatesOfAnotherOrder = AnswerGatesInOrder last_first → ⊥
+
+-- In which order callers ask tells to whom a Share answers, which is the last one. Here two ask in one cycle at two
+-- handshakes of a type, the second caller for a command and the first one for a number.
+abbrev pub CallersLeave : List Slot → ℕ → List Token → Type 0
+CallersLeave fs n ts = (o : Asked) × Fires (Share (Pair Com (Exp 1))) (λ h. 0) (λ h. false) (at_phase Rest 0) fs o (at_phase Rest n) ts
+
+abbrev pub SecondAsksFirst : Type 0
+SecondAsksFirst = CallersLeave (Req 4 ∷ Req 3 ∷ []) 0 (put (Req 0) 0 ∷ put (Req 1) 0 ∷ [])
+
+abbrev pub SecondAsksLast : Type 0
+SecondAsksLast = CallersLeave (Req 3 ∷ Req 4 ∷ []) 1 (put (Req 1) 0 ∷ put (Req 0) 0 ∷ [])
+
+abbrev pub OrderIsSeen : Type 0
+OrderIsSeen = (ts : List Token) → CallersLeave (Req 4 ∷ Req 3 ∷ []) 1 ts → ⊥
+
+-- A number that comes in is held, and its pulse beside it: cells 1 and 2. It goes out as it is held, or by its pulse (cell 3).
+abbrev pub holding_cells : ℕ → Incoming → List Cell
+holding_cells b i =
+    buffer (i.pulse 1)
+    ∷ bit (Reg (i.pulse 0))
+    ∷ bit (Reg (i.value 0))
+    ∷ bit (Gate (b + 1) (b + 2)) ∷ []
+
+abbrev pub HoldsSilently : Type 0
+HoldsSilently = StaySilent (Deref 1) holding_cells (λ b. Bare (b + 0) ∷ Bearing (b + 1) (b + 3) ∷ [])
+
+abbrev pub HeldIsNotSilent : Type 0
+HeldIsNotSilent = StaySilent (Deref 1) holding_cells (λ b. Bare (b + 0) ∷ Bearing (b + 1) (b + 2) ∷ []) → ⊥

@@ -8,7 +8,7 @@ use Rattle.gos_netlist.specs.Nets.{Cell, Const}
 use Rattle.gos_plan.specs.Kinds.{Skip, If, Share}
 use Rattle.gos_macro.specs.Gates.{Incoming}
 use Rattle.gos_macro.specs.Cells.{bit}
-use Rattle.gos_macro.specs.SmallGates.{skip_cells, skip_outs, shared_cells, shared_outs}
+use Rattle.gos_macro.specs.SmallGates.{skip_cells, skip_outs, shared_cells, shared_outs, answer_first_cells, answer_last_cells, passing_outs}
 use Rattle.gos_macro.specs.Paths.{PutsPass, KeepPaths, TellsIfItPasses, is_pair}
 
 -- the gates of Skip pass the request on
@@ -50,6 +50,20 @@ SharedRequestsWait = TellsIfItPasses (Share Com) shared_cells shared_outs 1 0 fa
 -- so the answer can't be late
 abbrev pub SharedAnswersAreNotLate : Type 0
 SharedAnswersAreNotLate = (passing : ℕ → ℕ → Bool) → KeepPaths (Share Com) shared_cells shared_outs (0 ∷ []) passing → ⊥
+
+-- Where a Share of a command passes on all that comes in within the cycle, requests lead to answers only if they come before
+-- the answer: an order that puts the answer last makes a path from each caller's request back to it.
+abbrev pub answer_first_passing : ℕ → ℕ → Bool
+answer_first_passing = is_pair ((1, 0) ∷ (2, 0) ∷ (0, 1) ∷ (0, 2) ∷ [])
+
+abbrev pub AnswerFirstPaths : Type 0
+AnswerFirstPaths = KeepPaths (Share Com) answer_first_cells passing_outs [] answer_first_passing
+
+abbrev pub answer_last_passing : ℕ → ℕ → Bool
+answer_last_passing = is_pair ((1, 0) ∷ (2, 0) ∷ (0, 1) ∷ (0, 2) ∷ (1, 1) ∷ (1, 2) ∷ (2, 1) ∷ (2, 2) ∷ [])
+
+abbrev pub AnswerLastPaths : Type 0
+AnswerLastPaths = KeepPaths (Share Com) answer_last_cells passing_outs [] answer_last_passing
 
 -- A cell that shows the number of the net that comes in. So it doesn't know this net by name alone.
 abbrev pub counting_cells : ℕ → Incoming → List Cell

@@ -1,6 +1,6 @@
 // The laws of gates hold of small ones, and refuse others.
-ghost use Rattle.gos_macro.specs.SmallGates.{SkipGates, SharedGates, SilenceIsNoAnswer, ChoiceShowsOne, RepeatShowsOne, RequestsFirst, AnswerFirst};
-ghost use Rattle.gos_macro.specs.SmallPaths.{SkipPaths, SkipIsNoDeadEnd, SkipPuts, SkipPutsSomething, ChoicePutsLate, ChoicePutsEarly, SharedAnswersPass, SharedRequestsWait, SharedAnswersAreNotLate, CountingIsNotNamed};
+ghost use Rattle.gos_macro.specs.SmallGates.{SkipGates, SharedGates, SilenceIsNoAnswer, ChoiceShowsOne, RepeatShowsOne, RequestsFirst, AnswerFirst, GatesOfTheOrder, GatesOfAnotherOrder, SecondAsksFirst, SecondAsksLast, OrderIsSeen, HoldsSilently, HeldIsNotSilent};
+ghost use Rattle.gos_macro.specs.SmallPaths.{SkipPaths, SkipIsNoDeadEnd, SkipPuts, SkipPutsSomething, ChoicePutsLate, ChoicePutsEarly, AnswerFirstPaths, AnswerLastPaths, SharedAnswersPass, SharedRequestsWait, SharedAnswersAreNotLate, CountingIsNotNamed};
 
 /// The gates of Skip keep the law, and so do those of a Share of a command. Gates of Skip that answer nothing don't. Those of a
 /// choice that holds no request fail the law that asks for each handshake to be shown, since two answers can be due on one net;
@@ -13,10 +13,29 @@ pub fn small_gates()
     ensures repeat { RepeatShowsOne }
 {}
 
-/// Firings come by the ranks of their handshakes, and at equal ranks by the number.
+/// Firings come by the ranks of their handshakes, and at equal ranks by the number. A Share answers the caller that asked last,
+/// so the order of two requests in one cycle is seen.
 pub fn small_orders()
     ensures ranks { RequestsFirst }
     ensures numbers { AnswerFirst }
+    ensures second_first { SecondAsksFirst }
+    ensures second_last { SecondAsksLast }
+    ensures seen { OrderIsSeen }
+{}
+
+/// Gates of a Share that passes on all within the cycle keep the law in the order that they are made for, and don't keep it in
+/// another. A caller's request leads to its answer, which closes a cycle, where the answer comes last.
+pub fn gates_of_an_order()
+    ensures own { GatesOfTheOrder }
+    ensures other { GatesOfAnotherOrder }
+    ensures answer_first { AnswerFirstPaths }
+    ensures answer_last { AnswerLastPaths }
+{}
+
+/// A number that is held goes out by its pulse, or it is seen when there is none.
+pub fn held_numbers()
+    ensures silent { HoldsSilently }
+    ensures seen { HeldIsNotSilent }
 {}
 
 /// The request of Skip goes on as its answer, and one can't say that it doesn't. A Share of a command passes on the answer
