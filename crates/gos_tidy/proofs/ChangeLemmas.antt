@@ -133,10 +133,10 @@ module _ (cells : List Cell) (n t : ℕ) (acyclic : HasCycle cells → ⊥) (fit
   shown_width (Not a) is h = (fits a (record { width = may.0.width; gate = Not t }) h).2
   shown_width (And a b) is (one, same) = ap (width_at (widths_of cells)) same ∙ (fit_as (And a b) is).0
   shown_width (Or a b) is (one, same) = ap (width_at (widths_of cells)) same ∙ (fit_as (Or a b) is).0
-  shown_width (Xor a b) is (inl (inl h)) = (fits b (record { width = may.0.width; gate = Xor a t }) h).3
-  shown_width (Xor a b) is (inl (inr h)) = (fits b (record { width = may.0.width; gate = Xor t a }) h).2
-  shown_width (Xor a b) is (inr (inl h)) = (fits a (record { width = may.0.width; gate = Xor b t }) h).3
-  shown_width (Xor a b) is (inr (inr h)) = (fits a (record { width = may.0.width; gate = Xor t b }) h).2
+  shown_width (Xor a b) is (inl (inl h)) = (fits b (record { width = may.0.width; gate = Xor a t }) h).2.1
+  shown_width (Xor a b) is (inl (inr h)) = (fits b (record { width = may.0.width; gate = Xor t a }) h).2.0
+  shown_width (Xor a b) is (inr (inl h)) = (fits a (record { width = may.0.width; gate = Xor b t }) h).2.1
+  shown_width (Xor a b) is (inr (inr h)) = (fits a (record { width = may.0.width; gate = Xor t b }) h).2.0
   shown_width (Mux s a b) is (inl (one, same)) = ap (width_at (widths_of cells)) same ∙ (fit_as (Mux s a b) is).1
   shown_width (Mux s a b) is (inr (k, other, const, same)) = ap (width_at (widths_of cells)) same ∙ (fit_as (Mux s a b) is).2
   shown_width (Add a b) is h = absurd h

@@ -3,7 +3,7 @@
 -- Read first: Nets, Settling and Renamed of gos_netlist. Each cell stands for the cell that its net is mapped to, by one
 -- of the single changes. No order of the cells is spoken of: what is demanded of a cell is about its own pins alone.
 use Rattle.std.specs.Prelude.{◌≡◌, ◌≢◌, ◌⊎◌, ℕ, List, Some, slice_get, Contains}
-use Rattle.gos_netlist.specs.Nets.{Function, Const, Not, And, Or, Mux, Gate, Cell, pins}
+use Rattle.gos_netlist.specs.Nets.{Function, Const, Not, And, Or, Xor, Mux, Gate, Cell, pins}
 use Rattle.gos_netlist.specs.Settling.{shown}
 pub use Rattle.gos_netlist.specs.Renamed.{renamed}
 
