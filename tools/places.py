@@ -12,10 +12,11 @@ import terms
 OPERATORS = {"+": "add", "-": "sub", "&": "and", "|": "or", "^": "xor", "=": "eq", "<": "less"}
 KINDS = {"new": "local", "array": "array", **{it: it for it in "skip lit seq par if while not assign deref".split()}}
 # The cells of a part that are registers of a pulse: in a cycle in which one of them is 1, a token waits there for the next cycle.
-PULSES = {"if": [0], "ifexp": [0], "while": [1], "local": [0, 3], "array": [2, 12, 13], **dict.fromkeys(plans.OPERATORS, [3])}
-# The cell of a part that answers its caller. Its caller's request is the first pin of its first cell, but the second one of a while.
+PULSES = {"while": [0], "local": [0, 3], "array": [2, 12, 13]}
+# The cell of a part that answers its caller. Its caller's request is the first pin of its first cell, but for a while: there the first
+# cell is a register, and the request the second pin of the second one.
 ANSWERS = {"skip": 0, "lit": 0, "seq": 2, "seqexp": 2, "par": 6, "if": 4, "ifexp": 4, "while": 4, "not": 1, "assign": 3, "deref": 1,
-           "local": 8, "array": 18, **dict.fromkeys(plans.OPERATORS, 4)}
+           "local": 8, "array": 18, **dict.fromkeys(plans.OPERATORS, 5)}
 # The cell of a local that is the register of its number; and of an array that of its first number, with how many cells to the next.
 NUMBER, FIRST_NUMBER, EACH_NUMBER = 7, 24, 7
 
@@ -99,7 +100,8 @@ class Placed:
         """The nets of the request and of the answer of each handshake by which the part is run. A Share is run by both its callers."""
         kind = self.region.words[0]
         if kind != "share":
-            return [(cells[self.net(0)][2][kind == "while"], self.net(ANSWERS[kind]))]
+            is_while = kind == "while"
+            return [(cells[self.net(is_while)][2][is_while], self.net(ANSWERS[kind]))]
         found, at = [], self.region.start + 3
         for serves, asked, answered in plans.roles(plans.parse_type(self.region.words[1:])[0]):
             answer = at + 4 + 3 * bool(asked)

@@ -1,7 +1,7 @@
 # By gos-play, from counter.play.
-cycles 83
+cycles 82
 next 0 main.run
-next 15 step.ans 1
+next 14 step.ans 1
 next 5 total.done
 next 14 step.ans 4294967295
 next 5 total.done

@@ -1,14 +1,14 @@
 # By gos-play, from dma.play.
-cycles 455
+cycles 452
 next 0 main.run
 next 6 first.ans 4
-next 10 address.done
+next 9 address.done
 next 4 word.ans 16
 next 9 address.done
 next 5 word.ans 24
 next 11 address.done
 next 6 word.ans 3
-next 13 address.done
+next 12 address.done
 next 8 word.ans 99
 next 10 address.done
 next 9 word.done
@@ -28,7 +28,7 @@ next 9 address.done
 next 5 word.ans 30
 next 11 address.done
 next 6 word.ans 2
-next 13 address.done
+next 12 address.done
 next 8 word.ans 99
 next 10 address.done
 next 9 word.done

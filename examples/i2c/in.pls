@@ -1,11 +1,11 @@
 # By gos-play, from i2c.play.
-cycles 1943
+cycles 1937
 next 20 main.run
 next 3 data.done
 next 12 half.done
 next 2 clock.done
-next 11 address.ans 64
-next 9 data.done
+next 10 address.ans 64
+next 8 data.done
 next 14 half.done
 next 4 clock.done
 next 14 half.done
@@ -59,8 +59,8 @@ next 4 clock.done
 next 14 half.done
 next 1 level.ans 0
 next 6 clock.done
-next 31 byte.ans 90
-next 9 data.done
+next 30 byte.ans 90
+next 8 data.done
 next 14 half.done
 next 4 clock.done
 next 14 half.done
@@ -124,8 +124,8 @@ next 21 main.run
 next 3 data.done
 next 12 half.done
 next 2 clock.done
-next 11 address.ans 66
-next 9 data.done
+next 10 address.ans 66
+next 8 data.done
 next 14 half.done
 next 4 clock.done
 next 14 half.done

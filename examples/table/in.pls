@@ -1,7 +1,7 @@
 # By gos-play, from table.play.
-cycles 794
+cycles 792
 next 0 main.run
-next 637 n.ans 0
+next 635 n.ans 0
 next 2 square.done
 next 35 n.ans 15
 next 2 square.done

@@ -1,15 +1,15 @@
 # By gos-play, from traffic.play.
 cycles 2100
 next 0 main.run
-next 3 cars.done
-next 37 beat.done
+next 2 cars.done
+next 38 beat.done
 next 40 beat.done
 next 40 beat.done
 next 40 beat.done
 next 40 beat.done
 next 40 beat.done
-next 10 somebody_waits.ans 0
-next 30 beat.done
+next 9 somebody_waits.ans 0
+next 31 beat.done
 next 11 somebody_waits.ans 0
 next 29 beat.done
 next 11 somebody_waits.ans 0
@@ -46,8 +46,8 @@ next 40 beat.done
 next 40 beat.done
 next 40 beat.done
 next 40 beat.done
-next 10 somebody_waits.ans 0
-next 30 beat.done
+next 9 somebody_waits.ans 0
+next 31 beat.done
 next 11 somebody_waits.ans 0
 next 29 beat.done
 next 11 somebody_waits.ans 0

@@ -157,7 +157,7 @@ class Page(built.Case):
         rows = [[int(it) for it in row.strip("| ").split(" | ")] for row in re.findall(r"(?m)^[|] \d+ [|] \d.*$", PAGE.read_text())]
         self.assertEqual([row[0] for row in rows], USES)
         for uses, line, _, _, local, _, _ in rows:
-            self.assertEqual((line, local), (uses * (uses + 3) // 2, uses * (uses + 5)))
+            self.assertEqual((line, local), (uses * (uses + 3) // 2, uses * (uses + 4)))
 
 
 class Cost(built.Case):
@@ -232,17 +232,17 @@ export
 name    cells  shares  reads  fewest  most  all  writes  fewest  most  all
 main.x     62       2      2       2     2    4       4       2     3   10
 """, "", 0))
-        # (in each of two runs the block takes a cycle and each write one, the Shares five, and the sum one; the ports take two)
+        # (in each of two runs the block takes a cycle, each write one, and the Shares five; the ports take two)
         self.assertEqual(self.cost("--lines", "b.txt"), ("""\
 line        parts  cells  registers  cycles
 main.gos:3      1      9          3       6
 main.gos:4      3     10          0       0
 main.gos:5      1      3          0       0
-main.gos:6      6     59         10      12
+main.gos:6      6     64         10      10
 """, "", 0))
         self.assertEqual(self.cost("--ports", "b.txt")[0].splitlines()[1:], [
-            "main.run      2                     14           0                             0          14",
-            "c.run         2                      3           4                            11           7"])
+            "main.run      2                     13           0                             0          13",
+            "c.run         2                      3           4                            10           7"])
         self.room.write(main__gos=self.READS.replace("x := 5:8 ;", ""))
         self.assertEqual(self.cost("--lines", "b.txt")[1:], (
             "tools/gos-cost: main.gos: this is not the source of its object any more; gos build makes a new one\n", 1))
@@ -279,7 +279,7 @@ export
     def test_longest_path(self):
         self.room.build({"main": "import e : exp 8\nexport new x : 8 in x := e + not e : com\n"}, "cycles 90\nnext 0 main.run\n")
         said = self.cost("b.txt")[0]
-        self.assertIn(" 8 cells: input 1 (e.ans) > and 1 > gate 8 > not 8 > gate 8 > add 8 > gate 8 > gate 8 > mux 8 > reg 8\n", said)
+        self.assertIn(" 8 cells: reg 1 > not 1 > and 1 > gate 8 > mux 8 > add 8 > gate 8 > gate 8 > mux 8 > reg 8\n", said)
 
     def test_a_ring(self):
         self.room.build(self.SEQUENCE, "cycles 9\nnext 0 main.run\n")

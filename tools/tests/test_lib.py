@@ -44,7 +44,7 @@ USERS = {
     "mul": User(["x : exp 8", "y : exp 8"], "mul x y", "exp 8", "multiplies, modulo 256", "{base} + {round} a bit of 1 in y"),
     "divide": User(["x : exp 8", "y : exp 8", "rest : var 8"], "divide x y rest", "exp 8", "quotient and rest",
                    "{base} + {round} a 1 in the quotient"),
-    "debounce": User(["pin : exp 1", "tick : com"], "debounce pin tick", "exp 1", "a level that stays", "{base} + {round} a look more"),
+    "debounce": User(["pin : exp 1", "tick : com"], "debounce pin tick", "exp 1", "a level that stays", "{base} + {round} a look that differs"),
     "uart_receive": User(["line : exp 1", "half : com", "bit : com", "byte : var 8"], "uart_receive line (half, bit) byte", "exp 1",
                          "receives a byte", "{base} + {round} a bit of 1"),
     "uart_send": User(["byte : exp 8", "bit : com", "line : var 1"], "uart_send byte bit line", "com", "sends a byte", "{base}"),
@@ -153,7 +153,7 @@ def rounds(name, count):
         "bit": ["x.ans 85", f"k.ans {7 - count}"], "shift_right": ["x.ans 85", f"n.ans {8 - count}"], "widen": [f"x.ans {count}"],
         "wait_until": [*["so.ans 0"] * count, "so.ans 1"], "mul": ["x.ans 85", f"y.ans {(1 << count) - 1}"],
         "divide": [f"x.ans {(1 << count) - 1}", "y.ans 1", "rest.done"],
-        "debounce": looks([(count - at) % 2 for at in range(count)] + [0, 0, 0, 0]),
+        "debounce": looks([(at + 1) % 2 for at in range(count + 1)] + 3 * [(count + 1) % 2]),
         "uart_receive": received((1 << count) - 1), "uart_send": [f"byte.ans {count}", *["bit.done", "line.done"] * 10],
         "spi": [f"byte.ans {count}", *["mosi.done", "half.done", "sck.done", f"miso.ans {count % 2}", "half.done", "sck.done"] * 8],
         "i2c_bit": ["bit.ans 1", "sda.done", "half.done", "scl.done", *["scl.ans 0"] * count, "scl.ans 1", "half.done", "sda.ans 1", "scl.done"],
@@ -265,7 +265,7 @@ class Library(built.Case):
         self.assertLess(found.times("main.done")[-1], begin)
 
     # What a bit has to be longer than half a bit and the caller's time together, and the shortest bit of all.
-    SPARE, LEAST_BIT = 12, 38
+    SPARE, LEAST_BIT = 9, 34
 
     def receiver(self):
         """The circuit of a main that tells whether a byte had its stop bit."""
@@ -303,7 +303,7 @@ class Library(built.Case):
     def test_uart_receive_for_long(self):
         """Where the caller takes a cycle too long, each byte is seen a cycle later than the one before, until one is wrong."""
         netlist, text = self.receiver(), bytes(range(255, 200, -1))
-        for bit, half, caller in ((60, 30, 18), (60, 26, 22), (61, 30, 19)):
+        for bit, half, caller in ((60, 30, 21), (60, 26, 25), (61, 30, 22)):
             self.assertEqual(self.stream(netlist, bit, caller, text, half)[0], text)
             self.assertNotEqual(self.stream(netlist, bit, caller + 1, text, half)[0], text)
 

@@ -17,6 +17,8 @@ mod data_cycles;
 #[cfg(test)]
 mod gates;
 #[cfg(test)]
+mod layouts;
+#[cfg(test)]
 mod pools;
 #[cfg(test)]
 mod share_cells;

@@ -7,7 +7,7 @@ ghost use Rattle.gos_plan.specs.Kinds.{part_contacts};
 
 use gos_macro::cells::{bit, wide};
 use gos_macro::{Macro, Wire};
-use gos_netlist::{Cell, Gate, NetId, Netlist, SettleFault, settle};
+use gos_netlist::{Cell, Gate, NetId, Netlist, SettleFault, print_net, settle};
 use gos_pool::NetPool;
 use gos_types::NoMemory;
 use std::alloc::{AllocError, Global};
@@ -121,6 +121,21 @@ pub fn place_alone<M: Macro>(
     let mut wires = wires_from(alloc, nets)?;
     let cells = cells_of(alloc, part, &mut wires)?;
     Ok(Placed { cells, wires })
+}
+
+/// The text of a netlist of these cells alone, the first of which has net 0.
+pub fn text_alone<M: Macro>(
+    alloc: Global,
+    part: &M,
+    nets: &[(u32, u32)],
+) -> Result<Vec<u8>, NoMemory>
+    requires wires { length nets.now ≡ length (part_contacts (M.part part.now)) }
+    requires few { length nets.now ≤ 6 }
+{
+    let mut wires = wires_from(alloc, nets)?;
+    let cells = cells_of(alloc, part, &mut wires)?;
+    let ports = Vec::new(alloc);
+    print_net(alloc, &Netlist { cells, ports })
 }
 
 // The cells of a part alone in a pool with room for exactly these and one region.

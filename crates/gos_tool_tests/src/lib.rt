@@ -8,6 +8,8 @@ mod building;
 #[cfg(test)]
 mod compiling;
 #[cfg(test)]
+mod cycles;
+#[cfg(test)]
 mod demo;
 #[cfg(test)]
 mod explained;
