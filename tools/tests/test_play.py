@@ -439,7 +439,7 @@ class Benches(Room):
         if wrong is not None:
             self.assertEqual(wrong, [f"wrong: tick asks nothing within 16 cycles of cycle {16 + 32 * at}" for at in range(124)])
         said, wrong = self.play(module, around + "tick within 32 cycles\nout within 16 cycles\n", 3)
-        self.assertEqual(said[3:], ["out asks nothing within 16 cycles of out.done in cycle 35, and so 123 times more"])
+        self.assertEqual(said[3:], ["out asks nothing within 16 cycles of out.done in cycle 33, and so 123 times more"])
         self.assertEqual(len(wrong or range(124)), 124)
 
 
