@@ -84,39 +84,39 @@ class Verdicts(Mutex):
 
     def test_a_verdict_for_each_claim(self):
         said = self.fails("assert exclusion: !(a_uses__run__open && b_uses__run__open)\nassert never: !a_uses__run__open\n"
-                          "assert not_b: !b_uses__run\n", "fails: never in cycle 5")
+                          "assert not_b: !b_uses__run\n", "fails: never in cycle 3")
         verdicts = [line for line in said.splitlines() if ":" in line]
         self.assertEqual(verdicts, [f"proved of all numbers of cycles: {PORTS}, exclusion",
-                                    "fails: never in cycle 5", "fails: not_b in cycle 7"])
-        trace = "0 main.run\n2 go_on.ask\n2 go_on.ans 1\n4 a_wants.ask\n4 a_wants.ans 1\n5 a_uses.run\n"
-        self.assertIn(f"fails: never in cycle 5\n{trace}", said)
+                                    "fails: never in cycle 3", "fails: not_b in cycle 4"])
+        trace = "0 main.run\n1 go_on.ask\n1 go_on.ans 1\n2 a_wants.ask\n2 a_wants.ans 1\n3 a_uses.run\n"
+        self.assertIn(f"fails: never in cycle 3\n{trace}", said)
 
     def test_a_counterexample_behind_the_steps(self):
         count = "reg [3:0] n = 0;\nalways @(posedge clk) if (started) n <= n + 1;\n"
         self.fails(f"{count}assert small: n != 9\n", "fails: small in cycle 9", "--steps", "3")
 
     def test_an_expression_has_its_own_width(self):
-        self.fails("assert x: ~a_uses__run\n", "fails: x in cycle 5")
-        self.fails("assert x: a_uses__run + 1'b1\n", "fails: x in cycle 5")
+        self.fails("assert x: ~a_uses__run\n", "fails: x in cycle 3")
+        self.fails("assert x: a_uses__run + 1'b1\n", "fails: x in cycle 3")
         self.assertIn(f"{PORTS}, two\n", self.is_proved("assert two: 2 + 0 * a_uses__run\nassume also: 4\n"))
 
     def test_an_unknown_value_is_any(self):
-        self.fails("assert x: a_uses__run ? 1'bx : 1'b1\n", "fails: x in cycle 5")
+        self.fails("assert x: a_uses__run ? 1'bx : 1'b1\n", "fails: x in cycle 3")
         self.fails("wire [3:0] v = 15;\nwire [2:0] at = {2'b11, a_uses__run};\nassert x: v[at]\n", "fails: x in cycle 0")
         self.fails("wire any = $anyseq;\nassert x: any\n", "fails: x in cycle 0")
         self.fails("function f; input a; if (a) f = 1; endfunction\nassert x: f(a_uses__run)\n", "fails: x in cycle 0")
 
     def test_a_claim_has_a_space_of_names(self):
-        self.fails("reg x = 1;\nalways @(posedge clk) if (a_uses__run) x <= 0;\nassert x: x\n", "fails: x in cycle 6")
+        self.fails("reg x = 1;\nalways @(posedge clk) if (a_uses__run) x <= 0;\nassert x: x\n", "fails: x in cycle 4")
 
     def test_comments(self):
-        self.fails("/* assert a: 0\nassert b: 0 */ assert c: !a_uses__run // || 1\n# assert d: 0 /*\n", "fails: c in cycle 5")
+        self.fails("/* assert a: 0\nassert b: 0 */ assert c: !a_uses__run // || 1\n# assert d: 0 /*\n", "fails: c in cycle 3")
         self.assertIn(f"{PORTS}, e\n", self.is_proved('assert e: !(a_uses__run && b_uses__run); // assert f: 0;\n'))
 
     def test_lemmas(self):
         said = self.is_proved("assert exclusion: !(a_uses__run__open && b_uses__run__open)\n", "--lemmas")
         self.assertEqual(said, f"taken as lemmas, by the proof of gos: {PORTS}\nproved of all numbers of cycles: exclusion\n")
-        self.fails("assert never: !a_uses__run\n", "fails: never in cycle 5", "--lemmas")
+        self.fails("assert never: !a_uses__run\n", "fails: never in cycle 3", "--lemmas")
         self.assertEqual(self.formal("assume also: 1\n", "--lemmas")[1], 1)
 
     def test_ordinary_verilog(self):
