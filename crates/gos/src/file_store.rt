@@ -82,29 +82,37 @@ impl<'a, R: Files> Store for FileStore<'a, R> {
     fn write(&mut self, _alloc: Global, name: &[u8], bytes: &[u8]) -> Result<(), StoreFault> {
         match write_file(self.rt, name, bytes) {
             Ok(()) => Ok(()),
-            Err(_) => {
+            Err(Trouble::System) => {
                 self.log.write_failed(name);
                 Err(StoreFault::Failed)
             }
+            Err(Trouble::NoMemory) => Err(StoreFault::NoMemory),
         }
     }
 }
 
-/// Why a file could not be read.
+/// Why a file could not be read or written.
 #[derive(Drop)]
 enum Trouble {
     System,
     NoMemory,
 }
 
+// What the system wants memory for is want of memory, and all else a failure.
 impl From<io::Error> for Trouble {
-    ghost use Rattle.std.specs.Prelude.{◌≡◌};
-    ghost use Rattle.gos.specs.declared.file_store.Trouble.TheVariants.{System};
+    ghost use Rattle.std.specs.Prelude.{◌≡◌, ◌↔◌};
+    ghost use Rattle.std.specs.IoError.{error_kind};
+    ghost use Rattle.std.specs.declared.io.ErrorKind.TheVariants.{OutOfMemory};
+    ghost use Rattle.gos.specs.declared.file_store.Trouble.TheVariants.{NoMemory};
 
-    ghost from_gives = { λ _ trouble. trouble ≡ System };
+    ghost from_gives = { λ error trouble. (trouble ≡ NoMemory) ↔ (error_kind error ≡ OutOfMemory) };
 
-    fn from(_e: io::Error) -> Trouble {
-        Trouble::System
+    fn from(e: io::Error) -> Trouble {
+        if e.kind() == ErrorKind::OutOfMemory {
+            Trouble::NoMemory
+        } else {
+            Trouble::System
+        }
     }
 }
 
@@ -155,12 +163,16 @@ fn read_first<F: Read>(file: &mut F, alloc: Global, n: usize) -> Result<Vec<u8>,
     Err(Trouble::System)
 }
 
-/// Makes a file hold these bytes.
-fn write_file<R: Files>(rt: &R, name: &[u8], bytes: &[u8]) -> io::Result<()>
+/// Makes a file hold these bytes. Once it is opened, whatever goes wrong is a failure of the system: the file may hold anything then,
+/// and want of memory would have left it as it was.
+fn write_file<R: Files>(rt: &R, name: &[u8], bytes: &[u8]) -> Result<(), Trouble>
     requires { IsFileName name.now }
 {
     let mut file = fs::create(rt, path_of(name))?;
-    write_whole(&mut file, bytes)
+    match write_whole(&mut file, bytes) {
+        Ok(()) => Ok(()),
+        Err(_) => Err(Trouble::System),
+    }
 }
 
 /// Writes all of these bytes to a writer, in however many pieces, and no others.
@@ -218,6 +230,26 @@ mod tests {
         let whole = store.read_up_to(alloc, name, 1_000_001)?;
         assert!(rt; whole.as_slice() == text.as_slice());
         fs::remove_file(&rt, "file_store_long.txt")?;
+        Ok(())
+    }
+
+    /// A reader that is refused, with an error of this kind.
+    #[derive(Drop)]
+    struct Refused(ErrorKind);
+
+    impl Read for Refused {
+        fn read(&mut self, _part: &mut [u8]) -> io::Result<usize> {
+            Err(io::Error::from(self.0))
+        }
+    }
+
+    #[test]
+    fn what_wants_memory_has_not_failed(rt: HostRuntime) -> Result<(), Fail> {
+        let alloc = rt.alloc();
+        let mut wanting = Refused(ErrorKind::OutOfMemory);
+        assert!(rt; matches!(read_first(&mut wanting, alloc, 100), Err(Trouble::NoMemory)));
+        let mut denied = Refused(ErrorKind::PermissionDenied);
+        assert!(rt; matches!(read_first(&mut denied, alloc, 100), Err(Trouble::System)));
         Ok(())
     }
 
