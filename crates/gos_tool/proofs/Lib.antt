@@ -3,3 +3,4 @@ mod WordLemmas
 mod EndLemmas
 mod CompleteLemmas
 mod RepeatedLemmas
+mod SmallCallLemmas

@@ -14,11 +14,13 @@ use Rattle.gos_command.specs.declared.status.Fault.{Fault}
 use Rattle.gos_command.specs.declared.stop.Stop.{Stop}
 use Rattle.gos_command.specs.declared.stop.Stop.TheVariants as stops
 
--- The kinds of files that are read; what is wrong of a build is its size, or not. Of moves is also what their trace is judged by.
+-- The kinds of files that are read; what is wrong of a build is its weight, its size, or another thing. Of moves is also what their trace is
+-- judged by.
 pub data Kind : Type 0 where
   OfSource : Kind
   OfObject : Kind
   OfBuild : Kind
+  OfWeight : Kind
   OfSize : Kind
   OfNetlist : Kind
   OfPulses : Kind
@@ -26,6 +28,7 @@ pub data Kind : Type 0 where
 
 -- of which kind a fault of a build is
 abbrev pub kind_of_link : LinkFault → Kind
+kind_of_link (links.TooHeavy weight) = OfWeight
 kind_of_link (links.TooLarge size ports) = OfSize
 kind_of_link fault = OfBuild
 

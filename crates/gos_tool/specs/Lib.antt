@@ -13,6 +13,7 @@ pub mod explained
 pub mod Command
 pub mod Run
 pub mod SmallCauses
+pub mod SmallCalls
 pub mod Complete
 pub mod Repeated
 pub mod inner

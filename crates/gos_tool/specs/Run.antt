@@ -15,7 +15,7 @@ use Rattle.gos_command.specs.Ends.{IsTold}
 use Rattle.gos_command.specs.declared.report.Report.{Report}
 use Rattle.gos_command.specs.declared.status.Fault.{Fault}
 use Rattle.gos_tool.specs.Calls.{read_source, compile_calls, link_calls, sim_calls, build_calls, rewrite_calls, explain_calls, verify_calls, GoesByBuild}
-use Rattle.gos_tool.specs.Causes.{Kind, OfSource, OfObject, OfBuild, OfSize, OfNetlist, OfPulses, OfMoves, IsOneOf, TellsWeight, TellsRun, TellsBoth, TellsCells, TellsGates, TellsExplained}
+use Rattle.gos_tool.specs.Causes.{Kind, OfSource, OfObject, OfBuild, OfWeight, OfSize, OfNetlist, OfPulses, OfMoves, IsOneOf, TellsWeight, TellsRun, TellsBoth, TellsCells, TellsGates, TellsExplained}
 use Rattle.gos_tool.specs.objects.Checked.{IsChecked, IsSourceFault}
 use Rattle.gos_tool.specs.objects.Compiled.{IsCompiled, IsCompileCall}
 use Rattle.gos_tool.specs.circuits.Linked as linking
@@ -46,14 +46,14 @@ Tells (Explain own moves) report = TellsExplained report
 Tells (Verify own moves) report = TellsExplained report
 
 -- The kinds of causes for which it may reject a file. `build` and `demo` read no object and no netlist, and what they compile is never
--- too large.
+-- too large. `explain` and `verify` compile nothing, so that no weight and no size counts.
 abbrev pub kinds_of : Command → List Kind
 kinds_of (Check source) = OfSource ∷ []
 kinds_of (Compile source object) = OfSource ∷ []
-kinds_of (Link own) = OfObject ∷ OfBuild ∷ OfSize ∷ []
+kinds_of (Link own) = OfObject ∷ OfBuild ∷ OfWeight ∷ OfSize ∷ []
 kinds_of (Sim net pulses trace) = OfNetlist ∷ OfPulses ∷ []
-kinds_of (Build own) = OfSource ∷ OfBuild ∷ OfPulses ∷ []
-kinds_of (Demo levels) = OfSource ∷ OfBuild ∷ OfPulses ∷ []
+kinds_of (Build own) = OfSource ∷ OfBuild ∷ OfWeight ∷ OfPulses ∷ []
+kinds_of (Demo levels) = OfSource ∷ OfBuild ∷ OfWeight ∷ OfPulses ∷ []
 kinds_of (Tidy net out) = OfNetlist ∷ []
 kinds_of (Gates net out) = OfNetlist ∷ []
 kinds_of (Explain own moves) = OfSource ∷ OfBuild ∷ OfMoves ∷ []
@@ -90,18 +90,19 @@ IsRejected (Gates net out) old new fault line =
 IsRejected (Explain own moves) old new fault line = (new ≡ old) × IfSome old (λ files. RejectsExplain files own moves fault line)
 IsRejected (Verify own moves) old new fault line = (new ≡ old) × IfSome old (λ files. RejectsVerify files own moves fault line)
 
--- The command makes this call of the store, after all that is judged before it was right, and this is what it wrote before.
+-- The command makes this call of the store, after all that is judged before it was right, and this is what it wrote before. Which file the
+-- call names is said of every store; what hangs on what its files hold, where it tells that.
 abbrev pub IsCall : Command → Option Files → Option Files → LastFault → Type 0
 IsCall (Check source) old new fault = (fault ≡ ReadFault source) × (new ≡ old)
 IsCall (Compile source object) old new fault = IsCompileCall old new source object fault
 IsCall (Link own) old new fault = IsLinkCall old new own fault
 IsCall (Sim net pulses trace) old new fault = IsSimCall old new net pulses trace fault
-IsCall (Build own) old new fault = IfSome old (λ files. IsBuildCall files new own fault)
-IsCall (Demo levels) old new fault = IfSome old (λ files. IsDemoCall files new levels fault)
+IsCall (Build own) old new fault = IsBuildCall old new own fault
+IsCall (Demo levels) old new fault = IsDemoCall old new levels fault
 IsCall (Tidy net out) old new fault = IsTidyCall old new net out fault
 IsCall (Gates net out) old new fault = IsGatesCall old new net out fault
-IsCall (Explain own moves) old new fault = IfSome old (λ files. IsExplainCall files new own moves fault)
-IsCall (Verify own moves) old new fault = (new ≡ old) × IfSome old (λ files. IsVerifyCall files own moves fault)
+IsCall (Explain own moves) old new fault = IsExplainCall old new own moves fault
+IsCall (Verify own moves) old new fault = (new ≡ old) × IsVerifyCall old own moves fault
 
 -- What the command leaves where memory runs out before its end: the first of its files, each as where all is done.
 abbrev pub IsCutShort : Command → Option Files → Option Files → Type 0

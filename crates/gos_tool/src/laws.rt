@@ -3,7 +3,8 @@
 ghost use Rattle.gos_tool.specs.Complete.{RightIsNotRejected};
 ghost use Rattle.gos_tool.specs.Repeated.{CommandMakesOne};
 ghost use Rattle.gos_tool.specs.SmallAgreement.{LeaveOne, OldBytesAreNot, OtherBytesAreNot, SameBytesAre};
-ghost use Rattle.gos_tool.specs.SmallCauses.{LinkMayBeTooLarge, BuildIsNeverTooLarge, DemoIsNeverTooLarge};
+ghost use Rattle.gos_tool.specs.SmallCalls.{BuildFileMayFail, NoFaultIsNoCall, VerifyWritesNothing};
+ghost use Rattle.gos_tool.specs.SmallCauses.{LinkMayBeTooLarge, BuildIsNeverTooLarge, DemoIsNeverTooLarge, BuildMayBeTooHeavy, ExplainedIsNeverTooHeavy};
 
 use crate::build::{one_circuit, right_builds};
 use crate::circuits::{one_link, right_links};
@@ -47,9 +48,20 @@ pub fn small_agreement()
     ensures one { LeaveOne }
 {}
 
-/// The size of a build is a cause that `link` may have, and `build` and `demo` never have.
+/// The size of a build is a cause that `link` may have, and `build` and `demo` never have. Its weight is one that `build` may have, and
+/// `explain` and `verify` never have.
 pub fn small_causes()
     ensures link { LinkMayBeTooLarge }
     ensures build { BuildIsNeverTooLarge }
     ensures demo { DemoIsNeverTooLarge }
+    ensures heavy { BuildMayBeTooHeavy }
+    ensures explained { ExplainedIsNeverTooHeavy }
+{}
+
+/// Whatever the store tells, the build file may be what could not be read. No command is stopped for no call, and `verify` for none that
+/// writes.
+pub fn small_calls()
+    ensures build_file { BuildFileMayFail }
+    ensures no_fault { NoFaultIsNoCall }
+    ensures verify { VerifyWritesNothing }
 {}

@@ -36,7 +36,7 @@ pub use gos_command::{Cause, Fault, Status};
 use gos_command::{finish, say};
 pub use gos_link::FileName;
 use gos_outside::{Sink, Store};
-pub use laws::{right_commands, same_files, small_agreement, small_causes};
+pub use laws::{right_commands, same_files, small_agreement, small_calls, small_causes};
 use std::alloc::Global;
 
 /// Does what the words of a command say, with the files of a store, and prints one line to a sink.

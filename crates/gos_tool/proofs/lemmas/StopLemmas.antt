@@ -9,7 +9,7 @@ use Rattle.gos_command.specs.declared.status.Cause.TheVariants as causes
 use Rattle.gos_command.specs.declared.status.Fault.{Fault}
 use Rattle.gos_command.specs.declared.stop.Stop.{Stop}
 use Rattle.gos_command.specs.declared.stop.Stop.TheVariants.{Rejected, StoreFailed, NoMemory}
-use Rattle.gos_tool.specs.Causes.{Kind, OfBuild, OfSize, kind_of_link, IsOneOf, StopsFor}
+use Rattle.gos_tool.specs.Causes.{Kind, OfBuild, OfWeight, OfSize, kind_of_link, IsOneOf, StopsFor}
 
 -- of some kinds, and so of more
 before : (kinds more : List Kind) (cause : Cause) → IsOneOf kinds cause → IsOneOf (kinds ++ more) cause
@@ -48,6 +48,7 @@ pub of_form : (fault : LinkFault) (Q : ℕ → Type 0) → (fault ≢ links.NoMe
     → IsRealCause (causes.Link fault) → IsOneOf (OfBuild ∷ []) (causes.Link fault)
 of_form fault Q is real = let found = is real in inl (ap kind_of_link found.1)
 
-pub of_any_link : (fault : LinkFault) → IsOneOf (OfBuild ∷ OfSize ∷ []) (causes.Link fault)
-of_any_link (links.TooLarge size ports) = inr (inl refl)
+pub of_any_link : (fault : LinkFault) → IsOneOf (OfBuild ∷ OfWeight ∷ OfSize ∷ []) (causes.Link fault)
+of_any_link (links.TooHeavy weight) = inr (inl refl)
+of_any_link (links.TooLarge size ports) = inr (inr (inl refl))
 of_any_link fault = inl refl

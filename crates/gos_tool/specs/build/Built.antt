@@ -20,6 +20,7 @@ use Rattle.gos_command.specs.declared.report.Counts.{Counts}
 use Rattle.gos_command.specs.declared.report.Report.{Report}
 use Rattle.gos_command.specs.declared.report.Report.TheVariants as reports
 use Rattle.gos_command.specs.declared.status.Fault.{Fault}
+use Rattle.gos_tool.specs.Calls.{ReadsAs}
 use Rattle.gos_tool.specs.Causes.{IsFileFault}
 use Rattle.gos_tool.specs.circuits.Plans.{IsPlansDone, IsPlansCause, IsPlansCall, IsPlansCutShort}
 use Rattle.gos_tool.specs.circuits.Linked.{SaysBuild, IsFormCause}
@@ -88,15 +89,15 @@ IsPlansBuildCall old new b plans fault =
     ⊎ ((net : Netlist) × (weight : ℕ) × (between : Option Files) × IsPlansDone old between b plans weight net
     × IsSimulationCall between new net b.pulses b.trace fault)
 
-abbrev pub IsInstancesCall : Files → Option Files → Build → LastFault → Type 0
-IsInstancesCall files new b fault =
-    IsModuleCall files new b.instances.items fault
-    ⊎ ((plans : List SeenPlan) × (objects : Option Files) × AllWritten files objects b.instances.items plans
+abbrev pub IsInstancesCall : Option Files → Option Files → Build → LastFault → Type 0
+IsInstancesCall old new b fault =
+    IsModuleCall old new b.instances.items fault
+    ⊎ ((plans : List SeenPlan) × (objects : Option Files) × IfSome old (λ files. AllWritten files objects b.instances.items plans)
     × IsPlansBuildCall objects new b plans fault)
 
-abbrev pub IsBuildCall : Files → Option Files → Word → LastFault → Type 0
-IsBuildCall files new own fault =
-    ((fault ≡ ReadFault own) × (new ≡ Some files)) ⊎ ((b : Build) × SaysBuild files own b × IsInstancesCall files new b fault)
+abbrev pub IsBuildCall : Option Files → Option Files → Word → LastFault → Type 0
+IsBuildCall old new own fault =
+    ((fault ≡ ReadFault own) × (new ≡ old)) ⊎ ((b : Build) × ReadsAs old own b × IsInstancesCall old new b fault)
 
 -- what is left where memory runs out: some of the objects, or all; or these, and the netlist of a circuit of the linked plan; or
 -- its Verilog text too

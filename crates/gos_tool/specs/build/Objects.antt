@@ -2,7 +2,7 @@
 --
 -- Read first: BuildFile of gos_link (instances); Checked and Compiled of objects. `files` are those that the store held when the
 -- command began; the sources are as in these, since no source is written. `new` are those that it leaves.
-use Rattle.std.specs.Prelude.{◌≡◌, ◌⊎◌, ℕ, List, [], ◌∷◌, map, length, slice_get, Option, Some}
+use Rattle.std.specs.Prelude.{◌≡◌, ◌⊎◌, ℕ, List, [], ◌∷◌, map, length, slice_get, Option, Some, IfSome}
 use Rattle.gos_outside.specs.Files.{Files, bytes_at, with_file, SameBut}
 use Rattle.gos_outside.specs.Faults.{LastFault, ReadFault, WriteFault}
 use Rattle.gos_lex.specs.Lines.{Word}
@@ -68,10 +68,15 @@ abbrev pub IsInstanceCall : Option Files → Option Files → Instance → Type 
 IsInstanceCall old new i Accepted fault =
     ((fault ≡ ReadFault i.source) × (new ≡ old)) ⊎ ((fault ≡ WriteFault i.object) × SameBut i.object old new × Accepted)
 
+-- the objects of so many of the first instances were written, and no others
+abbrev pub AreFirstWritten : Files → Option Files → List Instance → ℕ → Type 0
+AreFirstWritten files new is number = (some : SomeWritten files new is) × (length some.plans ≡ number)
+
 -- the calls for the instances, each with the objects written of those before it
-pub record IsModuleCall (files : Files) (new : Option Files) (is : List Instance) (fault : LastFault) : Type 0 where
+pub record IsModuleCall (old new : Option Files) (is : List Instance) (fault : LastFault) : Type 0 where
+  pub number : ℕ
   pub between : Option Files
-  pub before : SomeWritten files between is
   pub instance : Instance
-  pub at : slice_get is (length before.plans) ≡ Some instance
-  pub call : IsInstanceCall between new instance ((m : SeenModule) × SaysModule (bytes_at files instance.source) m) fault
+  pub at : slice_get is number ≡ Some instance
+  pub before : IfSome old (λ files. AreFirstWritten files between is number)
+  pub call : IsInstanceCall between new instance (IfSome old (λ files. (m : SeenModule) × SaysModule (bytes_at files instance.source) m)) fault

@@ -23,6 +23,7 @@ use Rattle.gos_command.specs.declared.report.Report.TheVariants as reports
 use Rattle.gos_command.specs.declared.status.Cause.{Cause}
 use Rattle.gos_command.specs.declared.status.Cause.TheVariants as causes
 use Rattle.gos_command.specs.declared.status.Fault.{Fault}
+use Rattle.gos_tool.specs.Calls.{ReadsAs}
 use Rattle.gos_tool.specs.Causes.{IsFileFault}
 use Rattle.gos_tool.specs.circuits.Objects.{HoldPlans, RejectsObject, IsObjectCall}
 use Rattle.gos_tool.specs.circuits.Plans.{IsWritten, IsPlansCause, IsWriteCall, IsWriteCutShort}
@@ -81,7 +82,7 @@ IsWholeCall old new b fault =
 
 abbrev pub IsLinkCall : Option Files → Option Files → Word → LastFault → Type 0
 IsLinkCall old new own fault =
-    ((fault ≡ ReadFault own) × (new ≡ old)) ⊎ ((b : Build) × IfSome old (λ files. SaysBuild files own b) × IsWholeCall old new b fault)
+    ((fault ≡ ReadFault own) × (new ≡ old)) ⊎ ((b : Build) × ReadsAs old own b × IsWholeCall old new b fault)
 
 -- what it leaves where memory runs out: the files before, or these with the netlist of a circuit of the plan written
 abbrev pub IsWholeCutShort : Option Files → Option Files → Build → Type 0

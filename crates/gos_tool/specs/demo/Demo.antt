@@ -55,9 +55,10 @@ pub record IsDemoDone (files : Files) (new : Option Files) (levels : ℕ) (repor
   pub built : IsBuilt (with_demo levels files) new (build_file levels).name report
 
 -- the calls: the files of the demo are written, and then come those of `build demo.txt`
-abbrev pub IsDemoCall : Files → Option Files → ℕ → LastFault → Type 0
-IsDemoCall files new levels fault =
-    IsWriting (demo_files levels) (Some files) new fault ⊎ IsBuildCall (with_demo levels files) new (build_file levels).name fault
+abbrev pub IsDemoCall : Option Files → Option Files → ℕ → LastFault → Type 0
+IsDemoCall old new levels fault =
+    IsWriting (demo_files levels) old new fault
+    ⊎ IsBuildCall (with_files (demo_files levels) old) new (build_file levels).name fault
 
 -- what is left where memory runs out: some of the files of the demo, or all, and then what `build demo.txt` leaves
 abbrev pub IsDemoCutShort : Files → Option Files → ℕ → Type 0

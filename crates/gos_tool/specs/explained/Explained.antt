@@ -53,7 +53,10 @@ RejectsTexts files ports p trace moves fault line =
     IsFileFault trace (IsTextCause (IsTraceText ports) (bytes_at files trace)) fault line
     ⊎ ((labels : List Label) × SaysLabels ports (bytes_at files trace) labels × RejectsMoves files ports p moves labels fault line)
 
+-- the trace file has labels
+abbrev pub HasTraceLabels : Files → List ProgramPort → Word → Type 0
+HasTraceLabels files ports trace = (labels : List Label) × SaysLabels ports (bytes_at files trace) labels
+
 -- The calls of the store: the trace file is read, and the moves are where it has labels.
-abbrev pub IsTextsCall : Files → List ProgramPort → (trace moves : Word) → LastFault → Type 0
-IsTextsCall files ports trace moves fault =
-    (fault ≡ ReadFault trace) ⊎ ((labels : List Label) × SaysLabels ports (bytes_at files trace) labels × (fault ≡ ReadFault moves))
+abbrev pub IsTextsCall : (trace moves : Word) → Type 0 → LastFault → Type 0
+IsTextsCall trace moves Labelled fault = (fault ≡ ReadFault trace) ⊎ (Labelled × (fault ≡ ReadFault moves))

@@ -2,7 +2,7 @@
 --
 -- Read first: Verified, Taken; Texts; Lines and MovesText of gos_witness. `files` are those of the store when the command began, and `new`
 -- are there when it has ended. A file that the store doesn't hold counts as empty.
-use Rattle.std.specs.Prelude.{◌≡◌, ◌≢◌, ◌⊎◌, ℕ, false, List, length, Option, Some}
+use Rattle.std.specs.Prelude.{◌≡◌, ◌≢◌, ◌⊎◌, ℕ, false, List, length, Option, Some, IfSome}
 use Rattle.gos_outside.specs.Files.{Files, SameBut, bytes_at, with_file}
 use Rattle.gos_outside.specs.Faults.{LastFault, ReadFault, WriteFault}
 use Rattle.gos_lex.specs.Lines.{Word}
@@ -24,6 +24,7 @@ use Rattle.gos_command.specs.declared.report.Report.TheVariants as reports
 use Rattle.gos_command.specs.declared.status.Cause.{Cause}
 use Rattle.gos_command.specs.declared.status.Cause.TheVariants as causes
 use Rattle.gos_command.specs.declared.status.Fault.{Fault}
+use Rattle.gos_tool.specs.Calls.{ReadsAs}
 use Rattle.gos_tool.specs.Causes.{IsFileFault}
 use Rattle.gos_tool.specs.circuits.Linked.{SaysBuild, IsFormCause}
 use Rattle.gos_tool.specs.explained.Sources.{IsSourceCall}
@@ -76,23 +77,28 @@ RejectsExplain files own moves fault line =
     IsFileFault own (IsFormCause (bytes_at files own) own) fault line
     ⊎ ((b : Build) × SaysBuild files own b × (RejectsSources files own b (Some moves) fault line ⊎ RejectsLabels files b moves fault line))
 
--- The calls of the store, each where what is judged before it is right: the build file is read, the sources, the trace file, and the lines
--- that are found are written. A file whose write fails may hold anything.
+-- the trace file has labels, which lines explain; and so it is by the program of the linked modules
 abbrev pub HasLines : Files → List ProgramPort → Program → Word → Type 0
 HasLines files ports p trace =
     (labels : List Label) × (lines : List Line) × SaysLabels ports (bytes_at files trace) labels × Explains p (labels_of ports labels) lines
 
-abbrev pub IsTraceCall : Files → Option Files → List ProgramPort → Program → (trace moves : Word) → LastFault → Type 0
-IsTraceCall files new ports p trace moves fault =
-    ((fault ≡ ReadFault trace) × (new ≡ Some files)) ⊎ ((fault ≡ WriteFault moves) × SameBut moves (Some files) new × HasLines files ports p trace)
+abbrev pub HasProgramLines : Files → Build → Type 0
+HasProgramLines files b =
+    (whole : SeenProgram) × (s : SayProgram files b whole) × HasLines files whole.ports (program_along s.modules s.links) b.trace
 
-abbrev pub IsLabelsCall : Files → Option Files → Build → Word → LastFault → Type 0
-IsLabelsCall files new b moves fault =
-    (is_named b moves ≡ false) × (whole : SeenProgram) × (s : SayProgram files b whole)
-    × IsTraceCall files new whole.ports (program_along s.modules s.links) b.trace moves fault
+-- The calls of the store, each where what is judged before it is right: the build file is read, the sources, the trace file, and the lines
+-- that are found are written. A file whose write fails may hold anything. `old` are the files where the store tells them.
+abbrev pub IsTraceCall : Option Files → Option Files → (trace moves : Word) → Type 0 → LastFault → Type 0
+IsTraceCall old new trace moves Found fault =
+    ((fault ≡ ReadFault trace) × (new ≡ old)) ⊎ ((fault ≡ WriteFault moves) × SameBut moves old new × Found)
 
-abbrev pub IsExplainCall : Files → Option Files → Word → Word → LastFault → Type 0
-IsExplainCall files new own moves fault =
-    ((fault ≡ ReadFault own) × (new ≡ Some files))
-    ⊎ ((b : Build) × SaysBuild files own b
-    × ((IsSourceCall (Some files) b.instances.items fault × (new ≡ Some files)) ⊎ IsLabelsCall files new b moves fault))
+abbrev pub IsLabelsCall : Option Files → Option Files → Build → Word → LastFault → Type 0
+IsLabelsCall old new b moves fault =
+    (is_named b moves ≡ false) × IfSome old (λ files. (whole : SeenProgram) × SayProgram files b whole)
+    × IsTraceCall old new b.trace moves (IfSome old (λ files. HasProgramLines files b)) fault
+
+abbrev pub IsExplainCall : Option Files → Option Files → Word → Word → LastFault → Type 0
+IsExplainCall old new own moves fault =
+    ((fault ≡ ReadFault own) × (new ≡ old))
+    ⊎ ((b : Build) × ReadsAs old own b
+    × ((IsSourceCall old b.instances.items fault × (new ≡ old)) ⊎ IsLabelsCall old new b moves fault))

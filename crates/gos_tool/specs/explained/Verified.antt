@@ -2,7 +2,7 @@
 --
 -- Read first: Sources, LinkedModules, Explained; Headline of build (`SayModules`). Nothing is written. A file that the store doesn't hold
 -- counts as empty.
-use Rattle.std.specs.Prelude.{◌≡◌, ◌⊎◌, ℕ, List, Option, Some, None}
+use Rattle.std.specs.Prelude.{◌≡◌, ◌⊎◌, ℕ, List, Option, Some, None, IfSome}
 use Rattle.gos_outside.specs.Files.{Files, bytes_at}
 use Rattle.gos_outside.specs.Faults.{LastFault, ReadFault}
 use Rattle.gos_lex.specs.Lines.{Word}
@@ -12,12 +12,13 @@ use Rattle.gos_link.specs.declared.build.Build.{Build}
 use Rattle.gos_witness.specs.Programs.{SeenProgram}
 use Rattle.gos_command.specs.declared.report.Report.{Report}
 use Rattle.gos_command.specs.declared.status.Fault.{Fault}
+use Rattle.gos_tool.specs.Calls.{ReadsAs}
 use Rattle.gos_tool.specs.Causes.{IsFileFault}
 use Rattle.gos_tool.specs.circuits.Linked.{SaysBuild, IsFormCause}
 use Rattle.gos_tool.specs.build.Headline.{SayModules}
 use Rattle.gos_tool.specs.explained.Sources.{RejectsSource, IsSourceCall}
 use Rattle.gos_tool.specs.explained.LinkedModules.{IsLinkedAs, IsModulesCause, program_along}
-use Rattle.gos_tool.specs.explained.Explained.{AreExplained, RejectsTexts, IsTextsCall}
+use Rattle.gos_tool.specs.explained.Explained.{AreExplained, RejectsTexts, HasTraceLabels, IsTextsCall}
 
 -- the sources of a build say modules, which are linked so, and this is their program
 pub record SayProgram (files : Files) (b : Build) (whole : SeenProgram) : Type 0 where
@@ -51,12 +52,18 @@ RejectsVerify files own moves fault line =
     IsFileFault own (IsFormCause (bytes_at files own) own) fault line
     ⊎ ((b : Build) × SaysBuild files own b × (RejectsSources files own b None fault line ⊎ RejectsProgram files b moves fault line))
 
--- The calls of the store, each where what is judged before it is right: the build file is read, the sources, the trace file, MOVES.
-abbrev pub IsProgramCall : Files → Build → Word → LastFault → Type 0
-IsProgramCall files b moves fault = (whole : SeenProgram) × SayProgram files b whole × IsTextsCall files whole.ports b.trace moves fault
+-- the trace file has labels by the ports of the linked modules' program
+abbrev pub HasProgramLabels : Files → Build → Type 0
+HasProgramLabels files b = (whole : SeenProgram) × SayProgram files b whole × HasTraceLabels files whole.ports b.trace
 
-abbrev pub IsVerifyCall : Files → Word → Word → LastFault → Type 0
-IsVerifyCall files own moves fault =
+-- The calls of the store, each where what is judged before it is right: the build file is read, the sources, the trace file, MOVES. `old`
+-- are the files where the store tells them.
+abbrev pub IsProgramCall : Option Files → Build → Word → LastFault → Type 0
+IsProgramCall old b moves fault =
+    IfSome old (λ files. (whole : SeenProgram) × SayProgram files b whole)
+    × IsTextsCall b.trace moves (IfSome old (λ files. HasProgramLabels files b)) fault
+
+abbrev pub IsVerifyCall : Option Files → Word → Word → LastFault → Type 0
+IsVerifyCall old own moves fault =
     (fault ≡ ReadFault own)
-    ⊎ ((b : Build) × SaysBuild files own b
-    × (IsSourceCall (Some files) b.instances.items fault ⊎ IsProgramCall files b moves fault))
+    ⊎ ((b : Build) × ReadsAs old own b × (IsSourceCall old b.instances.items fault ⊎ IsProgramCall old b moves fault))

@@ -1,14 +1,15 @@
 -- Which netlist files `tidy` and `gates` don't reject. Laws of these definitions, for all files.
 --
 -- Read first: Netlist, Gates.
-use Rattle.std.specs.Prelude.{ℕ, ◌≤◌, List}
+use Rattle.std.specs.Prelude.{ℕ, ◌≤◌, List, Option, Some}
 use Rattle.gos_outside.specs.Files.{Files, bytes_at}
 use Rattle.gos_lex.specs.Lines.{Word}
 use Rattle.gos_netlist.specs.Nets.{Netlist}
 use Rattle.gos_gates.specs.Lowered.{bits_in}
+use Rattle.gos_command.specs.declared.report.Report.{Report}
 use Rattle.gos_command.specs.declared.status.Fault.{Fault}
 use Rattle.gos_tool.specs.netlists.Netlist.{SaysNet, IsNetFault}
-use Rattle.gos_tool.specs.netlists.Gates.{IsGatesFault}
+use Rattle.gos_tool.specs.netlists.Gates.{AreGatesDone, IsGatesFault}
 
 -- the text says a netlist that is accepted
 abbrev pub IsRightToTidy : List ℕ → Type 0
@@ -26,3 +27,9 @@ TidyIsNotRejected =
 abbrev pub GatesAreNotRejected : Type 0
 GatesAreNotRejected =
     (files : Files) (net : Word) (fault : Fault) (line : List ℕ) → IsRightToLower (bytes_at files net) → IsGatesFault files net fault line → ⊥
+
+-- and where `gates` is done, its file is such a one: one that has more bits is always rejected
+abbrev pub LoweredIsRight : Type 0
+LoweredIsRight =
+    (files : Files) (new : Option Files) (net out : Word) (report : Report) → AreGatesDone (Some files) new net out report
+    → IsRightToLower (bytes_at files net)

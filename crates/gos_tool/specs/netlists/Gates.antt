@@ -18,12 +18,13 @@ use Rattle.gos_command.specs.declared.status.Cause.TheVariants as causes
 use Rattle.gos_command.specs.declared.status.Fault.{Fault}
 use Rattle.gos_tool.specs.netlists.Netlist.{SaysNet, IsNetFault}
 
--- All is done: the netlist file says an accepted netlist, and the text of the gates that it is lowered to is written. The line tells the
--- numbers of its header.
+-- All is done: the netlist file says an accepted netlist, which has no more bits than may be lowered, and the text of the gates that it is
+-- lowered to is written. The line tells the numbers of its header.
 pub record AreGatesDone (old new : Option Files) (net out : Word) (report : Report) : Type 0 where
   pub circuit : Netlist
   pub gates : circuits.Gates
   pub says : IfSome old (λ files. SaysNet (bytes_at files net) circuit)
+  pub small : bits_in circuit.cells ≤ 2000000
   pub are : circuits.AreGates gates
   pub lowered : IsLowered circuit gates
   pub wrote : new ≡ with_file out (aag_text gates) old

@@ -5,7 +5,7 @@ ghost use Rattle.std.specs.Prelude.{◌∷◌, [], IfOk, IfErr, IfSome, IsErrOf}
 ghost use Rattle.gos_outside.specs.FileName.{IsFileName};
 ghost use Rattle.gos_outside.specs.Faults.{CountsFaults};
 ghost use Rattle.gos_command.specs.Ends.{IfStopped, IsTold, ending};
-ghost use Rattle.gos_tool.specs.Causes.{OfSource, OfBuild, OfPulses, StopsFor, TellsBoth};
+ghost use Rattle.gos_tool.specs.Causes.{OfSource, OfBuild, OfWeight, OfPulses, StopsFor, TellsBoth};
 ghost use Rattle.gos_tool.specs.Calls.{build_calls, GoesByBuild};
 ghost use Rattle.gos_tool.specs.build.Built.{IsBuilt, RejectsBuild, IsBuildCall, IsBuildCutShort, KeepsUnnamed};
 
@@ -31,13 +31,13 @@ pub fn build<S: Store>(alloc: Global, own: &[u8], store: &mut S) -> Result<Repor
         IfSome (S.contents store.old) (λ files. RejectsBuild files (S.contents store.new) own.now fault line))) }
     ensures told { IfErr result (λ stop. IfStopped stop IsTold) }
     ensures tells { IfOk result TellsBoth }
-    ensures kind { IfErr result (StopsFor (OfSource ∷ OfBuild ∷ OfPulses ∷ [])) }
+    ensures kind { IfErr result (StopsFor (OfSource ∷ OfBuild ∷ OfWeight ∷ OfPulses ∷ [])) }
     ensures calls { GoesByBuild (ending result) [] (S.contents store.old) own.now build_calls (S.calls store.old) (S.calls store.new) }
 
     // The store is blamed only for a call that failed, and that the command makes then.
     ensures counts { CountsFaults (IsErrOf result Stop.StoreFailed) (S.faults store.old) (S.faults store.new) }
-    ensures failed_call { IsErrOf result Stop.StoreFailed → IfSome (S.contents store.old) (λ files.
-        IsBuildCall files (S.contents store.new) own.now (S.last_fault store.new)) }
+    ensures failed_call { IsErrOf result Stop.StoreFailed →
+        IsBuildCall (S.contents store.old) (S.contents store.new) own.now (S.last_fault store.new) }
     ensures memory_files { IsErrOf result Stop.NoMemory → IfSome (S.contents store.old) (λ files.
         IsBuildCutShort files (S.contents store.new) own.now) }
     ensures others { KeepsUnnamed own.now (S.contents store.old) (S.contents store.new) }

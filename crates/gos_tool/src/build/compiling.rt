@@ -43,8 +43,8 @@ pub fn compile_all<S: Store>(
     ensures kind { IfErr result (StopsFor (OfSource ∷ [])) }
     ensures calls { AreMade (ending result) (module_calls instances.now) (S.calls store.old) (S.calls store.new) }
     ensures counts { CountsFaults (IsErrOf result Stop.StoreFailed) (S.faults store.old) (S.faults store.new) }
-    ensures failed_call { IsErrOf result Stop.StoreFailed → IfSome (S.contents store.old) (λ files.
-        IsModuleCall files (S.contents store.new) instances.now (S.last_fault store.new)) }
+    ensures failed_call { IsErrOf result Stop.StoreFailed →
+        IsModuleCall (S.contents store.old) (S.contents store.new) instances.now (S.last_fault store.new) }
     ensures memory_files { IsErrOf result Stop.NoMemory → IfSome (S.contents store.old) (λ files.
         SomeWritten files (S.contents store.new) instances.now) }
     ensures others { OthersSame (objects_of instances.now) (S.contents store.old) (S.contents store.new) }

@@ -4,7 +4,7 @@ ghost use Rattle.std.specs.Prelude.{◌≡◌, ◌∷◌, [], IfOk, IfErr, IfSom
 ghost use Rattle.gos_outside.specs.FileName.{IsFileName};
 ghost use Rattle.gos_outside.specs.Faults.{CountsFaults};
 ghost use Rattle.gos_command.specs.Ends.{IfStopped, IsTold, ending};
-ghost use Rattle.gos_tool.specs.Causes.{OfObject, OfBuild, OfSize, StopsFor, TellsWeight};
+ghost use Rattle.gos_tool.specs.Causes.{OfObject, OfBuild, OfWeight, OfSize, StopsFor, TellsWeight};
 ghost use Rattle.gos_tool.specs.Calls.{link_calls, GoesByBuild};
 ghost use Rattle.gos_tool.specs.circuits.Linked.{IsLinkDone, RejectsLink, IsLinkCall, IsLinkCutShort, KeepsUnnamed};
 
@@ -29,7 +29,7 @@ pub fn link_build<S: Store>(alloc: Global, own: &[u8], store: &mut S) -> Result<
     ensures told { IfErr result (λ stop. IfStopped stop IsTold) }
     ensures rejected_files { IfErr result (λ stop. IfStopped stop (λ fault line. S.contents store.new ≡ S.contents store.old)) }
     ensures tells { IfOk result TellsWeight }
-    ensures kind { IfErr result (StopsFor (OfObject ∷ OfBuild ∷ OfSize ∷ [])) }
+    ensures kind { IfErr result (StopsFor (OfObject ∷ OfBuild ∷ OfWeight ∷ OfSize ∷ [])) }
     ensures calls { GoesByBuild (ending result) [] (S.contents store.old) own.now link_calls (S.calls store.old) (S.calls store.new) }
 
     // The store is blamed only for a call that failed, and that the command makes then.

@@ -9,7 +9,7 @@ ghost use Rattle.gos_plan.specs.Ranges.{AreInRange};
 ghost use Rattle.gos_plan.specs.Seen.{SeenPlan, plan_of};
 ghost use Rattle.gos_link.specs.Linked.{IsLinkable, IsLinked};
 ghost use Rattle.gos_command.specs.Ends.{IfStopped, IsTold, ending};
-ghost use Rattle.gos_tool.specs.Causes.{IsFileFault, OfBuild, OfSize, StopsFor};
+ghost use Rattle.gos_tool.specs.Causes.{IsFileFault, OfBuild, OfWeight, OfSize, StopsFor};
 ghost use Rattle.gos_tool.specs.Calls.{circuit_calls};
 ghost use Rattle.gos_tool.specs.circuits.Plans.{IsWritten, IsPlansDone, IsPlansCause, IsWriteCall, IsPlansCall, IsWriteCutShort, IsPlansCutShort};
 
@@ -48,7 +48,7 @@ pub fn link_plans<S: Store>(
     ensures rejected { IfErr result (λ stop. IfStopped stop (IsFileFault own.now (IsPlansCause build.now plans.now))) }
     ensures told { IfErr result (λ stop. IfStopped stop IsTold) }
     ensures rejected_files { IfErr result (λ stop. IfStopped stop (λ fault line. S.contents store.new ≡ S.contents store.old)) }
-    ensures kind { IfErr result (StopsFor (OfBuild ∷ OfSize ∷ [])) }
+    ensures kind { IfErr result (StopsFor (OfBuild ∷ OfWeight ∷ OfSize ∷ [])) }
     ensures calls { AreMade (ending result) (circuit_calls build.now) (S.calls store.old) (S.calls store.new) }
     ensures counts { CountsFaults (IsErrOf result Stop.StoreFailed) (S.faults store.old) (S.faults store.new) }
     ensures failed_call { IsErrOf result Stop.StoreFailed →

@@ -4,7 +4,7 @@ ghost use Rattle.std.specs.Prelude.{◌≡◌, ◌∷◌, [], None, IfOk, IfErr,
 ghost use Rattle.gos_outside.specs.OtherFiles.{OthersSame};
 ghost use Rattle.gos_outside.specs.Faults.{CountsFaults};
 ghost use Rattle.gos_command.specs.Ends.{IfStopped, IsTold, ending};
-ghost use Rattle.gos_tool.specs.Causes.{OfSource, OfBuild, OfPulses, StopsFor, TellsBoth};
+ghost use Rattle.gos_tool.specs.Causes.{OfSource, OfBuild, OfWeight, OfPulses, StopsFor, TellsBoth};
 ghost use Rattle.gos_tool.specs.demo.DemoFiles.{IsLevelCount};
 ghost use Rattle.gos_tool.specs.demo.Demo.{IsDemoDone, IsDemoCall, IsDemoCutShort, CallsOfDemo, written_by};
 
@@ -25,13 +25,13 @@ pub fn demo<S: Store>(alloc: Global, levels: u64, store: &mut S) -> Result<Repor
     ensures never_rejected { IfErr result (λ stop. IfStopped stop (λ _ _. S.contents store.old ≡ None)) }
     ensures told { IfErr result (λ stop. IfStopped stop IsTold) }
     ensures tells { IfOk result TellsBoth }
-    ensures kind { IfErr result (StopsFor (OfSource ∷ OfBuild ∷ OfPulses ∷ [])) }
+    ensures kind { IfErr result (StopsFor (OfSource ∷ OfBuild ∷ OfWeight ∷ OfPulses ∷ [])) }
     ensures calls { CallsOfDemo (ending result) (S.contents store.old) levels (S.calls store.old) (S.calls store.new) }
 
     // The store is blamed only for a call that failed, and that the command makes then.
     ensures counts { CountsFaults (IsErrOf result Stop.StoreFailed) (S.faults store.old) (S.faults store.new) }
-    ensures failed_call { IsErrOf result Stop.StoreFailed → IfSome (S.contents store.old) (λ files.
-        IsDemoCall files (S.contents store.new) levels (S.last_fault store.new)) }
+    ensures failed_call { IsErrOf result Stop.StoreFailed →
+        IsDemoCall (S.contents store.old) (S.contents store.new) levels (S.last_fault store.new) }
     ensures memory_files { IsErrOf result Stop.NoMemory → IfSome (S.contents store.old) (λ files.
         IsDemoCutShort files (S.contents store.new) levels) }
     ensures others { OthersSame (written_by levels) (S.contents store.old) (S.contents store.new) }

@@ -41,8 +41,8 @@ pub fn explain_moves<S: Store>(
 
     // The store is blamed only for a call that failed, and that the command makes then.
     ensures counts { CountsFaults (IsErrOf result Stop.StoreFailed) (S.faults store.old) (S.faults store.new) }
-    ensures failed_call { IsErrOf result Stop.StoreFailed → IfSome (S.contents store.old) (λ files.
-        IsExplainCall files (S.contents store.new) own.now moves.now (S.last_fault store.new)) }
+    ensures failed_call { IsErrOf result Stop.StoreFailed →
+        IsExplainCall (S.contents store.old) (S.contents store.new) own.now moves.now (S.last_fault store.new) }
     ensures memory_files { IsErrOf result Stop.NoMemory → S.contents store.new ≡ S.contents store.old }
     ensures others { SameBut moves.now (S.contents store.old) (S.contents store.new) }
 {

@@ -13,7 +13,7 @@ ghost use Rattle.gos_command.specs.declared.report.Report.TheVariants as reports
 ghost use Rattle.gos_command.specs.declared.stop.Stop.TheVariants as stops;
 ghost use Rattle.gos_tool.specs.Causes.{IsFileFault, OfMoves, StopsFor, TellsExplained};
 ghost use Rattle.gos_tool.specs.Calls.{explained_calls};
-ghost use Rattle.gos_tool.specs.explained.Explained.{AreExplained, IsLinesCause, RejectsTexts, IsTextsCall};
+ghost use Rattle.gos_tool.specs.explained.Explained.{AreExplained, IsLinesCause, RejectsTexts, HasTraceLabels, IsTextsCall};
 
 use crate::explained::texts::{labels_in, lines_in};
 use gos_command::{Cause, Report, Stop, reject};
@@ -41,8 +41,8 @@ pub fn explain_files<S: Store>(
     ensures kind { IfErr result (StopsFor (OfMoves ∷ [])) }
     ensures calls { AreMade (ending result) (explained_calls trace.now moves.now) (S.calls store.old) (S.calls store.new) }
     ensures counts { CountsFaults (IsErrOf result Stop.StoreFailed) (S.faults store.old) (S.faults store.new) }
-    ensures failed_call { IsErrOf result Stop.StoreFailed → IfSome (S.contents store.old) (λ files.
-        IsTextsCall files program.now.ports trace.now moves.now (S.last_fault store.new)) }
+    ensures failed_call { IsErrOf result Stop.StoreFailed → IsTextsCall trace.now moves.now
+        (IfSome (S.contents store.old) (λ files. HasTraceLabels files program.now.ports trace.now)) (S.last_fault store.new) }
     ensures same_files { S.contents store.new ≡ S.contents store.old }
 {
     let labels = labels_in(alloc, trace, program.ports(), store)?;

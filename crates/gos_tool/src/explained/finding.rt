@@ -16,7 +16,7 @@ ghost use Rattle.gos_command.specs.declared.stop.Stop.TheVariants as stops;
 ghost use Rattle.gos_tool.specs.Causes.{IsFileFault, OfMoves, StopsFor, TellsExplained};
 ghost use Rattle.gos_tool.specs.Calls.{found_calls};
 ghost use Rattle.gos_tool.specs.explained.LinkedModules.{IsTypedProgram};
-ghost use Rattle.gos_tool.specs.explained.Found.{AreFound, IsFindCause, RejectsTrace, IsTraceCall};
+ghost use Rattle.gos_tool.specs.explained.Found.{AreFound, IsFindCause, RejectsTrace, HasLines, IsTraceCall};
 
 use crate::explained::texts::labels_in;
 use gos_command::{Cause, Report, Stop, reject, write_file};
@@ -46,8 +46,8 @@ pub fn find_moves<S: Store>(
     ensures kind { IfErr result (StopsFor (OfMoves ∷ [])) }
     ensures calls { AreMade (ending result) (found_calls trace.now moves.now) (S.calls store.old) (S.calls store.new) }
     ensures counts { CountsFaults (IsErrOf result Stop.StoreFailed) (S.faults store.old) (S.faults store.new) }
-    ensures failed_call { IsErrOf result Stop.StoreFailed → IfSome (S.contents store.old) (λ files. IsTraceCall files
-        (S.contents store.new) program.now.ports (program_of program.now) trace.now moves.now (S.last_fault store.new)) }
+    ensures failed_call { IsErrOf result Stop.StoreFailed → IsTraceCall (S.contents store.old) (S.contents store.new) trace.now moves.now
+        (IfSome (S.contents store.old) (λ files. HasLines files program.now.ports (program_of program.now) trace.now)) (S.last_fault store.new) }
     ensures memory_files { IsErrOf result Stop.NoMemory → S.contents store.new ≡ S.contents store.old }
     ensures others { SameBut moves.now (S.contents store.old) (S.contents store.new) }
 {

@@ -38,8 +38,8 @@ pub fn verify_moves<S: Store>(
 
     // The store is blamed only for a call that failed, and that the command makes then. Nothing is written.
     ensures counts { CountsFaults (IsErrOf result Stop.StoreFailed) (S.faults store.old) (S.faults store.new) }
-    ensures failed_call { IsErrOf result Stop.StoreFailed → IfSome (S.contents store.old) (λ files.
-        IsVerifyCall files own.now moves.now (S.last_fault store.new)) }
+    ensures failed_call { IsErrOf result Stop.StoreFailed →
+        IsVerifyCall (S.contents store.old) own.now moves.now (S.last_fault store.new) }
     ensures same_files { S.contents store.new ≡ S.contents store.old }
 {
     let build = build_in(alloc, own, store)?;

@@ -8,6 +8,7 @@ use Rattle.gos_outside.specs.Faults.{LastFault}
 use Rattle.gos_outside.proofs.OtherFilesLemmas.{then_later, more_names, apart_front, apart_back}
 use Rattle.gos_lex.specs.Lines.{Word}
 use Rattle.gos_plan.specs.Seen.{SeenPlan}
+use Rattle.gos_link.specs.BuildFile.{IsBuildFile}
 use Rattle.gos_link.specs.declared.build.Build.{Build}
 use Rattle.gos_link.specs.declared.build.Instance.{Instance}
 use Rattle.gos_command.specs.declared.report.Report.{Report}
@@ -31,11 +32,17 @@ module _ {old told : Option Files} {own : Word} {b : Build} (has : HasRead old t
       after_reading (λ files. RejectsModule files new is fault line) (λ files. RejectsBuild files new own fault line) wrong
       (λ files says h. inr (b, says, inl (subst (λ (js : List Instance). RejectsModule files new js fault line) same h)))
 
-  pub source_call : (is : List Instance) (fault : LastFault) → is ≡ b.instances.items
-      → IfSome told (λ files. IsModuleCall files new is fault) → IfSome old (λ files. IsBuildCall files new own fault)
-  source_call is fault same call =
-      after_reading (λ files. IsModuleCall files new is fault) (λ files. IsBuildCall files new own fault) call
-      (λ files says h. inr (b, says, inl (subst (λ (js : List Instance). IsModuleCall files new js fault) same h)))
+  pub source_call : ((text : List ℕ) × IsBuildFile text own b) → (is : List Instance) (fault : LastFault) → is ≡ b.instances.items
+      → IsModuleCall told new is fault → IsBuildCall old new own fault
+  source_call read is fault same call =
+      inr (
+        b,
+        (read, has.says),
+        inl (
+          subst (λ (o : Option Files). IsModuleCall o new b.instances.items fault) has.kept
+              (subst (λ (js : List Instance). IsModuleCall told new js fault) same call),
+        ),
+      )
 
   pub source_cut_short : (is : List Instance) → is ≡ b.instances.items
       → IfSome told (λ files. SomeWritten files new is) → IfSome old (λ files. IsBuildCutShort files new own)
@@ -82,9 +89,9 @@ module _ {old told : Option Files} {own : Word} {b : Build} {plans : List SeenPl
   plans_rejected fault line wrong =
       after_compiling (λ files. RejectsBuild files new own fault line) (λ files says written. inr (b, says, inr (plans, told, written, wrong)))
 
-  pub plans_call : (fault : LastFault) → IsPlansBuildCall told new b plans fault → IfSome old (λ files. IsBuildCall files new own fault)
-  plans_call fault call =
-      after_compiling (λ files. IsBuildCall files new own fault) (λ files says written. inr (b, says, inr (plans, told, written, call)))
+  pub plans_call : ((text : List ℕ) × IsBuildFile text own b) → (fault : LastFault) → IsPlansBuildCall told new b plans fault
+      → IsBuildCall old new own fault
+  plans_call read fault call = inr (b, (read, has.says), inr (plans, told, has.written, call))
 
   pub plans_cut_short : IsPlansBuildCutShort told new b plans → IfSome old (λ files. IsBuildCutShort files new own)
   plans_cut_short short =

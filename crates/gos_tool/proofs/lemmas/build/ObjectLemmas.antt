@@ -21,7 +21,7 @@ use Rattle.gos_tool.specs.objects.Checked.{SaysModule, IsSourceFault, IsSourceCa
 use Rattle.gos_tool.specs.objects.Typed.{IsTypedAs, IsPlanFor}
 use Rattle.gos_tool.specs.objects.Compiled.{IsPlanOfModule}
 use Rattle.gos_tool.proofs.lemmas.objects.CompiledLemmas.{plan_is}
-use Rattle.gos_tool.specs.build.Objects.{BeginWith, HavePlans, objects_of, with_objects, AllWritten, SomeWritten, RejectsModule, IsInstanceCall, IsModuleCall}
+use Rattle.gos_tool.specs.build.Objects.{BeginWith, HavePlans, objects_of, with_objects, AllWritten, SomeWritten, RejectsModule, IsInstanceCall, AreFirstWritten, IsModuleCall}
 use Rattle.gos_tool.specs.build.inner.Compiling.{EachApart, AreApart, IsCompiledAs, AreSoFar}
 
 -- an instance at its place
@@ -185,19 +185,29 @@ module _ {old mid : Option Files} {is : List Instance} {plans : List SeenPlan} {
       (source_was (λ files. IsSourceFault files i.source fault line) (fault_moved i.source fault line) wrong)
 
   -- a call for it fails
-  call_for : (files : Files) (new : Option Files) (fault : LastFault) → AreSoFar files mid is plans
-      → IsInstanceCall mid new i ((m : SeenModule) × SaysModule (bytes_at files i.source) m) fault → IsModuleCall files new is fault
-  call_for files new fault far call =
-      record { between = mid; before = some_of files mid mid is plans refl far; instance = i; at = next.at; call = call }
+  call_moved : (new : Option Files) (fault : LastFault) → IsInstanceCall mid new i (IfSome mid (λ files. (m : SeenModule) × SaysModule (bytes_at files i.source) m)) fault
+      → IsInstanceCall mid new i (IfSome old (λ files. (m : SeenModule) × SaysModule (bytes_at files i.source) m)) fault
+  call_moved new fault (inl read) = inl read
+  call_moved new fault (inr (failed, others, says)) =
+      inr (
+        failed,
+        others,
+        source_was (λ files. (m : SeenModule) × SaysModule (bytes_at files i.source) m) (λ now files e h. (h.0, subst (λ (t : List ℕ). SaysModule t h.0) e h.1)) says,
+      )
 
   pub calls : (new : Option Files) (fault : LastFault) → IsInstanceCall mid new i (IfSome mid (λ files. (m : SeenModule) × SaysModule (bytes_at files i.source) m)) fault
-      → IfSome old (λ files. IsModuleCall files new is fault)
-  calls new fault (inl read) =
-      of_some (λ files. AreSoFar files mid is plans) (λ files. IsModuleCall files new is fault) old (λ files far. call_for files new fault far (inl read)) next.before
-  calls new fault (inr (failed, others, says)) =
-      of_some_both (λ files. AreSoFar files mid is plans) (λ files. (m : SeenModule) × SaysModule (bytes_at files i.source) m) (λ files. IsModuleCall files new is fault) old
-      (λ files far h. call_for files new fault far (inr (failed, others, h))) next.before
-      (source_was (λ files. (m : SeenModule) × SaysModule (bytes_at files i.source) m) (λ now files e h. (h.0, subst (λ (t : List ℕ). SaysModule t h.0) e h.1)) says)
+      → IsModuleCall old new is fault
+  calls new fault call =
+      record {
+        number = length plans;
+        between = mid;
+        instance = i;
+        at = next.at;
+        before =
+            of_some (λ files. AreSoFar files mid is plans) (λ files. AreFirstWritten files mid is (length plans)) old
+            (λ files far. (some_of files mid mid is plans refl far, refl)) next.before;
+        call = call_moved new fault call;
+      }
 
 -- all
 pub all_written : (old new : Option Files) (is : List Instance) (plans : List SeenPlan) → length plans ≡ length is → IfSome old (λ files. AreSoFar files new is plans)

@@ -53,11 +53,12 @@ module _ {old told : Option Files} {own : Word} {b : Build} (has : HasRead old t
       (λ files says h. inr (b, says, inl (subst (λ (js : List Instance). RejectsObject files js fault line) same h))) has.says
       (subst (λ (o : Option Files). IfSome o (λ files. RejectsObject files is fault line)) has.kept wrong)
 
-  pub object_call : (new : Option Files) (fault : LastFault) → new ≡ told → IsObjectCall told is fault → IsLinkCall old new own fault
-  object_call new fault kept call =
+  pub object_call : ((text : List ℕ) × IsBuildFile text own b) → (new : Option Files) (fault : LastFault) → new ≡ told → IsObjectCall told is fault
+      → IsLinkCall old new own fault
+  object_call read new fault kept call =
       inr (
         b,
-        has.says,
+        (read, has.says),
         inl (
           subst (λ (o : Option Files). IsObjectCall o b.instances.items fault) has.kept (subst (λ (js : List Instance). IsObjectCall told js fault) same call),
           kept ∙ has.kept,
@@ -96,11 +97,11 @@ module _ {old told : Option Files} {own : Word} {b : Build} {plans : List SeenPl
       (λ files says h. inr (b, says, inr (record { file = wrong.file; cause = (plans, h, wrong.cause); says = wrong.says }))) has.says has.held
 
   -- a call that linking makes, and what it leaves where memory runs out
-  pub plans_call : (fault : LastFault) → IsPlansCall told new b plans fault → IsLinkCall old new own fault
-  plans_call fault (whole, linked, call) =
+  pub plans_call : ((text : List ℕ) × IsBuildFile text own b) → (fault : LastFault) → IsPlansCall told new b plans fault → IsLinkCall old new own fault
+  plans_call read fault (whole, linked, call) =
       inr (
         b,
-        has.says,
+        (read, has.says),
         inr (
           whole,
           record { plans = plans; held = has.held; linked = linked },

@@ -93,9 +93,9 @@ demo_never_rejected levels old mid new ended count exactly few not_rejected betw
         (demo_is_right exactly few levels (with_demo levels files) new count (demo_held levels files) (own_text levels files)) rejects)
 
 pub demo_call : (levels : ℕ) (old mid new : Option Files) (fault : LastFault) → IsBetween levels old mid
-    → IfSome mid (λ files. IsBuildCall files new (build_file levels).name fault) → IfSome old (λ files. IsDemoCall files new levels fault)
+    → IsBuildCall mid new (build_file levels).name fault → IsDemoCall old new levels fault
 demo_call levels old mid new fault between call =
-    lifted (λ files. IsBuildCall files new (build_file levels).name fault) (λ files. IsDemoCall files new levels fault) levels old mid between (λ files c. inr c) call
+    inr (subst (λ (m : Option Files). IsBuildCall m new (build_file levels).name fault) between call)
 
 pub demo_cut_short : (levels : ℕ) (old mid new : Option Files) → IsBetween levels old mid
     → IfSome mid (λ files. IsBuildCutShort files new (build_file levels).name) → IfSome old (λ files. IsDemoCutShort files new levels)

@@ -74,5 +74,6 @@ taken_fault b written ms ls own taken are =
 
 -- a fault of links is one of the build
 pub of_links : (why : LinkFault) → IsOfLinks why → IsOneOf (OfBuild ∷ []) (causes.Link why)
+of_links (faults.TooHeavy weight) light = absurd light
 of_links (faults.TooLarge size ports) light = absurd light
 of_links why light = inl refl

@@ -5,6 +5,7 @@ use Rattle.gos_outside.specs.Files.{Files, SameBut, bytes_at, with_file}
 use Rattle.gos_outside.specs.Faults.{LastFault, ReadFault, WriteFault}
 use Rattle.gos_lex.specs.Lines.{Word}
 use Rattle.gos_model.specs.Moves.{Program, Trace}
+use Rattle.gos_link.specs.BuildFile.{IsBuildFile}
 use Rattle.gos_link.specs.declared.build.Build.{Build}
 use Rattle.gos_witness.specs.declared.labels.Label.{Label}
 use Rattle.gos_witness.specs.declared.moves.Line.{Line}
@@ -25,9 +26,9 @@ use Rattle.gos_tool.specs.explained.Sources.{IsSourceCall}
 use Rattle.gos_tool.specs.explained.Taken.{is_named}
 use Rattle.gos_tool.specs.explained.Texts.{SaysLabels, IsTextCause}
 use Rattle.gos_tool.specs.explained.Verified.{RejectsSources}
-use Rattle.gos_tool.specs.explained.Found.{AreFound, IsExplained, IsFindCause, RejectsTrace, RejectsExplain, IsTraceCall, IsExplainCall}
+use Rattle.gos_tool.specs.explained.Found.{AreFound, IsExplained, IsFindCause, RejectsTrace, RejectsExplain, HasLines, HasProgramLines, IsTraceCall, IsExplainCall}
 use Rattle.gos_tool.proofs.lemmas.circuits.LinkLemmas.{HasRead}
-use Rattle.gos_tool.proofs.lemmas.explained.VerifyLemmas.{HasLabels, HasProgram, after_build, after_program}
+use Rattle.gos_tool.proofs.lemmas.explained.VerifyLemmas.{HasLabels, HasProgram, after_build, after_program, has_whole}
 
 -- the trace file is read first
 pub trace_text_rejected : (old : Option Files) (ports named : List ProgramPort) → named ≡ ports → (p : Program) (trace : Word) (fault : Fault) (line : List ℕ)
@@ -36,11 +37,6 @@ pub trace_text_rejected : (old : Option Files) (ports named : List ProgramPort) 
 trace_text_rejected old ports named same p trace fault line wrong =
     of_some (λ files. IsFileFault trace (IsTextCause (IsTraceText named) (bytes_at files trace)) fault line) (λ files. RejectsTrace files ports p trace fault line) old
     (λ files h. inl (subst (λ (qs : List ProgramPort). IsFileFault trace (IsTextCause (IsTraceText qs) (bytes_at files trace)) fault line) same h)) wrong
-
-pub trace_unread : (old new : Option Files) (ports : List ProgramPort) (p : Program) (trace moves : Word) (fault : LastFault) → new ≡ old
-    → fault ≡ ReadFault trace → IfSome old (λ files. IsTraceCall files new ports p trace moves fault)
-trace_unread None new ports p trace moves fault kept is = tt
-trace_unread (Some files) new ports p trace moves fault kept is = inl (is, kept)
 
 -- it has labels, and lines are found for them
 module _ {old told : Option Files} {ports : List ProgramPort} {trace : Word} {labels : List Label} (has : HasLabels old told ports trace labels) (p : Program) where
@@ -53,13 +49,14 @@ module _ {old told : Option Files} {ports : List ProgramPort} {trace : Word} {la
   module _ (moves : Word) (new : Option Files) (lines : List Line) (explained : Explains p (labels_of ports labels) lines) where
     -- their text can't be written
     pub lines_unwritten : (fault : LastFault) → fault ≡ WriteFault moves → SameBut moves told new
-        → IfSome old (λ files. IsTraceCall files new ports p trace moves fault)
-    lines_unwritten fault is others = by old has.says (subst (λ (o : Option Files). SameBut moves o new) has.kept others)
-      where
-        by : (o : Option Files) → IfSome o (λ files. SaysLabels ports (bytes_at files trace) labels) → SameBut moves o new
-            → IfSome o (λ files. IsTraceCall files new ports p trace moves fault)
-        by None says same = tt
-        by (Some files) says same = inr (is, same, (labels, lines, says, explained))
+        → IsTraceCall old new trace moves (IfSome old (λ files. HasLines files ports p trace)) fault
+    lines_unwritten fault is others =
+        inr (
+          is,
+          subst (λ (o : Option Files). SameBut moves o new) has.kept others,
+          of_some (λ files. SaysLabels ports (bytes_at files trace) labels) (λ files. HasLines files ports p trace) old
+              (λ files says. (labels, lines, says, explained)) has.says,
+        )
 
     -- or it is
     are_found : Trace p (labels_of ports labels) → (printed : List Line) → printed ≡ lines → AreLines printed
@@ -96,15 +93,14 @@ module _ {old told : Option Files} {own : Word} {b : Build} (has : HasRead old t
       after_build has moves (λ files. RejectsSources files own b (Some moves) fault line) (λ files. RejectsExplain files own moves fault line)
       (λ files says h. inr (b, says, inl h))
 
-  pub source_unread : (new : Option Files) (fault : LastFault) → new ≡ told → IsSourceCall told b.instances.items fault
-      → IfSome old (λ files. IsExplainCall files new own moves fault)
-  source_unread new fault kept call =
-      by old has.says (kept ∙ has.kept) (subst (λ (o : Option Files). IsSourceCall o b.instances.items fault) has.kept call)
-    where
-      by : (o : Option Files) → IfSome o (λ files. SaysBuild files own b) → new ≡ o → IsSourceCall o b.instances.items fault
-          → IfSome o (λ files. IsExplainCall files new own moves fault)
-      by None says same h = tt
-      by (Some files) says same h = inr (b, says, inl (h, same))
+  pub source_unread : ((text : List ℕ) × IsBuildFile text own b) → (new : Option Files) (fault : LastFault) → new ≡ told
+      → IsSourceCall told b.instances.items fault → IsExplainCall old new own moves fault
+  source_unread read new fault kept call =
+      inr (
+        b,
+        (read, has.says),
+        inl (subst (λ (o : Option Files). IsSourceCall o b.instances.items fault) has.kept call, kept ∙ has.kept),
+      )
 
 -- its sources too, and linked; and it doesn't name the file for the moves
 module _ {old told : Option Files} {own : Word} {b : Build} {whole : SeenProgram} (has : HasProgram old told own b whole) (moves trace : Word)
@@ -120,17 +116,27 @@ module _ {old told : Option Files} {own : Word} {b : Build} {whole : SeenProgram
         inr (free, whole, said, subst (λ (p : Program). RejectsTrace files whole.ports p b.trace fault line) said.linked.program.program h),
       ))
 
-  pub trace_call : (new : Option Files) (fault : LastFault)
-      → IfSome told (λ files. IsTraceCall files new whole.ports (program_of whole) trace moves fault)
-      → IfSome old (λ files. IsExplainCall files new own moves fault)
-  trace_call new fault =
-      after_program has moves trace named (λ t files. IsTraceCall files new whole.ports (program_of whole) t moves fault)
-      (λ files. IsExplainCall files new own moves fault)
-      (λ files says said h. inr (
+  -- lines are found for its labels
+  has_lines : IfSome told (λ files. HasLines files whole.ports (program_of whole) trace) → IfSome old (λ files. HasProgramLines files b)
+  has_lines =
+      after_program has moves trace named (λ t files. HasLines files whole.ports (program_of whole) t) (λ files. HasProgramLines files b)
+      (λ files says said h. (whole, said, subst (λ (p : Program). HasLines files whole.ports p b.trace) said.linked.program.program h))
+
+  pub trace_call : ((text : List ℕ) × IsBuildFile text own b) → (new : Option Files) (fault : LastFault)
+      → IsTraceCall told new trace moves (IfSome told (λ files. HasLines files whole.ports (program_of whole) trace)) fault
+      → IsExplainCall old new own moves fault
+  trace_call read new fault (inl (is, kept)) =
+      inr (
         b,
-        says,
-        inr (free, whole, said, subst (λ (p : Program). IsTraceCall files new whole.ports p b.trace moves fault) said.linked.program.program h),
-      ))
+        (read, has.says),
+        inr (free, has_whole has moves trace named, inl (subst (λ (t : Word). fault ≡ ReadFault t) named is, kept ∙ has.kept)),
+      )
+  trace_call read new fault (inr (is, others, found)) =
+      inr (
+        b,
+        (read, has.says),
+        inr (free, has_whole has moves trace named, inr (is, subst (λ (o : Option Files). SameBut moves o new) has.kept others, has_lines found)),
+      )
 
   pub explained : (new : Option Files) (report : Report)
       → IfSome told (λ files. AreFound files new whole.ports (program_of whole) trace moves report)

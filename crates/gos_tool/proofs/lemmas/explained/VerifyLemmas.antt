@@ -9,6 +9,7 @@ use Rattle.gos_lex.specs.Lines.{Word}
 use Rattle.gos_syntax.specs.Modules.{SeenModule}
 use Rattle.gos_model.specs.Moves.{Program, Trace}
 use Rattle.gos_link.specs.Linked.{SeenLinks}
+use Rattle.gos_link.specs.BuildFile.{IsBuildFile}
 use Rattle.gos_link.specs.declared.build.Build.{Build}
 use Rattle.gos_link.specs.declared.build.Instance.{Instance}
 use Rattle.gos_witness.specs.declared.labels.Label.{Label}
@@ -33,8 +34,8 @@ use Rattle.gos_tool.specs.build.Headline.{SayModules}
 use Rattle.gos_tool.specs.explained.Sources.{RejectsSource, IsSourceCall}
 use Rattle.gos_tool.specs.explained.LinkedModules.{IsLinkedAs, IsModulesCause}
 use Rattle.gos_tool.specs.explained.Texts.{SaysLabels, SaysLines, IsTextCause}
-use Rattle.gos_tool.specs.explained.Explained.{AreExplained, IsLinesCause, RejectsTexts, IsTextsCall}
-use Rattle.gos_tool.specs.explained.Verified.{SayProgram, IsVerified, RejectsSources, RejectsVerify, IsVerifyCall}
+use Rattle.gos_tool.specs.explained.Explained.{AreExplained, IsLinesCause, RejectsTexts, HasTraceLabels, IsTextsCall}
+use Rattle.gos_tool.specs.explained.Verified.{SayProgram, IsVerified, RejectsSources, RejectsVerify, HasProgramLabels, IsVerifyCall}
 
 -- the calls of what reads no file, after some that were all made
 pub none_more : {A : Type 0} (r : Result A Stop) (calls : List StoreCall) (old new : Calls) → IfErr r (λ stop. stop ≡ StoreFailed → ⊥)
@@ -44,11 +45,6 @@ none_more (Err (Rejected r)) calls old new other made = all_made calls old new m
 none_more (Err StoreFailed) calls old new other made = absurd (other refl)
 none_more (Err NoMemory) calls old new other made = all_made calls old new made
 
--- what holds of all files
-always : (told : Option Files) (P : Files → Type 0) → ((files : Files) → P files) → IfSome told P
-always None P h = tt
-always (Some files) P h = h files
-
 -- the trace file is read first
 module _ (old : Option Files) (ports named : List ProgramPort) (same : named ≡ ports) (p : Program) (trace moves : Word) where
   pub trace_rejected : (fault : Fault) (line : List ℕ) → IfSome old (λ files. IsFileFault trace (IsTextCause (IsTraceText named) (bytes_at files trace)) fault line)
@@ -56,10 +52,6 @@ module _ (old : Option Files) (ports named : List ProgramPort) (same : named ≡
   trace_rejected fault line wrong =
       of_some (λ files. IsFileFault trace (IsTextCause (IsTraceText named) (bytes_at files trace)) fault line) (λ files. RejectsTexts files ports p trace moves fault line) old
       (λ files h. inl (subst (λ (qs : List ProgramPort). IsFileFault trace (IsTextCause (IsTraceText qs) (bytes_at files trace)) fault line) same h)) wrong
-
-pub trace_call : (old : Option Files) (ports : List ProgramPort) (trace moves : Word) (fault : LastFault) → fault ≡ ReadFault trace
-    → IfSome old (λ files. IsTextsCall files ports trace moves fault)
-trace_call old ports trace moves fault is = always old (λ files. IsTextsCall files ports trace moves fault) (λ files. inl is)
 
 -- it has labels, and the moves are read
 pub record HasLabels (old told : Option Files) (ports : List ProgramPort) (trace : Word) (labels : List Label) : Type 0 where
@@ -89,10 +81,12 @@ module _ {old told : Option Files} {ports : List ProgramPort} {trace : Word} {la
       with_labels (λ files. IsFileFault moves (IsTextCause IsMovesText (bytes_at files moves)) fault line)
       (λ files. RejectsTexts files ports p trace moves fault line) (λ files says h. inr (labels, says, inl h))
 
-  pub moves_call : (fault : LastFault) → fault ≡ ReadFault moves → IfSome old (λ files. IsTextsCall files ports trace moves fault)
+  pub moves_call : (fault : LastFault) → fault ≡ ReadFault moves → IsTextsCall trace moves (IfSome old (λ files. HasTraceLabels files ports trace)) fault
   moves_call fault is =
-      of_some (λ files. SaysLabels ports (bytes_at files trace) labels) (λ files. IsTextsCall files ports trace moves fault) old
-      (λ files says. inr (labels, says, is)) has.says
+      inr (
+        of_some (λ files. SaysLabels ports (bytes_at files trace) labels) (λ files. HasTraceLabels files ports trace) old (λ files says. (labels, says)) has.says,
+        is,
+      )
 
   -- these have lines
   module _ (lines read : List Line) (same : lines ≡ read) (say : IfSome told (λ files. SaysLines (bytes_at files moves) read)) where
@@ -155,13 +149,10 @@ module _ {old told : Option Files} {own : Word} {b : Build} (has : HasRead old t
   sources_rejected fault line =
       after_build (λ files. RejectsSources files own b None fault line) (λ files. RejectsVerify files own moves fault line) (λ files says h. inr (b, says, inl h))
 
-  pub sources_call : (fault : LastFault) → IsSourceCall told b.instances.items fault → IfSome old (λ files. IsVerifyCall files own moves fault)
-  sources_call fault call = by old has.says (subst (λ (o : Option Files). IsSourceCall o b.instances.items fault) has.kept call)
-    where
-      by : (o : Option Files) → IfSome o (λ files. SaysBuild files own b) → IsSourceCall o b.instances.items fault
-          → IfSome o (λ files. IsVerifyCall files own moves fault)
-      by None says h = tt
-      by (Some files) says h = inr (b, says, inl h)
+  pub sources_call : ((text : List ℕ) × IsBuildFile text own b) → (fault : LastFault) → IsSourceCall told b.instances.items fault
+      → IsVerifyCall old own moves fault
+  sources_call read fault call =
+      inr (b, (read, has.says), inl (subst (λ (o : Option Files). IsSourceCall o b.instances.items fault) has.kept call))
 
 -- its sources too, and linked
 pub record HasProgram (old told : Option Files) (own : Word) (b : Build) (whole : SeenProgram) : Type 0 where
@@ -200,11 +191,18 @@ module _ {old told : Option Files} {own : Word} {b : Build} {whole : SeenProgram
         inr (whole, said, subst (λ (p : Program). RejectsTexts files whole.ports p b.trace moves fault line) said.linked.program.program h),
       ))
 
-  pub texts_call : (fault : LastFault) → IfSome told (λ files. IsTextsCall files whole.ports trace moves fault)
-      → IfSome old (λ files. IsVerifyCall files own moves fault)
-  texts_call fault =
-      after_program (λ t files. IsTextsCall files whole.ports t moves fault) (λ files. IsVerifyCall files own moves fault)
-      (λ files says said h. inr (b, says, inr (whole, said, h)))
+  -- what its program is known by, and its labels
+  pub has_whole : IfSome old (λ files. (p : SeenProgram) × SayProgram files b p)
+  has_whole = of_some (λ files. SayProgram files b whole) (λ files. (p : SeenProgram) × SayProgram files b p) old (λ files said. (whole, said)) has.sources
+
+  labelled : IfSome told (λ files. HasTraceLabels files whole.ports trace) → IfSome old (λ files. HasProgramLabels files b)
+  labelled =
+      after_program (λ t files. HasTraceLabels files whole.ports t) (λ files. HasProgramLabels files b) (λ files says said h. (whole, said, h))
+
+  pub texts_call : ((text : List ℕ) × IsBuildFile text own b) → (fault : LastFault)
+      → IsTextsCall trace moves (IfSome told (λ files. HasTraceLabels files whole.ports trace)) fault → IsVerifyCall old own moves fault
+  texts_call read fault (inl is) = inr (b, (read, has.says), inr (has_whole, inl (subst (λ (t : Word). fault ≡ ReadFault t) named is)))
+  texts_call read fault (inr (says, is)) = inr (b, (read, has.says), inr (has_whole, inr (labelled says, is)))
 
   pub verified : (report : Report) → IfSome told (λ files. AreExplained files whole.ports (program_of whole) trace moves report)
       → IfSome old (λ files. IsVerified files own moves report)

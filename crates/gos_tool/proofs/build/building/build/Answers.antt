@@ -5,7 +5,7 @@ use Rattle.gos_outside.proofs.CallsLemmas.{goes_on}
 use Rattle.gos_command.proofs.EndLemmas.{early, late, of_stopped_both}
 use Rattle.gos_command.specs.declared.report.Report.TheVariants as reports
 use Rattle.gos_tool.specs.Calls.{circuit_calls, simulation_calls, build_calls}
-use Rattle.gos_tool.specs.Causes.{OfSource, OfBuild, OfPulses}
+use Rattle.gos_tool.specs.Causes.{OfSource, OfBuild, OfWeight, OfPulses}
 use Rattle.gos_tool.specs.build.Built.{RejectsBuild}
 use Rattle.gos_tool.specs.build.inner.Compiling.{AreApart, AreFit}
 use Rattle.gos_tool.proofs.lemmas.StopLemmas.{stops_before, stops_behind}
@@ -52,7 +52,7 @@ returns-in_err-plans-clause-rejected g c =
 
 pub returns-in_err-plans-clause-failed_call : goal.returns-in_err-plans-clause-failed_call
 returns-in_err-plans-clause-failed_call g c failed =
-    source_call (has_read g c) (g.S.Store.contents c.compile_all.new.store) c.as_slice.result.now (g.S.Store.last_fault c.compile_all.new.store) c.as_slice.ensures.value
+    source_call (has_read g c) (g.S.Store.contents c.compile_all.new.store) c.in_ok-build.ensures.read c.as_slice.result.now (g.S.Store.last_fault c.compile_all.new.store) c.as_slice.ensures.value
     (c.in_err-plans.ensures.failed_call (failed_as _ c.from_residual-in_err-plans.ensures.1 failed))
 
 pub returns-in_err-plans-clause-memory_files : goal.returns-in_err-plans-clause-memory_files
@@ -79,7 +79,7 @@ returns-in_err-linked-clause-rejected g c =
 pub returns-in_err-linked-clause-kind : goal.returns-in_err-linked-clause-kind
 returns-in_err-linked-clause-kind g c =
     rw (err_is _ c.from_residual-in_err-linked.ensures.1)
-    (stops_behind (OfSource ∷ []) (OfBuild ∷ OfPulses ∷ []) c.in_err-linked.field-0.0 (stops_before (OfBuild ∷ []) (OfPulses ∷ []) c.in_err-linked.field-0.0
+    (stops_behind (OfSource ∷ []) (OfBuild ∷ OfWeight ∷ OfPulses ∷ []) c.in_err-linked.field-0.0 (stops_before (OfBuild ∷ OfWeight ∷ []) (OfPulses ∷ []) c.in_err-linked.field-0.0
     (never_too_large c.slim_plans_fit.ensures.fits c.args.own.now c.in_ok-build.build c.as_slice-2.result.now c.in_err-linked.field-0.0
     (linkable c.in_ok-build.build _ _ _ c.as_slice.ensures.value c.as_slice-2.ensures.value c.in_ok-plans.ensures.each c.in_ok-plans.ensures.limits
     c.in_ok-build.ensures.few_instances c.in_ok-build.ensures.few_binds)
@@ -94,7 +94,7 @@ returns-in_err-linked-clause-calls g c =
 
 pub returns-in_err-linked-clause-failed_call : goal.returns-in_err-linked-clause-failed_call
 returns-in_err-linked-clause-failed_call g c failed =
-    plans_call (has_linked g c) (g.S.Store.contents c.link_plans.new.store) (g.S.Store.last_fault c.link_plans.new.store) (inl (c.in_err-linked.ensures.failed_call (failed_as _ c.from_residual-in_err-linked.ensures.1 failed)))
+    plans_call (has_linked g c) (g.S.Store.contents c.link_plans.new.store) c.in_ok-build.ensures.read (g.S.Store.last_fault c.link_plans.new.store) (inl (c.in_err-linked.ensures.failed_call (failed_as _ c.from_residual-in_err-linked.ensures.1 failed)))
 
 pub returns-in_err-linked-clause-memory_files : goal.returns-in_err-linked-clause-memory_files
 returns-in_err-linked-clause-memory_files g c failed =
@@ -132,7 +132,7 @@ returns-in_err-counts-clause-counts g c =
 
 pub returns-in_err-counts-clause-failed_call : goal.returns-in_err-counts-clause-failed_call
 returns-in_err-counts-clause-failed_call g c failed =
-    plans_call (has_circuits g c) (g.S.Store.contents c.simulate.new.store) (g.S.Store.last_fault c.simulate.new.store)
+    plans_call (has_circuits g c) (g.S.Store.contents c.simulate.new.store) c.in_ok-build.ensures.read (g.S.Store.last_fault c.simulate.new.store)
     (simulation_call (g.S.Store.contents c.compile_all.new.store) (g.S.Store.contents c.link_plans.new.store) (g.S.Store.contents c.simulate.new.store) c.in_ok-build.build c.as_slice-2.result.now c.in_ok-linked.linked.weight c.in_ok-linked.linked.net c.bytes.result.now c.bytes-2.result.now
     (g.S.Store.last_fault c.simulate.new.store) c.bytes.ensures.bytes c.bytes-2.ensures.bytes c.in_ok-linked.ensures.done
     (c.in_err-counts.ensures.failed_call (failed_as _ c.from_residual-in_err-counts.ensures.1 failed)))

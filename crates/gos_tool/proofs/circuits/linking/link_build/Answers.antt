@@ -35,7 +35,7 @@ returns-in_err-plans-clause-rejected g c =
 
 pub returns-in_err-plans-clause-failed_call : goal.returns-in_err-plans-clause-failed_call
 returns-in_err-plans-clause-failed_call g c failed =
-    object_call (has_read g c) c.as_slice.result.now c.as_slice.ensures.value (g.S.Store.contents c.plans_in.new.store) (g.S.Store.last_fault c.plans_in.new.store) c.in_err-plans.ensures.same_files
+    object_call (has_read g c) c.as_slice.result.now c.as_slice.ensures.value c.in_ok-build.ensures.read (g.S.Store.contents c.plans_in.new.store) (g.S.Store.last_fault c.plans_in.new.store) c.in_err-plans.ensures.same_files
     (c.in_err-plans.ensures.failed_call (failed_as _ c.from_residual-in_err-plans.ensures.1 failed))
 
 pub returns-in_err-plans-clause-calls : goal.returns-in_err-plans-clause-calls
@@ -60,7 +60,7 @@ returns-in_err-linked-clause-calls g c =
 
 pub returns-in_err-linked-clause-failed_call : goal.returns-in_err-linked-clause-failed_call
 returns-in_err-linked-clause-failed_call g c failed =
-    plans_call (has_objects g c) (g.S.Store.contents c.link_plans.new.store) (g.S.Store.last_fault c.link_plans.new.store) (c.in_err-linked.ensures.failed_call (failed_as _ c.from_residual-in_err-linked.ensures.1 failed))
+    plans_call (has_objects g c) (g.S.Store.contents c.link_plans.new.store) c.in_ok-build.ensures.read (g.S.Store.last_fault c.link_plans.new.store) (c.in_err-linked.ensures.failed_call (failed_as _ c.from_residual-in_err-linked.ensures.1 failed))
 
 pub returns-in_err-linked-clause-memory_files : goal.returns-in_err-linked-clause-memory_files
 returns-in_err-linked-clause-memory_files g c failed =

@@ -26,7 +26,7 @@ pub returns-in_err-program-clause-failed_call : goal.returns-in_err-program-clau
 returns-in_err-program-clause-failed_call g c failed =
     let has : HasRead (g.S.Store.contents c.args.store.now) (g.S.Store.contents c.build_in.new.store) c.args.own.now c.in_ok-build.build =
     record { kept = c.in_ok-build.ensures.same_files; says = c.in_ok-build.ensures.says } in
-    source_unread has c.args.moves.now (g.S.Store.contents c.linked_in.new.store) (g.S.Store.last_fault c.linked_in.new.store) c.in_err-program.ensures.same_files
+    source_unread has c.args.moves.now c.in_ok-build.ensures.read (g.S.Store.contents c.linked_in.new.store) (g.S.Store.last_fault c.linked_in.new.store) c.in_err-program.ensures.same_files
     (c.in_err-program.ensures.failed_call (failed_as _ c.from_residual-in_err-program.ensures.1 failed))
 
 pub returns-in_err-program-clause-calls : goal.returns-in_err-program-clause-calls
@@ -61,7 +61,7 @@ returns-clause-failed_call g c failed =
     let read : HasRead (g.S.Store.contents c.args.store.now) (g.S.Store.contents c.build_in.new.store) c.args.own.now c.in_ok-build.build =
     record { kept = c.in_ok-build.ensures.same_files; says = c.in_ok-build.ensures.says } in
     let has = has_program read (g.S.Store.contents c.linked_in.new.store) c.in_ok-program.program c.in_ok-program.ensures.same_files c.in_ok-program.ensures.say in
-    trace_call has c.args.moves.now c.bytes.result.now c.bytes.ensures.bytes c.in_ok-program.ensures.free (g.S.Store.contents c.find_moves.new.store)
+    trace_call has c.args.moves.now c.bytes.result.now c.bytes.ensures.bytes c.in_ok-program.ensures.free c.in_ok-build.ensures.read (g.S.Store.contents c.find_moves.new.store)
     (g.S.Store.last_fault c.find_moves.new.store) (c.find_moves.ensures.failed_call failed)
 
 pub returns-clause-calls : goal.returns-clause-calls

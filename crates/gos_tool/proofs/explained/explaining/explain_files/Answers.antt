@@ -1,4 +1,4 @@
-use Rattle.std.proofs.Common.{◌∷◌, [], refl}
+use Rattle.std.proofs.Common.{◌∷◌, [], inl, refl}
 use Rattle.std.specs.Prelude.{IfSome}
 use Rattle.gos_outside.proofs.CallsLemmas.{goes_on}
 use Rattle.gos_witness.specs.Programs.{program_of}
@@ -6,7 +6,7 @@ use Rattle.gos_command.proofs.EndLemmas.{early, late, of_stop}
 use Rattle.gos_tool.specs.Calls.{read_explained}
 use Rattle.gos_tool.specs.explained.Explained.{RejectsTexts}
 use Rattle.gos_tool.proofs.lemmas.circuits.ExitLemmas.{failed_as, stopped_as}
-use Rattle.gos_tool.proofs.lemmas.explained.VerifyLemmas.{all_explained, has_labels, lines_rejected, moves_call, moves_rejected, none_more, trace_call, trace_rejected}
+use Rattle.gos_tool.proofs.lemmas.explained.VerifyLemmas.{all_explained, has_labels, lines_rejected, moves_call, moves_rejected, none_more, trace_rejected}
 use Rattle.gos_tool.proofs.explained.explaining.explain_files.Goals as goal
 
 -- the trace file is rejected, or can't be read
@@ -20,8 +20,7 @@ returns-in_err-labels-clause-rejected g c =
 
 pub returns-in_err-labels-clause-failed_call : goal.returns-in_err-labels-clause-failed_call
 returns-in_err-labels-clause-failed_call g c failed =
-    trace_call (g.S.Store.contents c.args.store.now) c.args.program.now.ports c.args.trace.now c.args.moves.now (g.S.Store.last_fault c.labels_in.new.store)
-    (c.in_err-labels.ensures.failed_call (failed_as _ c.from_residual.ensures.1 failed))
+    inl (c.in_err-labels.ensures.failed_call (failed_as _ c.from_residual.ensures.1 failed))
 
 pub returns-in_err-labels-clause-calls : goal.returns-in_err-labels-clause-calls
 returns-in_err-labels-clause-calls g c =

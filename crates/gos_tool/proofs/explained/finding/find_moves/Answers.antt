@@ -1,4 +1,4 @@
-use Rattle.std.proofs.Common.{◌∷◌, []}
+use Rattle.std.proofs.Common.{◌∷◌, [], inl}
 use Rattle.std.specs.Prelude.{IfSome}
 use Rattle.gos_outside.specs.Calls.{Write}
 use Rattle.gos_outside.proofs.CallsLemmas.{goes_on}
@@ -8,7 +8,7 @@ use Rattle.gos_tool.specs.Calls.{read_explained}
 use Rattle.gos_tool.specs.explained.Found.{RejectsTrace}
 use Rattle.gos_tool.proofs.lemmas.circuits.ExitLemmas.{err_is, failed_as, stopped_as}
 use Rattle.gos_tool.proofs.lemmas.explained.VerifyLemmas.{has_labels}
-use Rattle.gos_tool.proofs.lemmas.explained.FoundLemmas.{all_found, labels_rejected, lines_unwritten, trace_text_rejected, trace_unread}
+use Rattle.gos_tool.proofs.lemmas.explained.FoundLemmas.{all_found, labels_rejected, lines_unwritten, trace_text_rejected}
 use Rattle.gos_tool.proofs.explained.finding.find_moves.Goals as goal
 
 -- the trace file is rejected, or can't be read
@@ -22,9 +22,7 @@ returns-in_err-read-clause-rejected g c =
 
 pub returns-in_err-read-clause-failed_call : goal.returns-in_err-read-clause-failed_call
 returns-in_err-read-clause-failed_call g c failed =
-    trace_unread (g.S.Store.contents c.args.store.now) (g.S.Store.contents c.labels_in.new.store) c.args.program.now.ports (program_of c.args.program.now) c.args.trace.now c.args.moves.now
-    (g.S.Store.last_fault c.labels_in.new.store) c.in_err-read.ensures.same_files
-    (c.in_err-read.ensures.failed_call (failed_as _ c.from_residual.ensures.1 failed))
+    inl (c.in_err-read.ensures.failed_call (failed_as _ c.from_residual.ensures.1 failed), c.in_err-read.ensures.same_files)
 
 pub returns-in_err-read-clause-calls : goal.returns-in_err-read-clause-calls
 returns-in_err-read-clause-calls g c =

@@ -25,7 +25,7 @@ returns-in_err-program-clause-rejected g c =
 
 pub returns-in_err-program-clause-failed_call : goal.returns-in_err-program-clause-failed_call
 returns-in_err-program-clause-failed_call g c failed =
-    sources_call (has_read g c) c.args.moves.now (g.S.Store.last_fault c.linked_in.new.store)
+    sources_call (has_read g c) c.args.moves.now c.in_ok-build.ensures.read (g.S.Store.last_fault c.linked_in.new.store)
     (c.in_err-program.ensures.failed_call (failed_as _ c.from_residual-in_err-program.ensures.1 failed))
 
 pub returns-in_err-program-clause-calls : goal.returns-in_err-program-clause-calls
@@ -56,7 +56,7 @@ returns-clause-kind g c = behind_all (OfSource ∷ OfBuild ∷ []) (OfMoves ∷ 
 
 pub returns-clause-failed_call : goal.returns-clause-failed_call
 returns-clause-failed_call g c failed =
-    texts_call (has_all g c) c.args.moves.now c.bytes.result.now c.bytes.ensures.bytes (g.S.Store.last_fault c.explain_files.new.store) (c.explain_files.ensures.failed_call failed)
+    texts_call (has_all g c) c.args.moves.now c.bytes.result.now c.bytes.ensures.bytes c.in_ok-build.ensures.read (g.S.Store.last_fault c.explain_files.new.store) (c.explain_files.ensures.failed_call failed)
 
 pub returns-clause-calls : goal.returns-clause-calls
 returns-clause-calls g c =
