@@ -10,6 +10,7 @@ use Rattle.std.proofs.lemmas.List.Concat.{flat_map-cons}
 use Rattle.gos_netlist.specs.declared.nets.Gate as declared
 use Rattle.gos_netlist.specs.declared.nets.Gate.TheVariants as gates
 use Rattle.gos_netlist.specs.Nets.{Function, Input, Const, Not, And, Or, Xor, Mux, Add, Sub, Eq, Less, Gate, Reg}
+use Rattle.gos_netlist.specs.Renamed.{renamed}
 use Rattle.gos_netlist.specs.Seen.{function_of}
 use Rattle.gos_netlist.specs.Settling.{Numbers, at, shown}
 use Rattle.gos_sim.specs.declared.evaluation.Draft.{Draft}
@@ -19,7 +20,7 @@ use Rattle.gos_sim.specs.declared.evaluation.Operands.{Operands}
 use Rattle.gos_sim.specs.declared.evaluation.Run.{Run}
 use Rattle.gos_sim.specs.declared.program.Step.{Step}
 use Rattle.gos_sim.specs.inner.Program.{HaveOneCell, IsStepWithin, SparesEarlier}
-use Rattle.gos_sim.specs.inner.Places.{AreStepsMoved, IsStepMoved, moved}
+use Rattle.gos_sim.specs.inner.Places.{AreStepsMoved, IsStepMoved}
 use Rattle.gos_sim.specs.inner.Drafts.{AddsSteps, IsDraft}
 use Rattle.gos_sim.specs.inner.Evaluation.{AreFitting, AreLonger, AreRunsMore, Fits, GoesOn, IsAdded, IsLonger, after, bits_of, all_steps, part, room_of, steps_from, steps_of, steps_of_kind, value_of}
 use Rattle.gos_sim.specs.inner.Running.{AreShown, KeepsOtherSteps}
@@ -260,7 +261,7 @@ kept_all old new runs last more fit = λ i. those runs fit.all i ++ (kept_steps 
         ∙ ((λ i. (kept_steps r.kind old new r more (All-head (Fits old) r rs all)).0 i ++ those rs (All-tail (Fits old) r rs all) i)
         ∙ sym (flat_map-cons (steps_of old) r rs))
 
-bits_moved : (p : ℕ → ℕ) (f : Function) (w : ℕ) → bits_of (moved p f) w ≡ bits_of f w
+bits_moved : (p : ℕ → ℕ) (f : Function) (w : ℕ) → bits_of (renamed p f) w ≡ bits_of f w
 bits_moved p Input w = refl
 bits_moved p (Const k) w = refl
 bits_moved p (Not a) w = refl
@@ -277,7 +278,7 @@ bits_moved p (Reg a) w = refl
 
 -- a step more
 pub draft_more : (places : Numbers) (s m : Step) (old new : Draft) (next : Run) → m.net ≡ at places s.net → m.width ≡ s.width
-    → function_of m.gate ≡ moved (at places) (function_of s.gate) → IsAdded old.operands new.operands m next
+    → function_of m.gate ≡ renamed (at places) (function_of s.gate) → IsAdded old.operands new.operands m next
     → AreRunsMore old.runs.items old.last next new.runs.items new.last → AddsSteps places (s ∷ []) old new
 draft_more places s m old new next net width gate added join = λ steps d.
     let here : Step = record { net = m.net; width = bits_of (function_of m.gate) m.width; gate = m.gate } in

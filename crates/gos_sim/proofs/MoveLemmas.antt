@@ -8,6 +8,7 @@ use Rattle.std.proofs.lemmas.List.Elements.{All-contains, All-map, All-weaker}
 use Rattle.std.proofs.lemmas.Option.{slice_get-get_or, slice_get_within, get_or_from_slice_get}
 use Rattle.gos_netlist.specs.declared.nets.Gate.TheVariants as gates
 use Rattle.gos_netlist.specs.Nets.{Function, Input, Const, Not, And, Or, Xor, Mux, Add, Sub, Eq, Less, Gate, Reg, Cell, pins}
+use Rattle.gos_netlist.specs.Renamed.{renamed}
 use Rattle.gos_netlist.specs.Seen.{function_of}
 use Rattle.gos_netlist.specs.Settling.{Numbers, at, shown}
 use Rattle.gos_netlist.proofs.SettlingLemmas.{same_shown}
@@ -21,7 +22,7 @@ use Rattle.gos_sim.specs.inner.Program.{IsLatchWithin, IsShort, IsSized, IsStepW
 use Rattle.gos_sim.specs.inner.Running.{AreLoaded, AreShown, AreTaken, HaveOnePin, KeepsOtherSteps, KeepsOthers}
 use Rattle.gos_sim.specs.inner.Ready.{AreApart, AreTwo}
 use Rattle.gos_sim.specs.inner.Evaluation.{bits_of}
-use Rattle.gos_sim.specs.inner.Places.{AreStepsMoved, IsNumbering, IsStepMoved, by_net, event_moved, latch_moved, moved}
+use Rattle.gos_sim.specs.inner.Places.{AreStepsMoved, IsNumbering, IsStepMoved, by_net, event_moved, latch_moved}
 use Rattle.gos_sim.specs.inner.Machine.{IsMoved, IsRunnable, Plan, RunsThrough, SettlesAtReset}
 use Rattle.gos_sim.proofs.PlaceLemmas.{all_at, all_of_at, moved_at, moved_from}
 use Rattle.gos_sim.proofs.ProgramLemmas.{pushed}
@@ -70,7 +71,7 @@ zeros_by_net places count =
     at_zero n below = at_by_net places (replicate count 0) n below ∙ (zero_at (at places n) ∙ sym (get_or-replicate (length places) n 0 0 below))
 
 -- the pins of a moved function
-pub pins_moved : (p : ℕ → ℕ) (f : Function) → pins (moved p f) ≡ map p (pins f)
+pub pins_moved : (p : ℕ → ℕ) (f : Function) → pins (renamed p f) ≡ map p (pins f)
 pins_moved p Input = refl
 pins_moved p (Const k) = refl
 pins_moved p (Not a) = refl
@@ -85,7 +86,7 @@ pins_moved p (Less a b) = refl
 pins_moved p (Gate s a) = refl
 pins_moved p (Reg a) = refl
 
-short_moved : (bits : ℕ) (p : ℕ → ℕ) (f : Function) → IsShort bits f → IsShort bits (moved p f)
+short_moved : (bits : ℕ) (p : ℕ → ℕ) (f : Function) → IsShort bits f → IsShort bits (renamed p f)
 short_moved bits p Input h = tt
 short_moved bits p (Const k) h = h
 short_moved bits p (Not a) h = tt
@@ -101,7 +102,7 @@ short_moved bits p (Gate s a) h = tt
 short_moved bits p (Reg a) h = tt
 
 -- it shows what the function shows of the values at its places
-shown_moved : (w : ℕ) (p : ℕ → ℕ) (f : Function) (v : ℕ → ℕ) → shown w (moved p f) 0 0 v ≡ shown w f 0 0 (λ a. v (p a))
+shown_moved : (w : ℕ) (p : ℕ → ℕ) (f : Function) (v : ℕ → ℕ) → shown w (renamed p f) 0 0 v ≡ shown w f 0 0 (λ a. v (p a))
 shown_moved w p Input v = refl
 shown_moved w p (Const k) v = refl
 shown_moved w p (Not a) v = refl
@@ -153,7 +154,7 @@ pub reads_moved : (p : ℕ → ℕ) (s t : Step) → IsStepMoved p s t → reads
 reads_moved p s t m = ap pins m.gate ∙ pins_moved p (function_of s.gate)
 
 -- bits that don't matter change nothing of what is shown
-shown_bits : (w : ℕ) (p : ℕ → ℕ) (f : Function) (v : ℕ → ℕ) → shown (bits_of f w) (moved p f) 0 0 v ≡ shown w (moved p f) 0 0 v
+shown_bits : (w : ℕ) (p : ℕ → ℕ) (f : Function) (v : ℕ → ℕ) → shown (bits_of f w) (renamed p f) 0 0 v ≡ shown w (renamed p f) 0 0 v
 shown_bits w p Input v = refl
 shown_bits w p (Const k) v = refl
 shown_bits w p (Not a) v = refl
@@ -332,7 +333,7 @@ spares_moved places count s t u w numbering moved_s moved_t within_s within_t sp
         (numbering.one a t.net (all_at (λ b. b < length places) (reads s) k a within_s.reads is) within_t.net (same ∙ moved_t.net))
 
 abbrev cell_moved : (ℕ → ℕ) → Cell → Cell
-cell_moved p c = record { width = bits_of c.gate c.width; gate = moved p c.gate }
+cell_moved p c = record { width = bits_of c.gate c.width; gate = renamed p c.gate }
 
 module _ (places : Numbers) (count : ℕ) (old new : Plan) (move : IsMoved places old new) (numbering : IsNumbering places count)
     (runs : IsRunnable (length places) old) where

@@ -1,15 +1,15 @@
 // The places of nets: a simulator keeps their values in the order in which it writes them.
 ghost use Rattle.std.specs.Prelude.{◌≡◌, ◌≢◌, ℕ, ◌<◌, ◌≤◌, All, Contains, IfOk, length, map};
-ghost use Rattle.gos_netlist.specs.Nets.{pins};
+ghost use Rattle.gos_netlist.specs.Renamed.{renamed};
 ghost use Rattle.gos_netlist.specs.Seen.{function_of, number_of};
 ghost use Rattle.gos_netlist.specs.Settling.{at};
 ghost use Rattle.gos_sim.specs.EventNets.{OnNets};
 ghost use Rattle.gos_sim.specs.inner.Program.{IsLatchWithin, IsStepWithin};
-ghost use Rattle.gos_sim.specs.inner.Places.{IsNumbering, IsPartly, event_moved, latch_moved, moved, none};
+ghost use Rattle.gos_sim.specs.inner.Places.{IsNumbering, IsPartly, event_moved, latch_moved, none};
 
 use crate::event_nets::EventNets;
 use crate::program::{Latch, Step};
-use gos_netlist::{Gate, NetId};
+use gos_netlist::NetId;
 use gos_types::NoMemory;
 use std::alloc::Global;
 
@@ -154,38 +154,12 @@ pub fn step_moved(step: &Step, places: &[u32]) -> Step
     requires { IsStepWithin (length places.now) step.now }
     ensures net { result.net ≡ at places.now step.now.net }
     ensures width { result.width ≡ step.now.width }
-    ensures gate { function_of result.gate ≡ moved (at places.now) (function_of step.now.gate) }
+    ensures gate { function_of result.gate ≡ renamed (at places.now) (function_of step.now.gate) }
 {
     Step {
         net: places[step.net as usize],
         width: step.width,
-        gate: gate_moved(step.gate, places),
-    }
-}
-
-// A gate at the places of its pins.
-fn gate_moved(gate: Gate, places: &[u32]) -> Gate
-    requires { All (λ a. a < length places.now) (pins (function_of gate)) }
-    ensures { function_of result ≡ moved (at places.now) (function_of gate) }
-{
-    match gate {
-        Gate::Input => Gate::Input,
-        Gate::Const(k) => Gate::Const(k),
-        Gate::Not(a) => Gate::Not(pin_moved(a, places)),
-        Gate::And(a, b) => Gate::And(pin_moved(a, places), pin_moved(b, places)),
-        Gate::Or(a, b) => Gate::Or(pin_moved(a, places), pin_moved(b, places)),
-        Gate::Xor(a, b) => Gate::Xor(pin_moved(a, places), pin_moved(b, places)),
-        Gate::Mux(s, a, b) => Gate::Mux(
-            pin_moved(s, places),
-            pin_moved(a, places),
-            pin_moved(b, places),
-        ),
-        Gate::Add(a, b) => Gate::Add(pin_moved(a, places), pin_moved(b, places)),
-        Gate::Sub(a, b) => Gate::Sub(pin_moved(a, places), pin_moved(b, places)),
-        Gate::Eq(a, b) => Gate::Eq(pin_moved(a, places), pin_moved(b, places)),
-        Gate::Less(a, b) => Gate::Less(pin_moved(a, places), pin_moved(b, places)),
-        Gate::Gate(s, a) => Gate::Gate(pin_moved(s, places), pin_moved(a, places)),
-        Gate::Reg(a) => Gate::Reg(pin_moved(a, places)),
+        gate: step.gate.renamed(|pin| pin_moved(pin, places)),
     }
 }
 

@@ -141,8 +141,8 @@ impl Sim {
         }
     }
 
-    /// Whether another cycle with the same inputs leaves the simulator as it is: its registers, and its last two settlings.
-    /// It is so after a cycle that had the inputs of the one before, where that one changed no register.
+    /// Where it is true, another cycle with the same inputs leaves the simulator as it is: its registers, and its last two settlings.
+    /// Where it is false that may be so too.
     pub fn repeats(&self) -> bool
         ensures { IsTrue result → Repeats self.now }
     {

@@ -3,7 +3,7 @@
 -- Read first: Program.
 use Rattle.std.specs.Prelude.{◌≡◌, ◌≢◌, ℕ, suc, ◌<◌, ◌≤◌, if◌then◌else◌, Some, List, [], ◌∷◌, length, map, nat_eq, slice_get}
 use Rattle.std.specs.Option.{option_map}
-use Rattle.gos_netlist.specs.Nets.{Function, Input, Const, Not, And, Or, Xor, Mux, Add, Sub, Eq, Less, Gate, Reg}
+use Rattle.gos_netlist.specs.Renamed.{renamed}
 use Rattle.gos_netlist.specs.Seen.{function_of}
 use Rattle.gos_netlist.specs.Settling.{Numbers, at}
 use Rattle.gos_sim.specs.declared.event_nets.EventNets.{EventNets}
@@ -15,27 +15,11 @@ use Rattle.gos_sim.specs.inner.Evaluation.{bits_of}
 abbrev pub by_net : Numbers → Numbers → Numbers
 by_net places values = map (at values) places
 
--- a function of the nets at these places
-abbrev pub moved : (ℕ → ℕ) → Function → Function
-moved p Input = Input
-moved p (Const k) = Const k
-moved p (Not a) = Not (p a)
-moved p (And a b) = And (p a) (p b)
-moved p (Or a b) = Or (p a) (p b)
-moved p (Xor a b) = Xor (p a) (p b)
-moved p (Mux s a b) = Mux (p s) (p a) (p b)
-moved p (Add a b) = Add (p a) (p b)
-moved p (Sub a b) = Sub (p a) (p b)
-moved p (Eq a b) = Eq (p a) (p b)
-moved p (Less a b) = Less (p a) (p b)
-moved p (Gate s a) = Gate (p s) (p a)
-moved p (Reg a) = Reg (p a)
-
 -- a step, a latch and an event whose nets are moved to their places; the step keeps its bits only where they matter
 pub record IsStepMoved (p : ℕ → ℕ) (old new : Step) : Type 0 where
   pub net : new.net ≡ p old.net
   pub width : new.width ≡ bits_of (function_of old.gate) old.width
-  pub gate : function_of new.gate ≡ moved p (function_of old.gate)
+  pub gate : function_of new.gate ≡ renamed p (function_of old.gate)
 
 abbrev pub latch_moved : (ℕ → ℕ) → Latch → Latch
 latch_moved p l = record { net = p l.net; pin = p l.pin }
