@@ -1,9 +1,9 @@
-"""Test benches in Verilog for the module of a circuit (docs/VERILOG.md): what tools/gos-play, tools/gos-bench and tools/gos-formal write.
+"""Testbenches in Verilog for the module of a circuit (docs/VERILOG.md): what tools/gos-play, tools/gos-bench and tools/gos-formal write.
 
 A bench prints lines, and ends. A cycle of a run is from one rising edge of `clk` to the next: inputs are given behind the first,
 and outputs are seen before the second.
 """
-import surroundings
+import environments
 
 
 def bits(count):
@@ -58,7 +58,7 @@ def printed(pin):
 
 
 def reacting(head, pins, around, cycles):
-    """A bench that does what some surroundings do, and prints the trace (docs/FORMATS.md) of so many cycles."""
+    """A bench that does what some environment does, and prints the trace (docs/FORMATS.md) of so many cycles."""
     inputs = [net for pin in pins if not pin.is_output for net in nets_of(pin)]
     outputs = [net for pin in pins if pin.is_output for net in nets_of(pin)]
     shakes = [it.verilog() for it in around.handshakes]
@@ -72,7 +72,7 @@ def reacting(head, pins, around, cycles):
         *(line for it in around.dice if throws for line in it.declared()),
         *(line for parts in shakes + bounds for line in parts[0]),
         *(line for it in around.sources for line in it.declared()),
-        *(surroundings.Dice.FUNCTION if throws else []),
+        *(environments.Dice.FUNCTION if throws else []),
     ]
     in_cycle = [
         *(f"{net} = 0;" for net, _ in inputs),

@@ -1,12 +1,12 @@
-"""Descriptions of surroundings, and how they are read (docs/PLAY.md has the grammar): a line for each port of a circuit."""
+"""Descriptions of environments, and how they are read (docs/PLAY.md has the grammar): a line for each port of a circuit."""
 import difflib
 import re
 
 import circuits
-import surroundings
+import environments
 from builds import Wrong
-from surroundings import (
-    After, Answering, Asking, Bound, Burst, Chance, Change, Delay, Dice, Every, Level, Memory, Received, Row, Serial, Surroundings, Wanted, Wave,
+from environments import (
+    After, Answering, Asking, Bound, Burst, Chance, Change, Delay, Dice, Environment, Every, Level, Memory, Received, Row, Serial, Wanted, Wave,
 )
 
 MOST_CYCLES, MOST_PLACES = 1_000_000, 65_536
@@ -144,7 +144,7 @@ class Description:
         else:
             line.step()
             if line.tokens[line.at][1] == "receives":
-                moment = surroundings.byte_of(name)
+                moment = environments.byte_of(name)
                 self.events[moment.name] = moment
             lines = self.bounds if line.may("within") else self.lines
             if name in lines:
@@ -154,7 +154,7 @@ class Description:
                 line.most = line.cycles(1)
                 line.end()
 
-    def surroundings(self):
+    def environment(self):
         dice = {port.name: Dice(port.name, self.seed, at) for at, port in enumerate(self.ports)}
         # arrays come last, since what they are at has to be known
         known = [port for port in self.ports if port.name in self.lines]
@@ -172,7 +172,7 @@ class Description:
         handshakes = [it for port in self.ports for it in made[port.name]]
         sources = list({id(it): it for shake in handshakes if isinstance(shake, Answering) for it in (shake.source, shake.memory) if it}.values())
         bounds = [self.bound(port, self.bounds[port.name].most, made[port.name]) for port in self.ports if port.name in self.bounds]
-        return Surroundings(handshakes, sources, list(dice.values()), self.cycles, bounds)
+        return Environment(handshakes, sources, list(dice.values()), self.cycles, bounds)
 
     def bound(self, port, most, handshakes):
         """The bound of a port, of at most so many cycles, at whose handshakes these stand."""
@@ -362,5 +362,5 @@ def said_type(port):
 
 
 def read(file, text, ports):
-    """The surroundings that a description says, for a circuit with these ports."""
-    return Description(file, text, ports).surroundings()
+    """The environment that a description says, for a circuit with these ports."""
+    return Description(file, text, ports).environment()

@@ -31,7 +31,8 @@ def reading(harness):
     """The commands for yosys that read all modules, and leave them as registers and operators."""
     commands = [f"read_verilog -noautowire {CIRCUIT}"] if harness.has_circuit else []
     return commands + [f"read_verilog -sv -noautowire -noassert -noassume {AROUND}", f"read_verilog -sv -formal -noautowire {OWN}",
-                       "hierarchy -check -top formal", "proc -norom -noopt", "write_rtlil plain.il"]
+                       "hierarchy -check -top formal", "cd claims", "write_rtlil -selected read.il", "cd ..", "proc -norom -noopt",
+                       "write_rtlil plain.il"]
 
 
 def making(harness):
@@ -76,12 +77,23 @@ def place_of(own, place):
     return min(int(found[1]), max(1, len(own.lines))) if found else 1
 
 
-def refuse_own(harness, module):
-    """Refuses lines of a user that don't mean what a simulator would make of them, or that meddle with what they are given."""
+def line_in(own, place, name):
+    """The first line of a user in a place of yosys that has a name, or else its first line."""
+    first, ends = place_of(own, place), re.search(r"-(\d+)\.", place)
+    last = min(int(ends[1]), len(own.lines)) if ends else first
+    has_it = re.compile(rf"\b{re.escape(name)}\b")
+    return next((number for number in range(first, last + 1) if has_it.search(own.lines[number - 1])), first)
+
+
+def refuse_own(harness, module, before):
+    """Refuses lines of a user that don't mean what a simulator would make of them, or that meddle with what they are given; `before`
+    is their module with processes."""
     for place, said in [*rtlil.faults(module, "\\clk"), *rtlil.without_first_value(module)]:
         name = said.split("`")[1] if said.startswith("`") else ""
         is_given = name == "started" or name in harness.visible
         raise harness.own.wrong(line_of(harness.own, name) if is_given else place_of(harness.own, place), said)
+    for place, said in rtlil.early_reads(before):
+        raise harness.own.wrong(line_in(harness.own, place, said.split("`")[1]), said)
     for net in rtlil.misread(module, ["started", *harness.visible]):
         raise harness.own.wrong(line_of(harness.own, net), f"`{net}` is another thing here than the net of this name")
 
@@ -129,7 +141,7 @@ def elaborate(harness, circuit, room, clock):
         builds.write_text(room / name, text)
     by_yosys(reading(harness), room, clock, own, circuit)
     modules = rtlil.modules_of(builds.read_text(room / "plain.il"))
-    refuse_own(harness, modules["\\claims"])
+    refuse_own(harness, modules["\\claims"], rtlil.modules_of(builds.read_text(room / "read.il"))["\\claims"])
     if harness.has_circuit:
         refuse_circuit(harness, modules[f"\\{harness.root}"], circuit)
     by_yosys(making(harness), room, clock, own, circuit)

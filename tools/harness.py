@@ -34,7 +34,7 @@ class Harness:
 def conditions(request, answer):
     """When a request may come, and when its answer may, by the nets of the two and by whether the handshake was open before."""
     was = f"{request.verilog}__was_open"
-    # an answer of the circuit comes before the next request of the same cycle, one of the surroundings after its own
+    # an answer of the circuit comes before the next request of the same cycle, one of the environment after its own
     if answer.is_output:
         return f"~{was} | {answer.verilog}", was
     return f"~{was}", f"{was} | {request.verilog}"

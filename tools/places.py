@@ -129,6 +129,16 @@ def placed(name, build, cells):
     return found, texts
 
 
+def outermost(build, found):
+    """The part that answers what an instance gives, by the instance: the one of its whole term. None has a term that is a name, an
+    application or a side of a pair."""
+    for it in build.instances:
+        body = terms.read(it.source, Path(it.source).read_bytes()).body
+        own = [part for part in found if part.region.instance == it.name and part.part.kind != "share"]
+        if own_part(body):
+            yield it.name, own[0]
+
+
 def line_of(place, texts):
     """The file of a place, and its line."""
     file, start, _ = place

@@ -27,6 +27,10 @@ REFUSED = {
     "(*": "attributes are not taken here",
 }
 ALWAYS = "an `always` is `always @(posedge clk)`, or `always @*`"
+NAME = re.compile(r"[A-Za-z_][\w$]*", re.A)
+# Words behind which names are declared, and other words of statements in a function.
+DECLARES = frozenset("input output inout reg logic bit byte shortint int longint integer time real signed unsigned".split())
+WORDS = DECLARES | frozenset("function automatic begin end if else case casez casex endcase default for while repeat return void".split())
 EDGES = (["@", "(", "posedge", "clk", ")"], ["@", "*"], ["@", "(", "*", ")"])
 
 
@@ -136,6 +140,39 @@ def refuse_races(found, tokens):
                 raise found.wrong(number, "in `always @(posedge clk)` a register takes its value by `<=`")
 
 
+def function_names(tokens):
+    """The names that are declared within a function, its own among them."""
+    found, declares, depth = set(), True, 0
+    for _, token in tokens:
+        depth += (token == "[") - (token == "]")
+        declares = token in DECLARES or declares and token not in (";", "(", ")", "=")
+        if declares and not depth and NAME.fullmatch(token):
+            found.add(token)
+    return found
+
+
+def constants(tokens):
+    """The names of parameters and of functions."""
+    found, declares = set(), ""
+    for (_, token), (_, following) in zip(tokens, tokens[1:]):
+        declares = token if token in ("localparam", "parameter", "function") else declares if token != ";" else ""
+        if declares and following in (("(", ";") if declares == "function" else ("=",)) and NAME.fullmatch(token):
+            found.add(token)
+    return found
+
+
+def refuse_functions(found, tokens):
+    """Refuses functions that read what isn't given to them: a simulator that waits for a change of their arguments doesn't see it."""
+    known, begun = constants(tokens) | WORDS, 0
+    for at, (_, token) in enumerate(tokens):
+        begun = at + 1 if token == "function" else begun
+        inside = tokens[begun:at] if token == "endfunction" else []
+        own = known | function_names(inside)
+        for (_, before), (number, name) in zip(inside, inside[1:]):
+            if NAME.fullmatch(name) and name not in own and before not in ("'", "."):
+                raise found.wrong(number, f"`{name}` isn't given to the function: it reads its arguments alone")
+
+
 def read(name, taken=()):
     """The properties of a file, whose claims have no name twice, and none that is taken."""
     found = Properties(name)
@@ -156,4 +193,5 @@ def read(name, taken=()):
     tokens = [(number, token) for number, line in enumerate(found.lines, 1) for token in tokens_of(line)]
     refuse_other_edges(found, tokens)
     refuse_races(found, tokens)
+    refuse_functions(found, tokens)
     return found

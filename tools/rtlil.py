@@ -9,9 +9,9 @@ TOKEN = re.compile(r"[{}]|\[(\d+)(?::(\d+))?\]|(\d+)'([01xzm-]*)|\"(?:\\.|[^\"\\
 COMBINATIONAL = {f"${word}" for word in (
     "not pos neg and or xor xnor reduce_and reduce_or reduce_xor reduce_xnor reduce_bool logic_not logic_and logic_or shl shr sshl sshr"
     " shift shiftx lt le eq ne eqx nex ge gt add sub mul mux pmux anyseq").split()}
-# What isn't said of a value by the language itself, as that of a division by 0.
 # Cells of which each bit stands on those of the same place alone, but for that which selects.
 BITWISE = {f"${word}" for word in "not pos and or xor xnor mux".split()}
+# What isn't said of a value by the language itself, as that of a division by 0.
 DIVISIONS = {f"${word}" for word in "div mod divfloor modfloor pow".split()}
 REGISTER = "$dff"
 NO_MEMORIES = "memories are not taken here, but a register for each element is"
@@ -43,9 +43,20 @@ class Cell:
 
 
 @dataclass
+class Process:
+    """An `always` as yosys first reads it: its place, the bits that it reads from outside or as they were before it, and the bits of
+    the variables that it gives a value without an edge."""
+
+    place: str
+    reads: list = field(default_factory=list)
+    writes: list = field(default_factory=list)
+
+
+@dataclass
 class Module:
     wires: dict = field(default_factory=dict)
     cells: list = field(default_factory=list)
+    processes: list = field(default_factory=list)
     # pairs of bits: what is driven, and by what
     joints: list = field(default_factory=list)
 
@@ -89,10 +100,30 @@ def bits_of(module, text):
     return [bit for part in reversed(parts) for bit in part]
 
 
+def process_of(module, place, lines):
+    """The process whose lines come next, up to its end."""
+    found, depth, sync = Process(place), 1, ""
+    while depth:
+        word, _, rest = next(lines).strip().partition(" ")
+        depth += (word == "switch") - (word == "end")
+        if word in ("switch", "case"):
+            found.reads += bits_of(module, rest.replace(", ", " "))
+        elif word == "assign":
+            found.reads += bits_of(module, split_sides(rest)[1])
+        elif word == "sync":
+            sync = rest
+        elif word == "update" and sync == "always":
+            left, right = (bits_of(module, side) for side in split_sides(rest))
+            # (variables of a function have no value behind it)
+            found.writes += left if set(right) != {"x"} else []
+    return found
+
+
 def modules_of(text):
-    """The modules of a text without processes, by name."""
+    """The modules of a text, by name."""
     modules, module, cell, attributes = {}, None, None, {}
-    for line in text.splitlines():
+    lines = iter(text.splitlines())
+    for line in lines:
         word, _, rest = line.strip().partition(" ")
         if word == "attribute":
             name, _, said = rest.partition(" ")
@@ -104,7 +135,9 @@ def modules_of(text):
             name = rest.split(" ")[-1]
             width, side = re.search(r"\bwidth (\d+)", rest), re.search(r"\b(input|output|inout) \d+", rest)
             module.wires[name] = Wire(int(width[1]) if width else 1, side[1] if side else "", attributes)
-        elif word in ("cell", "memory", "process"):
+        elif word == "process":
+            module.processes.append(process_of(module, attributes.get("src", ""), lines))
+        elif word in ("cell", "memory"):
             cell = Cell(rest.split(" ")[0] if word == "cell" else word, attributes)
             module.cells.append(cell)
         elif word == "parameter":
@@ -222,8 +255,28 @@ def rings(module):
             waiting += left
 
 
+def early_reads(module):
+    """Each `always` without an edge that a simulator runs otherwise, as where, and what: one that reads a variable before it gives it
+    a value, which is then the one from before; and one that reads nothing, which is never run."""
+    below = sources(module)
+    for process in module.processes:
+        waiting, seen = list(process.reads), set()
+        while waiting:
+            bit = waiting.pop()
+            if isinstance(bit, tuple) and bit not in seen:
+                seen.add(bit)
+                # (a net without a name is the value of an expression)
+                waiting += [] if shown(bit) else below.get(bit, [])
+        early = sorted(seen.intersection(process.writes))
+        if early:
+            yield process.place, f"`{shown(early[0])}` is read before it has its value"
+        elif process.writes and not any(map(shown, seen)):
+            yield process.place, "an `always @*` that reads nothing is never run by a simulator"
+
+
 def faults(module, clock):
-    """What is wrong with a module, each as where, and what."""
+    """What is wrong with a module without processes, each as where, and what."""
+    yield from ((it.place, "this `always` is not taken") for it in module.processes)
     yield from wrong_cells(module, clock)
     yield from wrong_drivers(module)
     yield from wrong_clocks(module, clock)

@@ -105,7 +105,7 @@ class Room:
         return self.ran(self.gos, "build", "b.txt")
 
     def play(self, modules, description, binds=(), root="main"):
-        """Builds modules and runs the netlist in the surroundings of a description (docs/PLAY.md), where it has to come to its end."""
+        """Builds modules and runs the netlist in the environment of a description (docs/PLAY.md), where it has to come to its end."""
         self.write_build(modules, binds, root)
         self.write(d__play=description)
         return self.ran(TOOLS / "gos-play", "--gos", self.gos, "b.txt", "d.play")

@@ -7,7 +7,7 @@ usage: tools/tests/test_costs.py GOS [WORDS OF unittest]
 
 With --write the tables get what was measured.
 
-A form stands between two commands of the surroundings that are done at once, as in `a ; FORM ; b`. It takes the cycles from
+A form stands between two commands of the environment that are done at once, as in `a ; FORM ; b`. It takes the cycles from
 `a.done` to `b.run` that are more than without it, and has the cells that the netlist has more.
 """
 import contextlib
@@ -95,7 +95,7 @@ class Measure:
             yield f"| `{term}` | {run.times('b.run')[0] - run.times('a.done')[0] - bare_cycles} | {run.cells - bare_cells} |"
 
     def whole(self, module, uses):
-        """The cycles of a run of a module, in which so many commands of the surroundings are done at once, and its cells."""
+        """The cycles of a run of a module, in which so many commands of the environment are done at once, and its cells."""
         run = self.room.build({"main": module}, f"cycles {uses * (uses + 5) + 9}\nnext 0 main.run\n" + "next 0 c.done\n" * (uses if " c " in module else 0))
         return run.times("main.done")[0], run.cells
 
@@ -215,7 +215,7 @@ skip       1      1     1          0
         with self.assertRaisesRegex(SystemExit, "1"):
             self.cost("--parts")
 
-    # A write, a command of the surroundings, and a read and a write of the same variable.
+    # A write, a command of the environment, and a read and a write of the same variable.
     READS = """import c : com
 export
   new x : 8 in
@@ -228,9 +228,11 @@ export
     def test_names_lines_and_ports(self):
         self.room.build({"main": self.READS}, "cycles 60\nnext 0 main.run\nnext 7 c.done\nnext 4 main.run\nnext 2 c.done\n")
         # (the first write is behind one Share, what reads and what writes then is behind two; a write takes a cycle more)
+        # (c is done 3 cycles after its first request, and in the cycle of its second one)
         self.assertEqual(self.cost("--names", "b.txt"), ("""\
-name    cells  shares  reads  fewest  most  all  writes  fewest  most  all
-main.x     62       2      2       2     2    4       4       2     3   10
+name    cells  shares  reads  fewest  most  all  writes  fewest  most  all  waits  fewest  most  all
+main.x     62       2      2       2     2    4       4       2     3   10      0       0     0    0
+main.c      0       0      0       0     0    0       0       0     0    0      2       0     3    3
 """, "", 0))
         # (in each of two runs the block takes a cycle, each write one, and the Shares five; the ports take two)
         self.assertEqual(self.cost("--lines", "b.txt"), ("""\
@@ -246,6 +248,16 @@ main.gos:6      6     64         10      10
         self.room.write(main__gos=self.READS.replace("x := 5:8 ;", ""))
         self.assertEqual(self.cost("--lines", "b.txt")[1:], (
             "tools/gos-cost: main.gos: this is not the source of its object any more; gos build makes a new one\n", 1))
+
+    def test_waits_of_what_a_module_serves(self):
+        """A command and an expression that modules serve, and a command that a module only passes on."""
+        modules = {"main": "import p : com\nimport q : com\nimport e : exp 4\nexport new x : 4 in (p ; q ; x := e ; p) : com\n",
+                   "p": "import c : com\nexport c ; c : com\n", "q": "import d : com\nexport d : com\n", "e": "export 1:4 + 2:4 : exp 4\n"}
+        pulses = "cycles 60\nnext 0 main.run\nnext 4 c.done\nnext 4 c.done\nnext 9 d.done\nnext 5 c.done\nnext 5 c.done\n"
+        self.room.build(modules, pulses, ["main p p", "main q q", "main e e"])
+        waits = {row[0]: [int(it) for it in row[-4:]] for row in map(str.split, self.cost("--names", "b.txt")[0].splitlines()[1:])}
+        # (no part of q answers main: q passes on what its port answers)
+        self.assertEqual(waits, {"main.x": [0] * 4, "main.p": [2, 6, 7, 13], "main.e": [1] * 4, "p.c": [4, 0, 3, 5], "q.d": [1, 8, 8, 8]})
 
     def test_all_kinds_of_parts_are_known(self):
         """One program with each kind, and with Shares of types of each form."""

@@ -19,11 +19,13 @@ from pathlib import Path
 import built
 
 import builds  # (built has put the folder above into the path)
+import circuits
 import elaboration
 import gates
 import harness
 import properties
 import provers
+import verilog
 
 FORMAL, EXAMPLES = built.TOOLS / "gos-formal", built.TOP / "examples"
 PORTS = "6 of the ports"
@@ -202,6 +204,25 @@ class Lines(Mutex):
         self.refused(1, "there is no module `foo`", "foo bar(a_uses__run);\nassert x: 1\n")
         self.says("gos_main other(.clk(clk), .rst(started));\nassert x: 1\n", "1: `gos_main` is not taken")
 
+    # What a simulator and yosys read otherwise: the first takes a value from before, the second the one that comes.
+    def test_reads_before_a_value(self):
+        early = "`b` is read before it has its value"
+        for line in ("c = b;", "if (a_uses__run) c = !(1 & b);", "case (b) 1: c = 1; endcase", "case (1) b, !b: c = 1; endcase"):
+            self.refused(3, early, f"reg b, c;\nalways @* begin c = 0;\n {line} b = a_uses__run; end\nassert x: c == b\n")
+        self.refused(2, early, "reg [1:0] b;\nalways @* begin b[1] = b[0]; b[0] = a_uses__run; end\nassert x: b != 2\n")
+        nothing = "an `always @*` that reads nothing is never run by a simulator"
+        self.refused(1, nothing, "reg b; always @* b = 1;\nassert x: b || !a_uses__run\n")
+        self.is_proved("reg b, c; wire d = b;\nreg [1:0] e;\nalways @* begin b = a_uses__run; c = b; c = c ^ d; e[0] = b; e[1] = e[0]; end\n"
+                       "assert x: !c && e[0] == e[1]\n")
+
+    def test_functions_read_their_arguments(self):
+        other = "`{}` isn't given to the function: it reads its arguments alone"
+        self.refused(2, other.format("a_uses__run"), "function f; input q;\n f = q & a_uses__run; endfunction\nassert x: !f(b_uses__run)\n")
+        self.refused(2, other.format("i"), "integer i;\nfunction f(input q); for (i = 0; i < 2; i = i + 1) f = q; endfunction\nassert x: f(1)\n")
+        self.is_proved("localparam N = 2, M = 1;\nfunction g(input q); g = q; endfunction\n"
+                       "function automatic [1:0] f(input [N-1:0] q, input p); integer i; reg r;\n"
+                       "begin r = 'b0; for (i = 0; i < N; i = i + M) f[i] = g(q[i]) & p | r; end endfunction\nassert x: f(3, a_uses__run) != 1\n")
+
 
 class Emptiness(Mutex):
     def test_assumptions_that_no_run_keeps(self):
@@ -225,28 +246,69 @@ class Emptiness(Mutex):
 class Circuits(Mutex):
     """Circuits that are not what gos writes."""
 
-    def changed(self, *changes):
+    CLAIM = "assert exclusion: !(a_uses__run__open && b_uses__run__open)\n"
+
+    def change(self, *changes):
+        """Writes another Verilog text."""
         text = (self.path / "out.v").read_text()
         for old, new in changes:
             self.assertIn(old, text)
             text = text.replace(old, new, 1)
         (self.path / "other.v").write_text(text)
-        return self.formal("assert exclusion: !(a_uses__run__open && b_uses__run__open)\n", files=("out.net", "other.v"))
+
+    def is_refused(self, wanted):
+        """Whether the text is refused for itself, whatever the netlist is."""
+        circuit = elaboration.Circuit(self.path / "other.v", "out.net")
+        with self.assertRaisesRegex(builds.Wrong, f"/other.v: {re.escape(wanted)}$"):
+            elaboration.elaborate(harness.Harness(self.ports, properties.Properties(lines=[]), 20), circuit, self.path, provers.Clock(60))
 
     def test_a_register_without_reset(self):
-        said = self.changed(("if (rst) n8 <= 1'd0; else n8 <= n24", "n8 <= n24 | n16"))
-        self.assertEqual(said, ("other.v: a reset does not set n8 to 0\n", 2))
+        self.change(("if (rst) n8 <= 1'd0; else n8 <= n24", "n8 <= n24 | n16"))
+        self.is_refused("a reset does not set n8 to 0")
 
     def test_other_ports(self):
-        said = self.changed((", b_uses__done)", ", b_uses__done, more)"), ("  input clk;", "  input clk;\n  input more;"))
-        self.assertEqual(said, ("other.v: its ports are not those of out.net\n", 2))
+        self.change((", b_uses__done)", ", b_uses__done, more)"), ("  input clk;", "  input clk;\n  input more;"))
+        self.is_refused("its ports are not those of out.net")
 
     def test_another_clock(self):
-        said = self.changed(("always @(posedge clk) if (rst) n8", "always @(negedge clk) if (rst) n8"))
-        self.assertEqual(said, ("other.v: this is no Verilog text that gos writes: a register takes its value at `posedge clk` alone\n", 2))
+        self.change(("always @(posedge clk) if (rst) n8", "always @(negedge clk) if (rst) n8"))
+        self.is_refused("this is no Verilog text that gos writes: a register takes its value at `posedge clk` alone")
+
+    def test_another_text(self):
+        """Texts with the ports of the netlist: of other circuits, and of the same one."""
+        old = "  assign n30 = n11 & n12;"
+        line = (self.path / "out.v").read_text().split("\n").index(old) + 1
+        for new in ("  assign n30 = n11 & n11;", "  assign n30 = n12 & n11;", f"{old}\n{old}", ""):
+            self.change((old, new))
+            for options in ([], ["--lemmas"]):
+                said = self.formal(self.CLAIM, *options, files=("out.net", "other.v"))
+                self.assertEqual(said, (f"other.v:{line + new.count(chr(10))}: this is not the Verilog text of out.net\n", 2))
+
+    def test_texts_of_netlists(self):
+        """The text of a netlist is the one that gos writes."""
+        room = built.Room(self.path)
+        main = ("import v : var 4\nimport e : exp 4\nexport new x : 4 in new y[2] : 4 in (y 1:1 := e + 1:4 - !v & 7:4 | 1:4 ^ 2:4 ;"
+                " while !x < 3:4 do (x := not !x || v := !(y 0:1)) ; x := (if !x = 2:4 then e else 1:4)) : com\n")
+        room.write_build({"main": main}, (), "main")
+        (self.path / "all.txt").write_text((self.path / "b.txt").read_text().replace("out.", "all."))
+        room.run(room.gos, "compile", "main.gos", "main.obj")
+        self.assertEqual(room.run(room.gos, "link", "all.txt").returncode, 0)
+        text = (self.path / "all.net").read_text()
+        self.assertEqual({word for word, _, _ in circuits.cells_of("all.net", text)}, {*circuits.PINS, "input", "const"})
+        verilog.refuse_other(self.path / "all.net", self.path / "all.v")
 
     def test_a_circuit_that_breaks_its_claims(self):
-        said, status = self.changed(("n8 <= n24", "n8 <= n24 | n8"))
+        """Here the netlist is another one: cell 8 keeps its 1, by a new cell behind all others."""
+        text = (self.path / "out.net").read_text()
+        self.assertEqual(text.split("\n")[10], "reg 1 24")
+        count = int(re.search(r"^cells (\d+)$", text, re.M)[1])
+        changes = ("reg 1 24", f"reg 1 {count}"), (f"cells {count}", f"cells {count + 1}"), ("\nports ", "\nor 1 24 8\nports ")
+        for old, new in changes:
+            text = text.replace(old, new, 1)
+        (self.path / "other.net").write_text(text)
+        lines = verilog.lines_of(circuits.cells_of("other.net", text), builds.read_ports("other.net", text))
+        (self.path / "other.v").write_text("".join(f"{line}\n" for line in lines))
+        said, status = self.formal(self.CLAIM, files=("other.net", "other.v"))
         self.assertEqual((re.findall("^fails: (.*) in", said, re.M), status), (["a_uses__run__in_turn", "exclusion"], 3), said)
 
 

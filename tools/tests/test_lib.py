@@ -5,7 +5,7 @@ usage: tools/tests/test_lib.py GOS [WORDS OF unittest]
        tools/tests/test_lib.py GOS --write
 
 With --write the table gets what is measured. A module is run by a main that gives it its arguments from ports. What has timers and
-lines is played in a description of its surroundings (docs/PLAY.md).
+lines is played in a description of its environment (docs/PLAY.md).
 """
 import re
 import sys
@@ -17,7 +17,7 @@ import built
 
 import circuits  # (built has put the folder above into the path)
 import descriptions
-import surroundings
+import environments
 
 PAGE = built.LIBRARY / "README.md"
 TABLE = re.compile(r"(?:^\|.*\n)+", re.M)
@@ -281,7 +281,7 @@ class Library(built.Case):
             f"cycles {100 + 10 * bit * len(text) + 40}", f"main runs {len(text)} times after {caller} cycles", "byte is a variable", "wrong answers",
             f"line sends {' '.join(map(str, text))} at {bit} cycles a bit after 100 cycles", f"half answers after {half or bit // 2} cycles",
             f"bit answers every {bit} cycles from half.done"]), circuit.ports)
-        pulses = surroundings.run(circuit, around, 10**6).pulses
+        pulses = environments.run(circuit, around, 10**6).pulses
         looked = [cycle for cycle, pin, _ in pulses if pin.name == "line.ans"]
         begins = range(100, 100 + 10 * bit * len(text), 10 * bit)
         late = [next((cycle for cycle in looked if cycle >= begin), begin + bit) - begin for begin in begins]
@@ -375,7 +375,7 @@ class Library(built.Case):
             self.assertTrue(all(low >= 16 + held for low in wires.lows[1:]), wires.lows)
 
     def play(self, names, main, description):
-        """Plays a main that uses these modules in surroundings of this description, in which nothing goes wrong. What came out."""
+        """Plays a main that uses these modules in the environment of this description, in which nothing goes wrong. What came out."""
         modules = {"main": main, **{name: module(name) for name in names}}
         return self.room.play(modules, description + "\n", [f"main {name} {name}" for name in names])
 

@@ -20,7 +20,7 @@ TOOLS, EXAMPLES, LATCH = TOP / "tools", TOP / "examples", TOP / "examples" / "la
 sys.path.insert(0, str(TOOLS))
 import circuits  # noqa: E402
 import descriptions  # noqa: E402
-import surroundings  # noqa: E402
+import environments  # noqa: E402
 from builds import Wrong  # noqa: E402
 
 GOS = str(Path(sys.argv.pop(1)).resolve()) if len(sys.argv) > 1 and not sys.argv[1].startswith("-") else ""
@@ -99,10 +99,10 @@ class Room(unittest.TestCase):
 
 
 def played(net, text, limit=1000):
-    """The pulses of a run in the surroundings of a description, as lines of a trace; and the surroundings."""
+    """The pulses of a run in the environment of a description, as lines of a trace; and the environment."""
     circuit = circuits.Circuit("net", net)
     around = descriptions.read("d", text, circuit.ports)
-    run = surroundings.run(circuit, around, limit)
+    run = environments.run(circuit, around, limit)
     lines = [f"{cycle} {pin.name}" + (f" {value}" if pin.bits else "") for cycle, pin, value in run.pulses]
     return lines, run, around
 
@@ -182,9 +182,9 @@ class Playing(unittest.TestCase):
 
     def test_bursts_begin_at_their_events(self):
         """Bytes of ten cycles: at the beginning, at an event that came while the first one was sent, and behind the one before."""
-        line = surroundings.Serial("e", 1, [surroundings.Burst([0] * 9 + [1], surroundings.Delay()),
-                                            surroundings.Burst([0] * 9 + [1], surroundings.Delay(2, 2), surroundings.Moment("c.ans", "")),
-                                            surroundings.Burst([0] * 9 + [1], surroundings.Delay(5, 5))], surroundings.Dice("e", 1, 0))
+        line = environments.Serial("e", 1, [environments.Burst([0] * 9 + [1], environments.Delay()),
+                                            environments.Burst([0] * 9 + [1], environments.Delay(2, 2), environments.Moment("c.ans", "")),
+                                            environments.Burst([0] * 9 + [1], environments.Delay(5, 5))], environments.Dice("e", 1, 0))
         seen = []
         for cycle in range(60):
             line.move(cycle)
@@ -242,7 +242,7 @@ class Playing(unittest.TestCase):
         self.assertNotEqual(once, other)
 
     def test_chance_of_64_bits(self):
-        dice = surroundings.Dice("e", 1, 0)
+        dice = environments.Dice("e", 1, 0)
         numbers = [dice.throw(2**63, 2**64 - 1) for _ in range(99)]
         self.assertTrue(all(2**63 <= number < 2**64 for number in numbers) and any(number >> 32 != 2**31 for number in numbers))
         self.assertEqual(dice.thrown(0, 2**64 - 1)[1], "{e__dice__high, e__dice}")
@@ -405,12 +405,12 @@ class Formal(Room):
 
 @unittest.skipUnless(GOS, "no program is given")
 class Benches(Room):
-    """A circuit of one module, in surroundings that react, and the same as a test bench."""
+    """A circuit of one module, in an environment that reacts, and the same as a testbench."""
 
     BUILD = "gosbuild 1\ninst main main.gos main.obj\nroot main\nnet out.net\nverilog out.v\npulses in.pls\ntrace out.trc\n"
 
     def play(self, module, description, status):
-        """What gos-play prints of a module, and the lines that its test bench prints beside the trace, or none."""
+        """What gos-play prints of a module, and the lines that its testbench prints beside the trace, or none."""
         self.write(**{"main.gos": module, "b.txt": self.BUILD, "d.play": description})
         said = self.said(TOOLS / "gos-play", "--gos", GOS, "--verilog", "bench.v", "b.txt", "d.play", status=status)
         if not shutil.which("iverilog"):

@@ -615,7 +615,7 @@ class Received(Memory):
 
 @dataclass
 class Answering:
-    """A handshake at which the circuit asks, and the surroundings answer, at most `limit` times where it is one."""
+    """A handshake at which the circuit asks, and the environment answers, at most `limit` times where it is one."""
 
     request: object
     answer: object
@@ -680,7 +680,7 @@ class Answering:
 
 @dataclass
 class Asking:
-    """The handshake at which the surroundings ask: `count` times, or for ever where it is none, each time after a delay."""
+    """The handshake at which the environment asks: `count` times, or for ever where it is none, each time after a delay."""
 
     request: object
     answer: object
@@ -815,7 +815,7 @@ def block(head, lines):
 
 
 @dataclass
-class Surroundings:
+class Environment:
     """All that stands at the ports: their handshakes in order, where values come from, for how many cycles it is run, and what bounds
     there are."""
 
@@ -866,7 +866,7 @@ class Surroundings:
             yield from it.wrong()
 
     def stands(self):
-        """Each handshake that is open and stays so as far as the surroundings know."""
+        """Each handshake that is open and stays so as far as the environment knows."""
         return [line for it in self.handshakes for line in it.stands()]
 
 
@@ -879,28 +879,28 @@ class Run:
     is_over: bool
 
 
-def run(circuit, surroundings, limit):
-    """Runs a circuit in its surroundings, for their number of cycles; or until nothing can happen any more, up to a limit."""
-    made = played(circuit, surroundings, limit)
-    surroundings.end(made.cycles)
+def run(circuit, environment, limit):
+    """Runs a circuit in its environment, for the number of cycles that this has; or until nothing can happen any more, up to a limit."""
+    made = played(circuit, environment, limit)
+    environment.end(made.cycles)
     return made
 
 
-def played(circuit, surroundings, limit):
-    pulses, cycle, end, due = [], 0, surroundings.cycles or limit, surroundings.next(0)
+def played(circuit, environment, limit):
+    pulses, cycle, end, due = [], 0, environment.cycles or limit, environment.next(0)
     while cycle < end:
         outputs = circuit.outputs()
         is_looked_at = outputs or due == cycle
-        inputs = surroundings.do(cycle, outputs) if is_looked_at else []
+        inputs = environment.do(cycle, outputs) if is_looked_at else []
         # (the handshakes are in the order of the ports, and so are the inputs of a cycle in a trace)
         pulses.extend((cycle, pin, value) for pin, value in [*outputs, *inputs])
         circuit.give(inputs)
         moves = circuit.tick()
         cycle += 1
         if is_looked_at:
-            due = surroundings.next(cycle)
+            due = environment.next(cycle)
         elif not moves:
             if due is None:
-                return Run(pulses, surroundings.cycles or cycle, True)
+                return Run(pulses, environment.cycles or cycle, True)
             cycle = due
-    return Run(pulses, end, surroundings.next(end) is None)
+    return Run(pulses, end, environment.next(end) is None)
