@@ -25,7 +25,7 @@ import gates
 import harness
 import properties
 import provers
-import verilog
+import verilog_text
 
 FORMAL, EXAMPLES = built.TOOLS / "gos-formal", built.TOP / "examples"
 PORTS = "6 of the ports"
@@ -295,7 +295,7 @@ class Circuits(Mutex):
         self.assertEqual(room.run(room.gos, "link", "all.txt").returncode, 0)
         text = (self.path / "all.net").read_text()
         self.assertEqual({word for word, _, _ in circuits.cells_of("all.net", text)}, {*circuits.PINS, "input", "const"})
-        verilog.refuse_other(self.path / "all.net", self.path / "all.v")
+        verilog_text.refuse_other(self.path / "all.net", self.path / "all.v")
 
     def test_a_circuit_that_breaks_its_claims(self):
         """Here the netlist is another one: cell 8 keeps its 1, by a new cell behind all others."""
@@ -306,7 +306,7 @@ class Circuits(Mutex):
         for old, new in changes:
             text = text.replace(old, new, 1)
         (self.path / "other.net").write_text(text)
-        lines = verilog.lines_of(circuits.cells_of("other.net", text), builds.read_ports("other.net", text))
+        lines = verilog_text.lines_of(circuits.cells_of("other.net", text), builds.read_ports("other.net", text))
         (self.path / "other.v").write_text("".join(f"{line}\n" for line in lines))
         said, status = self.formal(self.CLAIM, files=("other.net", "other.v"))
         self.assertEqual((re.findall("^fails: (.*) in", said, re.M), status), (["a_uses__run__in_turn", "exclusion"], 3), said)
