@@ -22,6 +22,8 @@ mod netlists;
 #[cfg(test)]
 mod objects;
 #[cfg(test)]
+mod policies;
+#[cfg(test)]
 mod recording;
 #[cfg(test)]
 mod rows;
