@@ -14,15 +14,16 @@ _gos() {
     local word=${COMP_WORDS[COMP_CWORD]} command=${COMP_WORDS[1]:-}
     COMPREPLY=()
     if [ "$COMP_CWORD" -eq 1 ]; then
-        mapfile -t COMPREPLY < <(compgen -W "check compile link sim build demo tidy gates explain verify help --help --version" -- "$word")
+        mapfile -t COMPREPLY < <(compgen -W "check compile link sim build demo tidy gates explain verify verilog netlist help --help --version" -- "$word")
         return
     fi
     case "$COMP_CWORD $command" in
-    "2 help") mapfile -t COMPREPLY < <(compgen -W "check compile link sim build demo tidy gates explain verify" -- "$word") ;;
+    "2 help") mapfile -t COMPREPLY < <(compgen -W "check compile link sim build demo tidy gates explain verify verilog netlist" -- "$word") ;;
     "2 check" | "2 compile") _gos_files .gos ;;
     "3 compile") _gos_files .obj ;;
     "2 link" | "2 build" | "2 explain" | "2 verify") _gos_files .txt ;;
-    "2 sim" | "2 tidy" | "2 gates" | "3 tidy") _gos_files .net ;;
+    "2 sim" | "2 tidy" | "2 gates" | "2 verilog" | "3 tidy" | "3 netlist") _gos_files .net ;;
+    "2 netlist" | "3 verilog") _gos_files .v ;;
     "3 sim") _gos_files .pls ;;
     "4 sim") _gos_files .trc ;;
     "3 gates") _gos_files .aag ;;

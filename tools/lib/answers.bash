@@ -14,6 +14,12 @@ COMMANDS=(
     "verify BUILD MOVES" "makes the moves again by the sources of a build file, for its trace"
 )
 
+# Those of the second program.
+FLOW_COMMANDS=(
+    "verilog NET OUT" "reads a netlist, writes its Verilog text"
+    "netlist VER OUT" "reads such a Verilog text, writes the netlist"
+)
+
 # Each tool beside the program, with what its first line says that it does.
 say_tools() {
     local tool line
@@ -25,17 +31,25 @@ say_tools() {
     done
 }
 
+# Lists commands, which stand each before what it does.
+say_commands() {
+    while [ $# -gt 0 ]; do
+        printf '  %-22s %s\n' "$1" "$2"
+        shift 2
+    done
+}
+
 say_help() {
-    local at
     cat <<END
 usage: gos check SRC | compile SRC OBJ | link BUILD | sim NET PULSES TRACE | build BUILD | demo N
            | tidy NET OUT | gates NET OUT | explain BUILD MOVES | verify BUILD MOVES
 
 END
-    for ((at = 0; at < ${#COMMANDS[@]}; at += 2)); do
-        printf '  %-22s %s\n' "${COMMANDS[at]}" "${COMMANDS[at + 1]}"
-    done
+    say_commands "${COMMANDS[@]}"
     cat <<END
+
+These are a second program, gos_flow, proved as the first one is:
+$(say_commands "${FLOW_COMMANDS[@]}")
 
   --help, -h, help       this text; gos COMMAND --help has what is to be said of one command
   --version, -V          which program this is
@@ -59,10 +73,10 @@ END
 
 # Answers the help of one command, or is no answer where there is no such command.
 say_help_of() {
-    local at
-    for ((at = 0; at < ${#COMMANDS[@]}; at += 2)); do
-        if [ "${COMMANDS[at]%% *}" = "$1" ]; then
-            printf 'usage: gos %s\n\n  %s\n\n' "${COMMANDS[at]}" "${COMMANDS[at + 1]}"
+    local at commands=("${COMMANDS[@]}" "${FLOW_COMMANDS[@]}")
+    for ((at = 0; at < ${#commands[@]}; at += 2)); do
+        if [ "${commands[at]%% *}" = "$1" ]; then
+            printf 'usage: gos %s\n\n  %s\n\n' "${commands[at]}" "${commands[at + 1]}"
             echo "gos --help has all commands and the statuses, $(readlink -f "$top")/docs/FORMATS.md all of files and faults."
             return
         fi

@@ -1,7 +1,9 @@
-# Which program gos there is, and which is run: what the script gos, tools/lib/program and tools/install share. It is read by `.`,
+# Which programs there are, and which is run: what the script gos, tools/lib/program and tools/install share. It is read by `.`,
 # with `top` set to the folder of the checkout, or of what tools/install put somewhere.
 #
-# A program crates/gos/out/NAME is run where its record NAME.sources says that it is of these sources, and that it is this one
+# There are two, named by their crates: gos, and gos_flow_main with the words `verilog` and `netlist`.
+#
+# A program crates/CRATE/out/NAME is run where its record NAME.sources says that it is of these sources, and that it is this one
 # (tools/lib/record). To sum all sources takes a while, so NAME.seen has what was summed last, and as its time one before that was
 # begun: nothing is summed while no file has changed since.
 #
@@ -17,7 +19,19 @@
 # (a pattern that no file meets is none; @(..) is one of some words)
 shopt -s nullglob extglob
 
-out=$top/crates/gos/out
+# Sets which of the programs is meant: `name`, and `out`, where rt leaves it.
+choose_program() {
+    name=$1 out=$top/crates/$1/out
+}
+choose_program gos
+
+# Chooses the program whose words these are.
+choose_program_of() {
+    case "${1:-}" in
+    verilog | netlist) choose_program gos_flow_main ;;
+    *) choose_program gos ;;
+    esac
+}
 
 # Whether nothing that a program is made from, nor the program itself, has changed since a file was written: is_unchanged_since FILE
 # PROGRAM. (a crate that was moved to its place shows by the folder that it stands in)
@@ -60,17 +74,17 @@ is_of_these_sources() {
     [ -z "$wrong" ]
 }
 
-# Sets `program` to the path of the program that there is, and `kind` to `proved` or `preview`, or to nothing where there is none;
+# Sets `program` to the path of the chosen program that there is, and `kind` to `proved` or `preview`, or to nothing where there is none;
 # and `stale` to why a program that looks as if it were proved isn't run.
 find_program() {
     stale=""
     if [ -f "$top/installed" ]; then
         read -r kind <"$top/installed"
-        program=$top/program/gos
+        program=$top/program/$name
         return
     fi
-    program=$out/gos kind=proved
-    if is_of_these_sources gos; then return; fi
+    program=$out/$name kind=proved
+    if is_of_these_sources "$name"; then return; fi
     stale=$wrong program=$out/preview kind=preview
     if is_of_these_sources preview; then return; fi
     program="" kind=""

@@ -10,6 +10,8 @@ from pathlib import Path
 
 TOP = Path(__file__).resolve().parent.parent.parent
 CRATES = TOP / "crates"
+# The crates whose `main` is a program: the first one's is gos, the other's has the words `verilog` and `netlist`.
+PROGRAMS = ("gos", "gos_flow_main")
 PARTS = ("src", "specs", "proofs")
 # What rt makes of a library in its folder out/: the library, and what it keeps for the next time.
 MADE = ("rlib", "incremental")

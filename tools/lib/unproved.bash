@@ -65,7 +65,7 @@ prove_first() {
         exit 70
     fi
     "$top/tools/prove" >&2 || exit $?
-    program=$out/gos kind=proved
+    program=$out/$name kind=proved
 }
 
 # Makes a preview, and ends with the status of that where it fails. Nothing is proved then, which would take half an hour.
@@ -77,7 +77,7 @@ make_preview() {
     fi
     local note notes=$out/preview.said
     say_preview "a preview is made first, from the sources alone, in about a minute"
-    "$top/tools/lib/preview" || exit $?
+    "$top/tools/lib/preview" "$name" || exit $?
     program=$out/preview kind=preview
     if [ "${GOS_QUIET:-}" != 1 ]; then find_note && note_it; fi
 }

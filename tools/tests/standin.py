@@ -1,6 +1,7 @@
 """A small repository with the scripts of this one and a command rt that proves nothing, for tests of the scripts.
 
-Its crates are `gos` over `gos_top` over `gos_left` and `gos_right` over `gos_low`, and `gos_tests`, which the program doesn't need.
+Its crates are `gos` over `gos_top` over `gos_left` and `gos_right` over `gos_low`, the second program `gos_flow_main` over `gos_low`,
+and `gos_tests`, which no program needs.
 Each run of this rt is two lines of `journal`. It makes programs that do what the given lines of a shell say; `rt lib` fails where a
 library below the crate isn't there, and where FAILS names the crate; `rt must-fail` says of each edit over which libraries it is
 tried, and fails with FAILS. NO_TRY has `rt try` fail and say it, and REFUSED has it refuse the sources; MEET has `gos_left` and `gos_right`
@@ -18,11 +19,11 @@ from pathlib import Path
 
 TOP = Path(__file__).resolve().parent.parent.parent
 CRATES = {
-    "gos": "gos_top", "gos_top": "gos_left gos_right", "gos_left": "gos_low thiserror", "gos_right": "gos_low",
+    "gos": "gos_top", "gos_flow_main": "gos_low", "gos_top": "gos_left gos_right", "gos_left": "gos_low thiserror", "gos_right": "gos_low",
     "gos_low": "", "gos_tests": "gos_top",
 }
 PROGRAM = """
-[ "$*" != "check none" ] || exit 3
+case "$*" in "check none" | "verilog none other") exit 3 ;; esac
 [ "$*" != "stack" ] || ulimit -S -s
 echo "ok $*"
 exit ${GOS_STATUS:-0}
@@ -65,8 +66,9 @@ lib)
     cat src/lib.rt >out/rlib/stamp
     ;;
 run)
-    [ "$FAILS" != gos ] || exit 1
-    cp PROGRAM out/gos
+    [ "$FAILS" != "${PWD##*/}" ] || exit 1
+    mkdir -p out
+    cp PROGRAM "out/${PWD##*/}"
     ;;
 must-fail)
     for it in "${@:2}"; do
@@ -77,8 +79,10 @@ must-fail)
     [ -z "$FAILS" ] || exit 1
     ;;
 ci)
-    mkdir -p crates/gos/out
-    cp PROGRAM crates/gos/out/gos
+    for it in gos gos_flow_main; do
+        mkdir -p crates/$it/out
+        cp PROGRAM crates/$it/out/$it
+    done
     [ -z "$FAILS" ] || exit 1
     ;;
 version)

@@ -101,6 +101,14 @@ class Where(unittest.TestCase):
         said = run(TOOLS / "gos-where", LATCH / "a.net", "K2 cell 1").stdout
         self.assertIn("a.net:4:1: K2: the widths of this cell don't fit\nor 1 0 2\n", said)
 
+    def test_cell_of_a_verilog_text(self):
+        with tempfile.TemporaryDirectory() as room:
+            text = "module gos_main(clk, rst);\n  wire [0:0] n1;\n  reg [0:0] n11;\n" \
+                "  always @(posedge clk) if (rst) n11 <= 1'd0; else n11 <= n1;\n  assign n1 = ~n1;\nendmodule\n"
+            (Path(room) / "a.v").write_text(text)
+            for fault, place in (("K1 cycle 1", "a.v:5:1: K1"), ("K2 cell 11", "a.v:4:1: K2"), ("K4 port 0", "a.v:1:1: K4"), ("V1 at 3", "a.v:1:4: V1")):
+                self.assertTrue(run(TOOLS / "gos-where", "a.v", fault, cwd=room).stdout.startswith(place), fault)
+
     def test_no_fault(self):
         self.assertEqual(self.where("", "ok weight 5").returncode, 1)
 
@@ -450,7 +458,7 @@ class Prove(standin.Case):
     def test_what_the_program_needs_is_proved_once(self):
         self.assertEqual(self.do("prove").returncode, 0)
         self.assertEqual(sorted(self.repository.runs("lib")), ["gos_left", "gos_low", "gos_right", "gos_top"])
-        self.assertEqual(self.repository.runs("run"), ["gos"])
+        self.assertEqual(self.repository.runs("run"), ["gos", "gos_flow_main"])
         self.assertEqual((self.top / "crates/gos_left/out/rlib/stamp").read_text(), "// gos_left\n")
         self.assertEqual(list(self.out.glob("gos-prove*")), [])
 
@@ -477,14 +485,14 @@ class Prove(standin.Case):
 
     def test_a_line_for_each_crate(self):
         said = self.do("prove", RT_JOBS="2").stderr.split("\n")
-        self.assertEqual(said[0], "gos: 5 crates are proved, up to 2 at a time; 0 minutes gone, about 2 left")
-        self.assertEqual(said[1], "gos: crate 1 of 5 is proved, gos_low: The crate gos_low; 0 minutes gone, about 2 left")
-        self.assertRegex("\n".join(said), r"\ngos: crate [23] of 5 is proved, gos_right; 0 minutes gone, about \d left\n")
+        self.assertEqual(said[0], "gos: 6 crates are proved, up to 2 at a time; 0 minutes gone, about 2 left")
+        self.assertEqual(said[1], "gos: crate 1 of 6 is proved, gos_low: The crate gos_low; 0 minutes gone, about 2 left")
+        self.assertRegex("\n".join(said), r"\ngos: crate [23] of 6 is proved, gos_right; 0 minutes gone, about \d left\n")
         self.assertEqual(said[-2], "gos: proved and built, in 1 minute")
         self.assertEqual(self.do("prove").stderr, "gos: it is proved\n")
 
     def test_what_fails_is_named(self):
-        for name in ("gos_left", "gos"):
+        for name in ("gos_left", "gos", "gos_flow_main"):
             ran = self.do("prove", FAILS=name)
             self.assertEqual(ran.returncode, 70)
             self.assertIn(f"gos: crate {name} could not be proved and built; what the prover said is in", ran.stderr)

@@ -1,17 +1,11 @@
-// The program `gos`, and its ties to the system: the files that it reads and writes, and standard output.
+// The program `gos`.
 #![tactic(auto)]
 
-mod file_store;
-mod out_sink;
-
-use file_store::FileStore;
+use gos_system::words;
+pub use gos_system::{FileStore, OutSink};
 use gos_tool::{Status, run};
-use out_sink::OutSink;
-use std::alloc::{AllocError, Global};
-use std::env;
-use std::io::ErrorKind;
+use std::alloc::AllocError;
 use std::process::ExitCode;
-use std::rt::Env;
 
 /// Does what its words say, in the folder that it is called in, and ends with the status's code.
 fn main(rt: HostRuntime) -> ExitCode {
@@ -24,19 +18,4 @@ fn main(rt: HostRuntime) -> ExitCode {
         }
         Err(AllocError) => ExitCode::from(Status::NoMemory.code()),
     }
-}
-
-/// The words after the program's name; none where the system's are not all text.
-fn words<R: Env + AllocGlobal>(rt: &R, alloc: Global) -> Result<Vec<String>, AllocError> {
-    let mut words = Vec::new(alloc);
-    match env::args(rt) {
-        Ok(args) => {
-            for word in args.skip(1) {
-                words.push(word)?;
-            }
-        }
-        Err(error) if error.kind() == ErrorKind::OutOfMemory => return Err(AllocError),
-        Err(_) => {}
-    }
-    Ok(words)
 }

@@ -103,7 +103,7 @@ impl From<io::Error> for Trouble {
     ghost use Rattle.std.specs.Prelude.{◌≡◌, ◌↔◌};
     ghost use Rattle.std.specs.IoError.{error_kind};
     ghost use Rattle.std.specs.declared.io.ErrorKind.TheVariants.{OutOfMemory};
-    ghost use Rattle.gos.specs.declared.file_store.Trouble.TheVariants.{NoMemory};
+    ghost use Rattle.gos_system.specs.declared.file_store.Trouble.TheVariants.{NoMemory};
 
     ghost from_gives = { λ error trouble. (trouble ≡ NoMemory) ↔ (error_kind error ≡ OutOfMemory) };
 
@@ -118,7 +118,7 @@ impl From<io::Error> for Trouble {
 
 impl From<AllocError> for Trouble {
     ghost use Rattle.std.specs.Prelude.{◌≡◌};
-    ghost use Rattle.gos.specs.declared.file_store.Trouble.TheVariants.{NoMemory};
+    ghost use Rattle.gos_system.specs.declared.file_store.Trouble.TheVariants.{NoMemory};
 
     ghost from_gives = { λ _ trouble. trouble ≡ NoMemory };
 

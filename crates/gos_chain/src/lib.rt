@@ -1,0 +1,17 @@
+// What holds along a chain of commands: `build`, `tidy`, `verilog`.
+//
+// The promise of a build is that its netlist keeps pace with the program of the linked modules. What `tidy` makes of such a netlist
+// keeps it too, and so does what `verilog` writes of either. Read specs/Paced.
+#![tactic(auto)]
+
+ghost use Rattle.gos_chain.specs.Paced.{WrittenKeepsPace, TidiedKeepsPace};
+
+/// The Verilog text that is written of a netlist which keeps pace with a program is that of an accepted netlist which does, and means
+/// this netlist; and so it is where the netlist was made tidy before.
+pub fn kept_pace()
+    ensures written { WrittenKeepsPace }
+    ensures tidied { TidiedKeepsPace }
+{
+    gos_netlist::one_answer();
+    gos_verilog::meaning();
+}
