@@ -70,7 +70,7 @@ no_instance old new i Accepted (inr (e, same, says)) = not_written i.object e
 
 no_build : (old new : Option Files) (own : Word) → IsBuildCall old new own NoFault → ⊥
 no_build old new own (inl (e, kept)) = no_read own e
-no_build old new own (inr (b, reads, inl module)) = no_instance module.between new module.instance _ module.call
+no_build old new own (inr (b, reads, inl one)) = no_instance one.between new one.instance _ one.call
 no_build old new own (inr (b, reads, inr (plans, objects, written, inl call))) = no_plans objects new b plans call
 no_build old new own (inr (b, reads, inr (plans, objects, written, inr (net, weight, between, done, call)))) =
     no_simulation between new net b.pulses b.trace call

@@ -38,10 +38,8 @@ module _ {old told : Option Files} {own : Word} {b : Build} (has : HasRead old t
       inr (
         b,
         (read, has.says),
-        inl (
-          subst (λ (o : Option Files). IsModuleCall o new b.instances.items fault) has.kept
-              (subst (λ (js : List Instance). IsModuleCall told new js fault) same call),
-        ),
+        inl (subst (λ (o : Option Files). IsModuleCall o new b.instances.items fault) has.kept
+            (subst (λ (js : List Instance). IsModuleCall told new js fault) same call)),
       )
 
   pub source_cut_short : (is : List Instance) → is ≡ b.instances.items

@@ -1,5 +1,5 @@
 -- From the calls of `verify` to what it tells, at each of its ends.
-use Rattle.std.proofs.Common.{◌≡◌, ◌∙◌, inl, inr, ℕ, List, Option, None, Some, Result, Ok, Err, length, refl, subst, sym}
+use Rattle.std.proofs.Common.{◌≡◌, ◌∙◌, inl, inr, ℕ, List, Option, None, Result, Ok, Err, length, refl, subst, sym}
 use Rattle.std.specs.Prelude.{IfSome, IfOk, IfErr}
 use Rattle.gos_outside.specs.Files.{Files, bytes_at}
 use Rattle.gos_outside.specs.Faults.{LastFault, ReadFault}
