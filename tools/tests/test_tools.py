@@ -14,6 +14,7 @@ import tempfile
 import time
 import unittest
 from pathlib import Path
+from unittest import mock
 
 import built
 import standin
@@ -382,6 +383,17 @@ class PartsOfABuild(unittest.TestCase):
         cells = ["input 1", "reg 1 399", *(f"xor 1 {at % 7} {at - 1}" for at in range(2, 400))]
         (self.room / "n").write_text("\n".join(["gosnet 1", "cells 400", *cells, "ports 1", "give main com 0 1", "end", ""]))
         self.assertEqual(self.picture("n", "o.svg"), "")
+
+    def test_dot_works_for_so_long(self):
+        """Seconds in which it waits don't count."""
+        picture, dot = built.script("gos-picture"), self.room / "dot"
+        picture.MOST_SECONDS = 1
+        for line, wanted in (("sleep 2", 0), ("while :; do :; done", 3)):
+            dot.write_text(f"#!/bin/sh\n{line}\n")
+            dot.chmod(0o755)
+            with mock.patch.dict(os.environ, {"PATH": f"{self.room}:{os.environ['PATH']}"}), contextlib.redirect_stderr(io.StringIO()) as said:
+                status = builds.ended(picture.main, [str(self.room / "p.obj"), str(self.room / "o.svg")])
+            self.assertEqual((status, "1 seconds of a processor" in said.getvalue()), (wanted, wanted == 3), said.getvalue())
 
     def test_other_forms_are_refused(self):
         for name in ("o.gif", "o", "o.svg.txt", "out.net"):
