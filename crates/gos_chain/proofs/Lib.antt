@@ -1,1 +1,2 @@
 mod PacedLemmas
+mod ToldLemmas

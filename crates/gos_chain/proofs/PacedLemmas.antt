@@ -1,18 +1,13 @@
 -- What keeps pace with a program does so as Verilog text, made tidy before or not.
-use Rattle.std.proofs.Common.{◌≡◌, ℕ, List, Some, subst, sym}
-use Rattle.gos_outside.specs.Files.{Files, bytes_at}
-use Rattle.gos_lex.specs.Lines.{Word}
+use Rattle.std.proofs.Common.{◌≡◌, ℕ, List, subst, sym}
+use Rattle.gos_outside.specs.Files.{bytes_at}
 use Rattle.gos_netlist.specs.Nets.{Netlist}
 use Rattle.gos_netlist.specs.NetFaults.{IsOneNetlist}
-use Rattle.gos_model.specs.Moves.{Program}
 use Rattle.gos_pace.specs.Pace.{KeepsPaceAlways}
 use Rattle.gos_verilog.specs.VerilogText.{IsVerilogOf}
 use Rattle.gos_verilog.specs.Meaning.{TextsMean}
-use Rattle.gos_flow.specs.Texts.{SaysNet}
-use Rattle.gos_flow.specs.Command.{ToVerilog}
-use Rattle.gos_flow.specs.Run.{IsDone}
 use Rattle.gos_flow.proofs.LawLemmas.{written}
-use Rattle.gos_chain.specs.Paced.{HoldsPaced, WrittenKeepsPace, TidiedKeepsPace}
+use Rattle.gos_chain.specs.Paced.{WrittenKeepsPace, TidiedKeepsPace}
 
 module _ (one_netlist : (text : List ℕ) → IsOneNetlist text) (mean : TextsMean) where
   pub written_keeps_pace : WrittenKeepsPace
