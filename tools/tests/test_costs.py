@@ -257,7 +257,7 @@ main.gos:6      6     64         10      10
         self.room.build(modules, pulses, ["main p p", "main q q", "main e e"])
         waits = {row[0]: [int(it) for it in row[-4:]] for row in map(str.split, self.cost("--names", "b.txt")[0].splitlines()[1:])}
         # (no part of q answers main: q passes on what its port answers)
-        self.assertEqual(waits, {"main.x": [0] * 4, "main.p": [2, 6, 7, 13], "main.e": [1] * 4, "p.c": [4, 0, 3, 5], "q.d": [1, 8, 8, 8]})
+        self.assertEqual(waits, {"main.x": [0] * 4, "main.p": [2, 6, 8, 14], "main.e": [1, 0, 0, 0], "p.c": [4, 0, 3, 6], "q.d": [1, 8, 8, 8]})
 
     def test_all_kinds_of_parts_are_known(self):
         """One program with each kind, and with Shares of types of each form."""
