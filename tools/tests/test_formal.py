@@ -342,17 +342,18 @@ class Provers(Mutex):
         begun = time.monotonic()
         said, status = self.by("sleep 60", "--seconds", "6")
         self.assertEqual((status, time.monotonic() - begun < 50), (4, True), said)
-        self.assertIn("open: never: no proof in the time, and no search came to its end\n", said)
+        # (on a machine with much else to do yosys alone may take so long)
+        self.assertRegex(said, r"open: (never: no proof in the time, and no search came to its end|yosys did not end in 6 seconds)\n")
 
     def test_a_line_of_progress(self):
         self.by("sleep 60", "--seconds", "1")
         (self.path / "p.props").write_text(self.CLAIM)
         reads, writes = pty.openpty()
         path = f"{self.path / 'there'}:{os.environ['PATH']}"
-        ran = subprocess.run([sys.executable, FORMAL, "--seconds", "6", "b.txt", "p.props"], cwd=self.path, stdout=subprocess.DEVNULL,
+        ran = subprocess.run([sys.executable, FORMAL, "--seconds", "20", "b.txt", "p.props"], cwd=self.path, stdout=subprocess.DEVNULL,
                              stderr=writes, env={**os.environ, "PATH": path})
         said = os.read(reads, 1 << 16).decode()
-        self.assertRegex(said, r"a (counterexample|proof) of 6 of the ports, never: \d of 6 s")
+        self.assertRegex(said, r"a (counterexample|proof) of 6 of the ports, never: \d+ of 20 s")
         self.assertTrue(said.endswith("\r\x1b[K"), said)
         self.assertEqual(ran.returncode, 4)
 
