@@ -4,7 +4,7 @@
     bench/examples.py GOS,GOS.. [NAME]..
 
 Each folder of examples with a build file, or each of those named, is built by each program, and run under the pulse file that is there
-or, where there is a description of the surroundings (*.play), in these. A row for each, and one for all together, has the cycles in
+or, where there is a description of the environment (*.play), in these. A row for each, and one for all together, has the cycles in
 which the circuit's next output was awaited; the cells of the netlist and the bits of its registers; and the same two of what `gos tidy`
 makes of it. Each field has a number for each program. Then a row for each later program has its sums as parts of those of the first.
 """
