@@ -28,6 +28,8 @@ use std::alloc::Global;
 /// wiring's ties. A module has one. It is slim: it has at most two joints for each unit of its weight, and its parts and
 /// their handshakes are at most four. The text of a plan with at most 64 imports is one that `read_object` reads. `Err` is
 /// want of memory alone.
+///
+/// That the plan realises its module is the law `gos_terms::laws::theorem::modules`, which a caller calls who needs it.
 pub fn compile(alloc: Global, program: &Linear) -> Result<Plan, NoMemory>
     ensures plan { IfOk result (λ plan. IsPlanOf (program_in program.now).imports (type_of program.now.result) program.now.weight
         (node_seen program.now.term) (plan_of plan)) }

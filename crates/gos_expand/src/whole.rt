@@ -40,6 +40,9 @@ pub enum Policy {
 /// The result has to be a command or an expression, and imports ground types. No two of these ports may have one
 /// name. The plan's size may be 5,000,000 at most, and there may be 65,536 ports at most. `Err` is want of memory
 /// alone: all of it is taken before the first cell is placed.
+///
+/// That its cycles are lists of the plan is the law `cycles_are_lists`. That it keeps pace with what the plan realises is the law
+/// `gos_tool::circuits::every_choice`, which a caller calls who needs it.
 pub fn expand_with(
     alloc: Global,
     plan: &Plan,
@@ -61,7 +64,7 @@ pub fn expand_with(
 
 /// The netlist of `expand_with` for the directions of joints that the policy chooses. It is accepted.
 ///
-/// What is asked is the same. `Err` is want of memory alone.
+/// What is asked is the same. `Err` is want of memory alone. The laws of `expand_with` are said of it, too.
 pub fn expand(alloc: Global, plan: &Plan, root: &Name, policy: Policy) -> Result<Netlist, NoMemory>
     requires result { IsDone (type_of plan.now.outcome) }
     requires ground { All (λ i. IsGround (type_of i.ty)) plan.now.imports }

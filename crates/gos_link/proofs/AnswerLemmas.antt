@@ -3,6 +3,7 @@ use Rattle.std.specs.Prelude.{◌≡◌, ◌≢◌, ◌⊎◌, ℕ, zero, suc, �
 use Rattle.std.proofs.Common.{refl, sym, ◌∙◌, ap, subst, arith, inl, inr}
 use Rattle.std.proofs.lemmas.Bool.{cases_lt}
 use Rattle.std.proofs.lemmas.Option.{slice_get_within}
+use Rattle.gos_types.specs.Types.{IsDone}
 use Rattle.gos_model.specs.Typing.{Imported}
 use Rattle.gos_model.proofs.NumberLemmas.{number_cases}
 use Rattle.gos_ties.proofs.OrderLemmas.{one_order}
@@ -17,7 +18,7 @@ use Rattle.gos_link.specs.declared.services.Service.{Service}
 use Rattle.gos_link.specs.declared.fault.LinkFault.{LinkFault}
 use Rattle.gos_link.specs.declared.fault.LinkFault.TheVariants as faults
 use Rattle.gos_link.specs.Services.{instance_named, BindsOn}
-use Rattle.gos_link.specs.Linked.{Port, IsDone, IsFirstHigher, IsSecond, IsPlaced, IsNamed, IsGrounded, IsLight, IsOfLinks, IsWrongWhole, count_ports, first_unplaced, outcome_of, plans_of, ports_of, whole_of, wiring_of}
+use Rattle.gos_link.specs.Linked.{Port, IsFirstHigher, IsSecond, IsPlaced, IsNamed, IsGrounded, IsLight, IsOfLinks, IsWrongWhole, count_ports, first_unplaced, outcome_of, plans_of, ports_of, whole_of, wiring_of}
 use Rattle.gos_link.specs.Order.{ends_from, position_in, AreInOrder}
 use Rattle.gos_link.specs.Answers.{IsSameFault, LinkedIsOne, HasOneFault, LinkedHasNoFault}
 use Rattle.gos_link.specs.Faces.{LinksHaveNoFault, LinksAreOne}

@@ -5,7 +5,7 @@ use Rattle.std.specs.Str.{bytes_eq}
 use Rattle.std.proofs.Common.{refl, sym, ◌∙◌, ap, cond, subst, inl, inr}
 use Rattle.std.proofs.lemmas.List.{length-map}
 use Rattle.std.proofs.lemmas.Option.{slice_get-map}
-use Rattle.gos_types.specs.Types.{Type', type_of}
+use Rattle.gos_types.specs.Types.{Type', type_of, IsDone}
 use Rattle.gos_lex.specs.Lines.{Word}
 use Rattle.gos_model.specs.Typing.{Imported}
 use Rattle.gos_plan.specs.declared.plan.PlanImport.{PlanImport}
@@ -19,7 +19,7 @@ use Rattle.gos_link.specs.declared.fault.LinkFault.{LinkFault}
 use Rattle.gos_link.specs.declared.fault.LinkFault.TheVariants as faults
 use Rattle.gos_link.specs.declared.services.Service.{Service}
 use Rattle.gos_link.specs.Services.{import_named, NamesBoth, NamesAll, Means, IsRightBind, IsWrongBind, BindsOn}
-use Rattle.gos_link.specs.Linked.{Port, AreDifferent, AreGround, IsDone, IsFirstHigher, IsSecond, IsNamed, IsGrounded, IsOfLinks, IsWrongWhole, imports_of, links_from, links_of, outcome_of, plans_of, port_of, ports_of, shakes_at, whole_of}
+use Rattle.gos_link.specs.Linked.{Port, AreDifferent, AreGround, IsFirstHigher, IsSecond, IsNamed, IsGrounded, IsOfLinks, IsWrongWhole, imports_of, links_from, links_of, outcome_of, plans_of, port_of, ports_of, shakes_at, whole_of}
 use Rattle.gos_link.specs.Faces.{Face, face_of, faces_of, LinksAreOfFaces, FaultsAreOfFaces}
 
 -- of two lists that are seen as one, an element of the one is seen as that of the other at its place

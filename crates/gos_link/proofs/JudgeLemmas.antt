@@ -3,7 +3,7 @@ use Rattle.std.specs.Prelude.{◌≡◌, ℕ, ◌<◌, List, [], ◌∷◌, ◌+
 use Rattle.std.proofs.Common.{refl, sym, ◌∙◌, ap, subst, arith, inl, inr, append-nil, append_assoc}
 use Rattle.std.proofs.lemmas.List.{length-map}
 use Rattle.std.proofs.lemmas.Option.{slice_get-map, slice_get_within}
-use Rattle.gos_types.specs.Types.{Type', type_of}
+use Rattle.gos_types.specs.Types.{Type', type_of, IsDone}
 use Rattle.gos_types.proofs.ListLemmas.{element_at}
 use Rattle.gos_plan.specs.Seen.{SeenPlan, plan_of}
 use Rattle.gos_plan.specs.Joining.{LeftImport, all_left}
@@ -15,7 +15,7 @@ use Rattle.gos_link.specs.declared.opens.Open.{Open}
 use Rattle.gos_link.specs.declared.fault.LinkFault.{LinkFault}
 use Rattle.gos_link.specs.declared.fault.LinkFault.TheVariants as faults
 use Rattle.gos_link.specs.Services.{BindsOn}
-use Rattle.gos_link.specs.Linked.{Port, AreGround, IsDone, IsFirstHigher, IsPlaced, IsNamed, IsWrongWhole, outcome_of, plans_of, port_of, ports_of, whole_of}
+use Rattle.gos_link.specs.Linked.{Port, AreGround, IsFirstHigher, IsPlaced, IsNamed, IsWrongWhole, outcome_of, plans_of, port_of, ports_of, whole_of}
 use Rattle.gos_link.specs.inner.Judged.{IsJudged}
 use Rattle.gos_link.specs.inner.Opens.{open_seen, opens_among}
 use Rattle.gos_link.specs.inner.Ports.{AllDiffer, IsOpenTwice}

@@ -3,7 +3,7 @@
 -- Read first: Services, Order; Joining of gos_plan. The linked plan is the joining of the instances' plans along the imports that
 -- are served, and its joints stand in the order of these plans.
 use Rattle.std.specs.Prelude.{◌≡◌, ◌≢◌, ◌<◌, ◌≤◌, ◌+◌, ◌⊎◌, ◌||◌, ℕ, zero, suc, Bool, true, false, List, [], ◌∷◌, ◌++◌, Option, Some, None, length, map, slice_get, nat_eq, if◌then◌else◌}
-use Rattle.gos_types.specs.Types.{Type', Com, Exp, Var, Pair, Fun, IsGround}
+use Rattle.gos_types.specs.Types.{Type', Com, Exp, Var, Pair, Fun, IsGround, IsDone}
 use Rattle.gos_lex.specs.Lines.{Word}
 use Rattle.gos_model.specs.Typing.{Imported}
 use Rattle.gos_plan.specs.Plans.{ImportEnd, ResultEnd, Plan, contacts_of_import}
@@ -103,14 +103,6 @@ pub record IsSecond (ports : List Port) (one other : Port) : Type 0 where
   pub at_second : slice_get ports second ≡ Some other
   pub same : one.name ≡ other.name
   pub different : AreDifferent second ports
-
--- a result that the outside may use: a command or an expression
-abbrev pub IsDone : Type' → Type 0
-IsDone Com = Unit {0}
-IsDone (Exp w) = Unit {0}
-IsDone (Var w) = ⊥
-IsDone (Pair a b) = ⊥
-IsDone (Fun a b) = ⊥
 
 -- the types of the first n imports are ground
 abbrev pub AreGround : ℕ → List LeftImport → Type 0

@@ -35,6 +35,9 @@ fn joined(alloc: Global, plans: &[Plan], links: &Links) -> Result<Plan, LinkFaul
 /// The error is the first of these: for each bind line in order `NoInstance`, `NoImport`, `TypeDiffers`, `BoundTwice`,
 /// `UsedTwice`, `Loop`; then `NoInstance` of the root's line, `Unplaced`, `OpenTwice`, `NotGround`, `TooHeavy`, `TooLarge`. It is
 /// never `Form`.
+///
+/// That the linked plan of modules realises the program put together is the law `gos_linked::laws::linked::linked_modules`,
+/// which a caller calls who needs it.
 pub fn link(alloc: Global, build: &Build, plans: &[Plan]) -> Result<Plan, LinkFault>
     requires { IsLinkable build.now plans.now }
     ensures linked { IfOk result (λ plan. IsLinked build.now plans.now (plan_of plan)) }

@@ -1,10 +1,10 @@
 // What is asked of a build behind its bind lines: the root, places, names, types and weight.
 
 ghost use Rattle.std.specs.Prelude.{◌≡◌, ◌≢◌, ◌<◌, ◌≤◌, ◌∷◌, ℕ, List, Some, None, length, map, slice_get, IfOk, IfErr, IsTrue, MatchOption, ◌↔◌};
-ghost use Rattle.gos_types.specs.Types.{type_of};
+ghost use Rattle.gos_types.specs.Types.{type_of, IsDone};
 ghost use Rattle.gos_plan.specs.Seen.{SeenPlan};
 ghost use Rattle.gos_plan.specs.Joining.{LeftImport};
-ghost use Rattle.gos_link.specs.Linked.{AreDifferent, AreGround, IsDone, IsFirstHigher, IsOfLinks, IsPlaced, IsSecond, IsWrongWhole, first_unplaced, is_placed, port_of};
+ghost use Rattle.gos_link.specs.Linked.{AreDifferent, AreGround, IsFirstHigher, IsOfLinks, IsPlaced, IsSecond, IsWrongWhole, first_unplaced, is_placed, port_of};
 ghost use Rattle.gos_link.specs.inner.Opens.{open_seen};
 ghost use Rattle.gos_link.specs.inner.Ports.{port_seen, AllDiffer, IsOpenTwice};
 

@@ -2,4 +2,5 @@ pub mod TypeLemmas
 pub mod PutLemmas
 pub mod StepLemmas
 pub mod ResultLemmas
+pub mod GroundLemmas
 pub mod SmallLemmas

@@ -1,3 +1,4 @@
 pub mod HasTypes
 pub mod Results
+pub mod GroundImports
 pub mod SmallResults

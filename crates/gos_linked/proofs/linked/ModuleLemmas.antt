@@ -71,13 +71,6 @@ result_wide (p ∷ ps) [] n all = absurd all
 result_wide (p ∷ ps) (m ∷ ms) zero (one, all) = one.realises.result_widths
 result_wide (p ∷ ps) (m ∷ ms) (suc n) (one, all) = result_wide ps ms n all
 
-done_of : (t : Type') → link.IsDone t → IsDone t
-done_of Com done = tt
-done_of (Exp w) done = tt
-done_of (Var w) done = done
-done_of (Pair a b) done = done
-done_of (Fun a b) done = done
-
 module _ (realises : LinkedIsRealised) (ground : LinkedIsGround) (open_is_done : OpenIsDone) (b : Build) (ps : List SeenPlan)
     (p : Plan) (ms : Instances) (l : IsLinked b ps p) (each : length ps ≡ length b.instances.items) (all : AreModules (plans_of ps) ms)
   where
@@ -91,7 +84,7 @@ module _ (realises : LinkedIsRealised) (ground : LinkedIsGround) (open_is_done :
     wide = subst HaveWidths (sym imports) (all_wide (binds_of (plans_of ps) l.services) 0 (plans_of ps) ms all)
 
     done : IsDone p.outcome
-    done = subst IsDone (sym l.joining.outcome) (done_of (outcome_of (slice_get (plans_of ps) l.root)) l.light.grounded.result)
+    done = subst IsDone (sym l.joining.outcome) l.light.grounded.result
 
     regular_done : IsRegular p × RealisesDone p (linked_program b ps p l ms).body
     regular_done =

@@ -1,5 +1,6 @@
 // What a running term ends with. Each theorem is the contract of a function that does nothing.
 ghost use Rattle.gos_programs.specs.results.Results.{AnswersAreTyped, ResultsAreTyped, RunsKeepTypes};
+ghost use Rattle.gos_programs.specs.results.GroundImports.{ArraysAsk, NoIndexIsAsked};
 ghost use Rattle.gos_programs.specs.results.SmallResults.{
   AccessesHaveTypes,
   NoLocation,
@@ -15,6 +16,13 @@ pub fn results()
     ensures runs { RunsKeepTypes }
     ensures values { ResultsAreTyped }
     ensures answers { AnswersAreTyped }
+{}
+
+/// Where all imports are ground no array asks for an index in a run, so no place in an index of an import is reached; where one
+/// is an array's, that array may ask.
+pub fn ground_imports()
+    ensures ground { NoIndexIsAsked }
+    ensures arrays { ArraysAsk }
 {}
 
 /// Small running terms and stores that meet the definitions of this crate, and others that miss them.

@@ -58,7 +58,9 @@ Means (Fun a b) p m =
     → HaveOtherNames p.imports q.imports → Suits a q n → Means a q n → IsJoined (applying a b p q) r
     → Suits b r (App m n) × Means b r (App m n)
 
--- A plan whose imports are ports realises a term of this type.
+-- A plan whose imports are ports realises a term of this type. Nothing realises a variable of more than 64 bits
+-- (`VariablesHaveWidths`), so for want of an argument any plan that suits realises a function of one; no module has such a type,
+-- as `RealisesModule` asks that widths are in range.
 pub record Realises (t : Type') (p : Plan) (m : Term) : Type 0 where
   pub suits : Suits t p m
   pub means : Means t p m

@@ -6,7 +6,7 @@ use Rattle.std.specs.Prelude.{codes}
 use Rattle.std.specs.Str.{bytes_eq}
 use Rattle.std.proofs.lemmas.Slice.Eq.{bytes_eq-Decides}
 use Rattle.std.proofs.lemmas.List.{length-map}
-use Rattle.gos_types.specs.Types.{Type', Com, IsGround}
+use Rattle.gos_types.specs.Types.{Type', Com, IsGround, IsDone}
 use Rattle.gos_lex.specs.Lines.{Word}
 use Rattle.gos_model.specs.Typing.{Imported}
 use Rattle.gos_plan.specs.Plans.{Plan}
@@ -20,7 +20,7 @@ use Rattle.gos_link.specs.declared.services.Service.{Service}
 use Rattle.gos_link.specs.declared.fault.LinkFault.{LinkFault}
 use Rattle.gos_link.specs.declared.fault.LinkFault.TheVariants as faults
 use Rattle.gos_link.specs.Services.{instance_named, BindsOn}
-use Rattle.gos_link.specs.Linked.{links_of, plans_of, whole_of, outcome_of, Port, port_of, IsSecond, IsDone, IsFirstHigher, first_unplaced, IsPlaced, count_ports, IsLinked, IsWrongWhole, IsUnlinked}
+use Rattle.gos_link.specs.Linked.{links_of, plans_of, whole_of, outcome_of, Port, port_of, IsSecond, IsFirstHigher, first_unplaced, IsPlaced, count_ports, IsLinked, IsWrongWhole, IsUnlinked}
 use Rattle.gos_link.specs.Answers.{JointsAreFew}
 use Rattle.gos_tool.proofs.lemmas.demo.TestLemmas.{less_by, some_none}
 use Rattle.gos_tool.proofs.lemmas.demo.SortLemmas.{Sort, AreOf, bare_plans, same_links, same_left, same_outcome, same_weight, each_right, few_parts, few_joints}
