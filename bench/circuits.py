@@ -58,13 +58,14 @@ class Nets:
 
 
 def begin(seed, asked):
-    """A circuit with nets that are 1 once it is asked, always 0, and the number 1, but no gate could tell so."""
+    """A circuit with nets that are 1 once it is asked, always 0, and the number 1, but no gate could tell so: two registers read
+    each other, and always show the same."""
     circuit = Circuit(random.Random(seed), asked)
     ask = circuit.add('input', 1)
-    on, off = circuit.add('reg', 1, 3), circuit.add('reg', 1, 4)
+    on, other = circuit.add('reg', 1, 4), circuit.add('reg', 1, 3)
     circuit.add('or', 1, on, ask)
-    circuit.add('and', 1, off, ask)
-    return circuit, on, off, circuit.add('const', 8, 1)
+    circuit.add('or', 1, other, ask)
+    return circuit, on, circuit.add('xor', 1, on, other), circuit.add('const', 8, 1)
 
 
 def end(circuit, off, nets):

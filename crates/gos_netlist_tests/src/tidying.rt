@@ -126,6 +126,52 @@ fn a_xor_of_a_xor_goes(rt: HostRuntime) -> Result<(), Fail> {
     )
 }
 
+// A register that reads itself through an And, two that read each other, and one that reads a constant 0.
+#[test]
+fn registers_that_stay_0_go(rt: HostRuntime) -> Result<(), Fail> {
+    becomes(
+        &rt,
+        rt.alloc(),
+        "gosnet 1\ncells 5\ninput 1\nreg 1 2\nand 1 1 0\nor 1 0 1\nreg 1 3\nports 1\ngive main com 0 4\nend\n",
+        "gosnet 1\ncells 4\ninput 1\nconst 1 0\nor 1 0 1\nreg 1 2\nports 1\ngive main com 0 3\nend\n",
+    )?;
+    becomes(
+        &rt,
+        rt.alloc(),
+        "gosnet 1\ncells 8\ninput 1\nreg 1 2\nreg 1 1\nconst 1 0\nreg 1 3\nxor 1 1 4\nmux 1 5 3 0\nreg 1 6\nports 1\ngive main com 0 7\nend\n",
+        "gosnet 1\ncells 2\ninput 1\nreg 1 0\nports 1\ngive main com 0 1\nend\n",
+    )
+}
+
+// The register stays 0 only where two others are one, which a Xor of a Xor shows.
+#[test]
+fn a_register_stays_0_once_others_are_one(rt: HostRuntime) -> Result<(), Fail> {
+    becomes(
+        &rt,
+        rt.alloc(),
+        "gosnet 1\ncells 8\ninput 1\nreg 1 0\nreg 1 0\nreg 1 5\nxor 1 3 1\nxor 1 4 2\nmux 1 3 3 1\nreg 1 6\nports 1\ngive main com 0 7\nend\n",
+        "gosnet 1\ncells 3\ninput 1\nreg 1 0\nreg 1 1\nports 1\ngive main com 0 2\nend\n",
+    )
+}
+
+// One that reads itself through an Or is 1 from a pulse on, one that reads 1 is 1 from the second cycle on, and an output is a
+// register though it stays 0.
+#[test]
+fn other_registers_stay(rt: HostRuntime) -> Result<(), Fail> {
+    becomes(
+        &rt,
+        rt.alloc(),
+        "gosnet 1\ncells 7\ninput 1\nreg 1 2\nor 1 1 0\nconst 1 1\nreg 1 3\nand 1 1 4\nreg 1 5\nports 1\ngive main com 0 6\nend\n",
+        "gosnet 1\ncells 7\ninput 1\nreg 1 2\nor 1 1 0\nconst 1 1\nreg 1 3\nand 1 1 4\nreg 1 5\nports 1\ngive main com 0 6\nend\n",
+    )?;
+    becomes(
+        &rt,
+        rt.alloc(),
+        "gosnet 1\ncells 4\ninput 1\nreg 1 2\nand 1 1 0\nreg 1 1\nports 1\ngive main com 0 1\nend\n",
+        "gosnet 1\ncells 3\ninput 1\nreg 1 2\nand 1 1 0\nports 1\ngive main com 0 1\nend\n",
+    )
+}
+
 // The cells of two constants and a gate that folds, whose number is shown by an Exp port of so many bits.
 fn folds(rt: &impl Abort, alloc: Global, gate: &str, shown: &str) -> Result<(), Fail> {
     let text = format!(in alloc;

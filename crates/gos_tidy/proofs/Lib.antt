@@ -11,8 +11,12 @@ pub mod AlikeLemmas
 pub mod PaceLemmas
 pub mod OrderLemmas
 pub mod StillLemmas
+pub mod SteadyLemmas
+pub mod AgainLemmas
+pub mod FixedLemmas
 pub mod TidiedLemmas
 pub mod SmallTidyLemmas
+pub mod SmallSteadyLemmas
 pub mod ChangeLemmas
 pub mod ReadLemmas
 pub mod RootLemmas
@@ -23,5 +27,6 @@ pub mod LeftLemmas
 pub mod WholeLemmas
 pub mod PlaceLemmas
 pub mod SizeLemmas
+pub mod CountLemmas
 pub mod BreachLemmas
 pub mod RoundLemmas

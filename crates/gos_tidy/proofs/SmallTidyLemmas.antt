@@ -37,7 +37,7 @@ from_place P k [] all n x is = absurd (cc is)
 from_place P k (y ∷ xs) all zero x is = let here : k ≡ k + 0 = omega arith in subst (λ m. P m x) here (subst (P k) (same_Some y x is) all.0)
 from_place P k (y ∷ xs) all (suc n) x is = let here : suc k + n ≡ k + suc n = omega arith in subst (λ m. P m x) here (from_place P (suc k) xs all.1 n x is)
 
-each_at : {X : Type 0} (P : ℕ → X → Type 0) (xs : List X) → AllFrom P 0 xs → (n : ℕ) (x : X) → slice_get xs n ≡ Some x → P n x
+pub each_at : {X : Type 0} (P : ℕ → X → Type 0) (xs : List X) → AllFrom P 0 xs → (n : ℕ) (x : X) → slice_get xs n ≡ Some x → P n x
 each_at P xs all n x is = let here : 0 + n ≡ n = omega arith in subst (λ m. P m x) here (from_place P 0 xs all n x is)
 
 -- Accepted netlists of one command.

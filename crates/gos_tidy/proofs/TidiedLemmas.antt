@@ -16,7 +16,7 @@ use Rattle.gos_tidy.specs.Tidy.{LeadsTo, IsEnd as AtEnd, IsPin, IsTidy}
 use Rattle.gos_tidy.specs.Alike.{IsTidied}
 use Rattle.gos_tidy.proofs.RenamedLemmas.{one_gate}
 use Rattle.gos_tidy.proofs.PortNetLemmas.{flat_member, member_flat}
-use Rattle.gos_tidy.proofs.StillLemmas.{reduced_again}
+use Rattle.gos_tidy.proofs.AgainLemmas.{reduced_again}
 
 -- at the net stands a cell that is no input
 abbrev IsOther : List Cell → ℕ → Type 0

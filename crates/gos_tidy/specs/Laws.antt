@@ -6,6 +6,7 @@ use Rattle.gos_netlist.specs.Nets.{Cell, Netlist}
 use Rattle.gos_netlist.specs.Settling.{Numbers, at, shown, Settling}
 use Rattle.gos_netcheck.specs.Accepted.{IsAccepted}
 use Rattle.gos_tidy.specs.Mapped.{Mapped}
+use Rattle.gos_tidy.specs.Steady.{IsSteadied}
 use Rattle.gos_tidy.specs.Reduced.{IsReduced, Reduces}
 use Rattle.gos_tidy.specs.Alike.{IsAlike, KeepsOrder}
 
@@ -27,6 +28,10 @@ pub record IsStill (net other : Netlist) : Type 0 where
 -- An accepted netlist that is reduced once is accepted and alike, has no more cells, and has them in their order.
 abbrev pub ReducedOnce : Type 0
 ReducedOnce = (net other : Netlist) → IsAccepted net → IsReduced net other → IsStill net other
+
+-- So it is where steady cells have become constants.
+abbrev pub SteadiedOnce : Type 0
+SteadiedOnce = (net other : Netlist) → IsAccepted net → IsSteadied net other → IsStill net other
 
 -- so it is, reduced any number of times
 abbrev pub ReducedAgain : Type 0

@@ -1,6 +1,7 @@
 -- In reading order: a file uses only files above it.
 pub mod Ends
 pub mod Mapped
+pub mod Steady
 pub mod Reduced
 pub mod Tidy
 pub mod Alike

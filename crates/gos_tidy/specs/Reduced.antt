@@ -1,6 +1,6 @@
 -- Netlists that are made smaller: cells are merged, and then cells are left out.
 --
--- Read first: Mapped, Ends. Merging takes equal cells together and puts constants and nets in the place of gates, all at
+-- Read first: Mapped, Steady, Ends. Merging takes equal cells together and puts constants and nets in the place of gates, all at
 -- once; leaving out takes no net away that is named. Cells keep their order. Says nothing of which cells have to be merged.
 use Rattle.std.specs.Prelude.{◌≡◌, ◌≢◌, ◌⊎◌, ℕ, ◌<◌, ◌≤◌, List, Some, slice_get, length, map}
 use Rattle.gos_netlist.specs.Nets.{Function, Input, Gate, Cell, Netlist}
@@ -8,6 +8,7 @@ use Rattle.gos_netcheck.specs.Rules.{Kept}
 use Rattle.gos_netcheck.specs.CellRules.{NetsExist}
 use Rattle.gos_tidy.specs.Ends.{with_nets}
 use Rattle.gos_tidy.specs.Mapped.{IsConst, IsKept, IsFolded, IsShort, Mapped}
+use Rattle.gos_tidy.specs.Steady.{IsSteadied}
 
 -- the net has so many bits
 abbrev pub HasWidth : List Cell → ℕ → ℕ → Type 0
@@ -52,7 +53,8 @@ pub record IsReduced (net other : Netlist) : Type 0 where
   pub ports : map (with_nets placing) other.ports ≡ map (with_nets merging) net.ports
   pub ends : Kept (λ _ p. Kept (λ _ n. n < length other.cells) p.nets) other.ports
 
--- the second netlist is the first one, reduced any number of times
+-- the second netlist is the first one, reduced any number of times, with steady cells made constants in between
 pub data Reduces (net : Netlist) : Netlist → Type 0 where
   NotYet : Reduces net net
   Again : (mid other : Netlist) → Reduces net mid → IsReduced mid other → Reduces net other
+  Steadied : (mid other : Netlist) → Reduces net mid → IsSteadied mid other → Reduces net other

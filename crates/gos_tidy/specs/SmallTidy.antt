@@ -8,6 +8,7 @@ use Rattle.gos_netlist.specs.SmallNets.{bit, latch}
 use Rattle.gos_netlist.specs.Settling.{at}
 use Rattle.gos_pace.specs.SmallPace.{skip_circuit, silent_circuit}
 use Rattle.gos_tidy.specs.Mapped.{Mapped}
+use Rattle.gos_tidy.specs.Steady.{IsSteadied}
 use Rattle.gos_tidy.specs.Reduced.{IsQuotient, IsPart}
 use Rattle.gos_tidy.specs.Tidy.{IsTidy}
 use Rattle.gos_tidy.specs.Alike.{IsAlike, IsTidied}
@@ -68,6 +69,29 @@ InputsStayApart = (roots : List ℕ) → IsQuotient (bit Input ∷ bit Input ∷
 
 abbrev pub InputsStay : Type 0
 InputsStay = (g : ℕ → ℕ) → IsPart [] (bit Input ∷ []) g → ⊥
+
+-- A register that reads itself through an And is 0 for ever, and so is this And.
+abbrev pub LoopIsSteadied : Type 0
+LoopIsSteadied =
+    IsSteadied (command (bit Input ∷ bit (Reg 2) ∷ bit (And 1 0) ∷ bit (Or 0 1) ∷ bit (Reg 3) ∷ []) (0 ∷ 4 ∷ []))
+    (command (bit Input ∷ bit (Const 0) ∷ bit (Const 0) ∷ bit (Or 0 1) ∷ bit (Reg 3) ∷ []) (0 ∷ 4 ∷ []))
+
+-- but not one that reads itself through an Or: it is 1 from the first pulse on
+abbrev pub HeldIsNotSteadied : Type 0
+HeldIsNotSteadied =
+    IsSteadied (command (bit Input ∷ bit (Reg 2) ∷ bit (Or 1 0) ∷ bit (Reg 2) ∷ []) (0 ∷ 3 ∷ []))
+    (command (bit Input ∷ bit (Const 0) ∷ bit (Or 1 0) ∷ bit (Reg 2) ∷ []) (0 ∷ 3 ∷ [])) → ⊥
+
+-- Nor is one that reads 1 any constant, since it shows 0 in the first cycle; and an output stays a register.
+abbrev pub OneIsNotSteadied : Type 0
+OneIsNotSteadied =
+    (k : ℕ) → IsSteadied (command (bit Input ∷ bit (Const 1) ∷ bit (Reg 1) ∷ bit (And 2 0) ∷ bit (Reg 3) ∷ []) (0 ∷ 4 ∷ []))
+    (command (bit Input ∷ bit (Const 1) ∷ bit (Const k) ∷ bit (And 2 0) ∷ bit (Reg 3) ∷ []) (0 ∷ 4 ∷ [])) → ⊥
+
+abbrev pub EndIsNotSteadied : Type 0
+EndIsNotSteadied =
+    IsSteadied (command (bit Input ∷ bit (Const 0) ∷ bit (Reg 1) ∷ []) (0 ∷ 2 ∷ []))
+    (command (bit Input ∷ bit (Const 0) ∷ bit (Const 0) ∷ []) (0 ∷ 2 ∷ [])) → ⊥
 
 -- a circuit that answers is not alike to one that never does
 abbrev pub SilentIsNotAlike : Type 0

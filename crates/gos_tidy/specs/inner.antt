@@ -4,6 +4,7 @@ pub mod Changes
 pub mod Shapes
 pub mod Breaches
 pub mod Reading
+pub mod Fixed
 pub mod Roots
 pub mod Marks
 pub mod Places

@@ -162,7 +162,7 @@ fn moved_nets(
 }
 
 // A name once more.
-fn copied(alloc: Global, name: &Name) -> Result<Name, NoMemory>
+pub(crate) fn copied(alloc: Global, name: &Name) -> Result<Name, NoMemory>
     ensures { IfOk result (λ copy. copy ≡ name.now) }
 {
     match Name::new(alloc, name.bytes()) {

@@ -105,12 +105,34 @@ impl Guess {
 
     // Looks at the cell of a net.
     fn look(&mut self, cells: &[Cell], net: u32) -> Result<(), NoMemory> {
+        if self.slots.is_full() {
+            self.file_anew(cells)?;
+        }
         let place = net as usize;
         if place >= cells.len() || place >= self.waits.len() {
             return Ok(());
         }
         self.waits[place] = false;
-        match self.classes.form(&cells[place]) {
+        self.read(cells, net, &cells[place])
+    }
+
+    // Puts all nets whose cells don't wait to be looked at into an empty table.
+    fn file_anew(&mut self, cells: &[Cell]) -> Result<(), NoMemory> {
+        self.slots.clear();
+        let mut net = 0u32;
+        for cell in cells {
+            let place = net as usize;
+            if place < self.waits.len() && !self.waits[place] {
+                self.read(cells, net, cell)?;
+            }
+            net = net.wrapping_add(1);
+        }
+        Ok(())
+    }
+
+    // Puts a net, whose cell this is, into the class that it shows, or into that of a net whose cell is read as the same.
+    fn read(&mut self, cells: &[Cell], net: u32, cell: &Cell) -> Result<(), NoMemory> {
+        match self.classes.form(cell) {
             Form::Short(class) => {
                 let own = self.classes.of(net);
                 self.unite(own, class.0)
@@ -134,7 +156,10 @@ impl Guess {
                     net: other,
                     tag: held,
                 } => {
-                    if held == tag && other != net && self.is_read_as(cells, other, &whole) {
+                    if held == tag && other == net {
+                        return self.learn(net, whole);
+                    }
+                    if held == tag && self.is_read_as(cells, other, &whole) {
                         let own = self.classes.of(net);
                         let class = self.classes.of(other);
                         return self.unite(own, class);

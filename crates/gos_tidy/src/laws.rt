@@ -1,15 +1,19 @@
 // What the definitions say. Each theorem is the contract of a function that does nothing.
-ghost use Rattle.gos_tidy.specs.Laws.{PulledBack, ReducedAgain, ReducedOnce};
+ghost use Rattle.gos_tidy.specs.Laws.{PulledBack, ReducedAgain, ReducedOnce, SteadiedOnce};
 ghost use Rattle.gos_tidy.specs.SmallTidy.{
   ChosenIsNotTidy,
+  EndIsNotSteadied,
   FoldedIsNotTidy,
   FoldingIsTidied,
+  HeldIsNotSteadied,
   HeldIsTidy,
   IdleIsNotTidy,
   InputsStay,
   InputsStayApart,
   LatchIsTidied,
+  LoopIsSteadied,
   MixedIsNotTidy,
+  OneIsNotSteadied,
   OtherSideIsNotMapped,
   RegisterIsNotFolded,
   SilentIsNotAlike,
@@ -30,6 +34,7 @@ pub fn mapped_cells()
 /// list of inputs in range; it keeps pace with each program with which it did. Inputs aren't merged, nor left out.
 pub fn reduced_netlists()
     ensures once { ReducedOnce }
+    ensures steadied { SteadiedOnce }
     ensures again { ReducedAgain }
     ensures apart { InputsStayApart }
     ensures inputs { InputsStay }
@@ -48,6 +53,15 @@ pub fn small_netlists()
     ensures folded { FoldedIsNotTidy }
     ensures idle { IdleIsNotTidy }
     ensures held { HeldIsTidy }
+{}
+
+/// Cells become constants that show one number for ever: a register that reads itself through an And, but none that reads itself
+/// through an Or, or reads 1, and none that is an output.
+pub fn steady_netlists()
+    ensures looped { LoopIsSteadied }
+    ensures held { HeldIsNotSteadied }
+    ensures one { OneIsNotSteadied }
+    ensures end { EndIsNotSteadied }
 {}
 
 /// A circuit that answers and one that never does aren't alike.

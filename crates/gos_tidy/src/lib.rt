@@ -10,15 +10,19 @@ mod change;
 mod classes;
 mod constants;
 mod drop;
+mod fixed;
 mod guess;
 mod laws;
 mod marking;
 mod merge;
+mod order;
 mod quotient;
 mod renaming;
 mod rounds;
 mod shape;
+mod size;
 mod slots;
+mod steady;
 mod users;
 
 ghost use Rattle.std.specs.Prelude.{◌≡◌, IfOk, IfErr};
@@ -27,7 +31,7 @@ ghost use Rattle.gos_tidy.specs.Alike.{IsTidied};
 use crate::rounds::rounds;
 use gos_netcheck::{Checked, NetFault, accept};
 use gos_types::NoMemory;
-pub use laws::{mapped_cells, reduced_netlists, small_netlists, unlike_netlists};
+pub use laws::{mapped_cells, reduced_netlists, small_netlists, steady_netlists, unlike_netlists};
 use std::alloc::Global;
 
 /// The netlist, made tidy: nobody outside can tell them apart, and of its cells none is equal to another one, a gate of constants,

@@ -82,7 +82,7 @@ fn is_xor(cells: &[Cell], net: NetId, width: u32, a: NetId, of: u32) -> bool
 }
 
 // Whether a net's cell is the constant 0.
-fn is_zero(cells: &[Cell], net: u32) -> bool
+pub(crate) fn is_zero(cells: &[Cell], net: u32) -> bool
     ensures { IsTrue result → IsConst (map cell_of cells.now) net 0 }
 {
     match number(cells, NetId(net)) {
@@ -92,7 +92,7 @@ fn is_zero(cells: &[Cell], net: u32) -> bool
 }
 
 // Whether a cell, read by nets of these cells, is the one of this net.
-fn is_kept(cells: &[Cell], net: u32, cell: &Cell) -> bool
+pub(crate) fn is_kept(cells: &[Cell], net: u32, cell: &Cell) -> bool
     ensures { IsTrue result → slice_get (map cell_of cells.now) net ≡ Some (cell_of cell.now) }
 {
     match cell_at(cells, net) {
@@ -125,7 +125,7 @@ fn is_closed(cells: &[Cell], net: u32, gate: Gate) -> bool
 }
 
 // Whether a net is a constant other than 1.
-fn is_other(cells: &[Cell], net: NetId) -> bool
+pub(crate) fn is_other(cells: &[Cell], net: NetId) -> bool
     ensures { IsTrue result → (k : ℕ) × (k ≢ 1) × IsConst (map cell_of cells.now) net.0 k }
 {
     match number(cells, net) {
@@ -135,7 +135,7 @@ fn is_other(cells: &[Cell], net: NetId) -> bool
 }
 
 // Whether a net's cell is this constant.
-fn is_constant(cells: &[Cell], net: u32, k: u64) -> bool
+pub(crate) fn is_constant(cells: &[Cell], net: u32, k: u64) -> bool
     ensures { IsTrue result → IsConst (map cell_of cells.now) net k }
 {
     match number(cells, NetId(net)) {

@@ -1,4 +1,5 @@
-// A table of nets, by what their cells are read as. Cells stay where they are.
+// A table of nets, by what their cells are read as. What a cell is read as may change, and then its old place only fills the
+// table; so it is emptied once three quarters of it are taken, and filled anew.
 use crate::shape::Shape;
 use gos_types::NoMemory;
 use std::alloc::Global;
@@ -15,6 +16,8 @@ pub(crate) enum Slot {
 #[derive(Debug, Drop)]
 pub(crate) struct Slots {
     slots: Vec<Slot>,
+    // How many places are taken.
+    taken: usize,
 }
 
 // Mixes a number into others.
@@ -45,7 +48,21 @@ impl Slots {
         let room = count.saturating_mul(2).saturating_add(1);
         Ok(Slots {
             slots: vec![in alloc; Slot::Free; room]?,
+            taken: 0,
         })
+    }
+
+    // Whether three quarters of the places are taken.
+    pub(crate) fn is_full(&self) -> bool {
+        self.taken > self.slots.len() / 4 * 3
+    }
+
+    // Frees all places.
+    pub(crate) fn clear(&mut self) {
+        for slot in self.slots.iter_mut() {
+            *slot = Slot::Free;
+        }
+        self.taken = 0;
     }
 
     // The place at which the search for a shape begins.
@@ -76,10 +93,11 @@ impl Slots {
         }
     }
 
-    // Puts a net at a place.
+    // Puts a net at a free place.
     pub(crate) fn put(&mut self, place: usize, net: u32, tag: u32) {
         if place < self.slots.len() {
             self.slots[place] = Slot::Taken { net, tag };
+            self.taken = self.taken.saturating_add(1);
         }
     }
 }
