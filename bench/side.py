@@ -16,7 +16,7 @@ import sys
 import tempfile
 from pathlib import Path
 
-from simulation import circuit_name, cycle_time, gos_command, named, run
+from simulation import LIMIT, circuit_name, cycle_time, gos_command, named, run
 
 sys.path.append(str(Path(__file__).resolve().parent.parent / 'tools'))
 
@@ -26,9 +26,9 @@ ROUNDS = int(os.environ.get('ROUNDS', '14'))
 NAMES = ['active-300', 'active-20000', 'deep', 'part']
 
 
-def least(commands, cycles, folder):
+def least(commands, cycles, folder, rounds=ROUNDS, limit=LIMIT):
     """The least time that each command takes for so many cycles. They take turns."""
-    spent = [[run(command(cycles), folder).seconds for command in commands] for _ in range(ROUNDS)]
+    spent = [[run(command(cycles), folder, limit=limit).seconds for command in commands] for _ in range(rounds)]
     return [min(times) for times in zip(*spent)]
 
 

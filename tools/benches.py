@@ -89,14 +89,20 @@ def reacting(head, pins, around, cycles):
     return framed(head, declared, prepared, cycles, in_cycle, [f'$display("cycles {cycles}");'])
 
 
-def word(pins, pulses):
-    """What the nets of these pins show in a cycle, as one number in Verilog, by the pulses of the cycle."""
-    digits = ""
+def digits(pins, pulses):
+    """What the nets of these pins show in a cycle, by the pulses of the cycle: in binary, net after net."""
+    found = ""
     for pin in pins:
-        digits += str(int(pin.name in pulses))
+        found += str(int(pin.name in pulses))
         if pin.bits:
-            digits += f"{pulses.get(pin.name) or 0:0{pin.bits}b}"
-    return f"{len(digits)}'b{digits}"
+            found += f"{pulses.get(pin.name) or 0:0{pin.bits}b}"
+    return found
+
+
+def word(pins, pulses):
+    """The same as one number in Verilog."""
+    found = digits(pins, pulses)
+    return f"{len(found)}'b{found}"
 
 
 def replaying(head, pins, pulses, cycles):

@@ -5,42 +5,11 @@ A cell is settled anew only where a net that it names has changed. So a cycle co
 is, and it is known when nothing in a circuit moves any more.
 """
 import heapq
-from dataclasses import dataclass
 
 import builds
+from ports import Pin, handshakes_of, pins_of  # noqa: F401  (tools have them from here)
 
 PINS = {"not": 1, "and": 2, "or": 2, "xor": 2, "mux": 3, "add": 2, "sub": 2, "eq": 2, "less": 2, "gate": 2, "reg": 1}
-
-
-@dataclass
-class Pin:
-    """An event of a port with its nets: that of its pulse, and that of its value or none."""
-
-    port: str
-    event: str
-    is_output: bool
-    bits: int
-    net: int
-    value_net: int
-
-    def __post_init__(self):
-        self.name = f"{self.port}.{self.event}"
-        # what the net of the pulse is called in Verilog; that of the value has `value` behind it
-        self.verilog = f"{self.port}__{self.event}"
-
-
-def pins_of(port):
-    """The events of a port with their nets, in order."""
-    nets = iter(port.nets)
-    for event in port.events:
-        net = next(nets)
-        yield Pin(port.name, event.name.rsplit(".", 1)[1], event.is_output, event.bits, net, next(nets) if event.bits else -1)
-
-
-def handshakes_of(port):
-    """The handshakes of a port, each as the pins of its request and of its answer."""
-    pins = list(pins_of(port))
-    return list(zip(pins[::2], pins[1::2]))
 
 
 def cells_of(name, text):

@@ -1,4 +1,4 @@
-"""The ports of a netlist's text, and the pulses of a trace (docs/FORMATS.md)."""
+"""The ports of a netlist's text, their pins, and the pulses of a trace (docs/FORMATS.md)."""
 from dataclasses import dataclass
 
 # The events of each type: their names, and whether they have a value.
@@ -45,6 +45,37 @@ def ports_of(text):
     lines = text.split("\n")
     at = next(at for at, line in enumerate(lines) if line.startswith("ports "))
     return [port_of(line) for line in lines[at + 1 : at + 1 + int(lines[at].split(" ")[1])]]
+
+
+@dataclass
+class Pin:
+    """An event of a port with its nets: that of its pulse, and that of its value or none."""
+
+    port: str
+    event: str
+    is_output: bool
+    bits: int
+    net: int
+    value_net: int
+
+    def __post_init__(self):
+        self.name = f"{self.port}.{self.event}"
+        # what the net of the pulse is called in Verilog; that of the value has `value` behind it
+        self.verilog = f"{self.port}__{self.event}"
+
+
+def pins_of(port):
+    """The events of a port with their nets, in order."""
+    nets = iter(port.nets)
+    for event in port.events:
+        net = next(nets)
+        yield Pin(port.name, event.name.rsplit(".", 1)[1], event.is_output, event.bits, net, next(nets) if event.bits else -1)
+
+
+def handshakes_of(port):
+    """The handshakes of a port, each as the pins of its request and of its answer."""
+    pins = list(pins_of(port))
+    return list(zip(pins[::2], pins[1::2]))
 
 
 def pulses_of(text):

@@ -2,7 +2,7 @@
 """Does what the README of each controller in examples says, and compares what is printed with what stands there.
 
 Where verilator is installed, the command of docs/VERILOG.md that reads a module for faults finds none in any example; and where
-iverilog is, the page's frame for pins shows what the button is.
+iverilog is, the page's frame for pins shows what the button is. bench/designs.py replays a design in both, where they are installed.
 
 usage: tools/tests/test_examples.py GOS [WORDS OF unittest]
        tools/tests/test_examples.py GOS --write
@@ -21,6 +21,12 @@ import unittest
 from pathlib import Path
 
 import built
+import builds  # (built has put the folder above into the path)
+import ports
+
+sys.path.append(str(built.TOP / "bench"))
+
+import replays  # noqa: E402  (it stands in the folder of benches)
 
 EXAMPLES, VERILOG = built.TOP / "examples", built.TOP / "docs" / "VERILOG.md"
 MOST_LINES = 20
@@ -116,6 +122,92 @@ class Verilog(built.Case):
         ran = self.room.run("iverilog", "-o", "bench", "bench.v", "top.v", "out.v")
         self.assertEqual((ran.returncode, ran.stdout + ran.stderr), (0, ""))
         self.assertEqual(self.room.run("vvp", "-n", "bench").stdout, "0\n1\n0\n")
+
+
+# A program that does what gos does, but for lines of the traces of `sim`.
+EDITING = """#!/bin/sh
+"$GOS" "$@" || exit
+[ "$1" != sim ] || sed -i "$EDIT" "$4"
+"""
+
+
+# Passes on numbers of these widths, each of which has its highest bit.
+WIDTHS = (1, 8, 9, 17, 33, 64)
+PASSING = "\n".join([*(f"import from_{it} : exp {it}\nimport to_{it} : var {it}" for it in WIDTHS),
+                     "export " + " ; ".join(f"to_{it} := from_{it}" for it in WIDTHS) + " : com\n"])
+PASSED = "\n".join(["cycles 200", "next 0 main.run",
+                    *(f"next 3 from_{it}.ans {(1 << it) - 1 - (1 << it) // 3}\nnext 3 to_{it}.done" for it in WIDTHS), ""])
+
+
+class Designs(built.Case):
+    """bench/designs.py, in a short run of a small design."""
+
+    def measured(self, *programs, edit=""):
+        words = [built.TOP / "bench/designs.py", "--cycles", "1000", ",".join(map(str, programs)), "stack"]
+        env = {**os.environ, "ROUNDS": "1", "GOS": str(self.room.gos), "EDIT": edit}
+        return subprocess.run([sys.executable, *words], capture_output=True, text=True, timeout=600, env=env)
+
+    def editing(self):
+        program = self.room.path / "editing"
+        program.write_text(EDITING)
+        program.chmod(0o755)
+        return program
+
+    def test_its_rows(self):
+        ran = self.measured(self.room.gos, self.room.gos)
+        peers = [name for name, (command, _) in replays.SIMULATORS.items() if shutil.which(command)]
+        head, _, row, mean = [line.strip("| ").split(" | ") for line in ran.stdout.splitlines() if line.startswith("|")]
+        self.assertEqual(ran.returncode, 0, ran.stderr)
+        self.assertEqual(head[:5 + len(peers)], ["design", "cells", "pulses", "program 1", "program 2", *peers])
+        self.assertEqual((row[0], len(row), mean[0]), ("stack", len(head), "geometric mean"))
+        self.assertTrue(all(re.fullmatch(r"\d+ ns", it) for it in row[3:5 + len(peers)]), row)
+        # (of one design the mean is its own)
+        self.assertEqual((head[-1], mean[-1]), ("2 to 1", row[-1]))
+
+    def test_a_trace_of_another_program_that_differs(self):
+        ran = self.measured(self.room.gos, self.editing(), edit="5d")
+        said = f"stack: the trace of {self.editing()} is not that of {self.room.gos}"
+        self.assertEqual((ran.returncode, ran.stderr.splitlines()[-1]), (3, said))
+
+    def test_inputs_that_stop(self):
+        ran = self.measured(self.editing(), edit="/^[1-9]/d")
+        self.assertEqual((ran.returncode, ran.stderr.splitlines()[-1]), (2, "stack: nothing happens behind cycle 0 of 1000"))
+
+    def replay(self, left_out=None):
+        """What the build did that was made last in the room, but for a pulse."""
+        pins = [pin for port in builds.read_ports(self.room.path / "out.net") for pin in ports.pins_of(port)]
+        pulses, cycles = builds.read_trace(self.room.path / "out.trc", [pin.name for pin in pins])
+        return replays.Replay(self.room.path, "out.v", pins, [it for it in pulses if it != left_out]), cycles
+
+    def test_each_simulator_takes_numbers_of_all_widths(self):
+        ran = self.room.build({"main": PASSING}, PASSED)
+        self.assertEqual(ran.values("to_64.write"), [(1 << 64) - 1 - (1 << 64) // 3])
+        replay, cycles = self.replay()
+        for name, (command, made_by) in replays.SIMULATORS.items():
+            with self.subTest(name):
+                if not shutil.which(command):
+                    self.skipTest(f"{command} is not installed")
+                self.assertEqual(self.room.run(*made_by(replay)(cycles, each=True)).stdout, "agrees\n")
+
+    def test_the_moves_for_verilator_stand_without_gaps(self):
+        self.room.build({"main": PASSING}, PASSED)
+        replay, _ = self.replay()
+        replays.write_moves(replay, replay.moves())
+        # (a cycle has four bytes, and each of the 38 pulses one; each width has three values)
+        size = 4 + 38 + 3 * sum(1 << max(0, (width - 1).bit_length() - 3) for width in WIDTHS)
+        self.assertEqual((self.room.path / "moves.dat").stat().st_size, size * len(replay.moves()))
+
+    def test_each_simulator_sees_an_output_too_much(self):
+        shutil.copytree(EXAMPLES / "stack", self.room.path, dirs_exist_ok=True)
+        self.room.run(self.room.gos, "build", "b.txt")
+        left_out = next(it for it in self.replay()[0].pulses if it[1] == "wish.ask")
+        replay, cycles = self.replay(left_out)
+        for name, (command, made_by) in replays.SIMULATORS.items():
+            with self.subTest(name):
+                if not shutil.which(command):
+                    self.skipTest(f"{command} is not installed")
+                run = made_by(replay)
+                self.assertEqual(self.room.run(*run(cycles, each=True)).stdout, f"differs in cycle {left_out[0]}\n")
 
 
 def write():

@@ -30,7 +30,8 @@ MISSING = {"aag-to-aig": "none a.aig", "gos-vcd": "none none", "gos-wave": "none
 # Those that take no file.
 NO_FILE = {"house", "quick", "gos-lsp", "verilog.py"}
 # Those that run a program that is named, and go on for long.
-RUNNERS = {"examples/run": "", "peers/check": "1", "fuzz/run": "--workers 2", "bench/extremes.py": "parts/64"}
+RUNNERS = {"examples/run": "", "peers/check": "1", "fuzz/run": "--workers 2", "bench/extremes.py": "parts/64",
+           "bench/designs.py": "stack"}
 SECONDS = 120
 
 
