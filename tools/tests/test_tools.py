@@ -77,6 +77,33 @@ class House(unittest.TestCase):
             ("gos_a", "proofs", "Other", "far"), ("gos_b", "specs", "laws.Law", "near"), ("gos_a", "proofs", "Main", "first")})
 
 
+class Strays(standin.Case):
+    """What house says of the top of the repository."""
+
+    def strays(self, *added):
+        """What tools/house says of the top, where git has these files besides."""
+        for name in added:
+            (self.top / name).parent.mkdir(exist_ok=True)
+            (self.top / name).write_text("text\n")
+        said = self.do("git -C ../top init -q; git -C ../top add -A; house").stdout.splitlines()
+        return [line for line in said if "at the top" in line]
+
+    def test_what_stands_there_belongs_there(self):
+        self.assertEqual(self.strays("CHANGELOG.md", "bench/a.py", "peers/check"), [])
+
+    def test_a_stray_file(self):
+        self.assertEqual(self.strays("notes.txt", "left/one.patch", "left/two.patch", ".left"), [
+            ".left: doesn't belong at the top", "left/: doesn't belong at the top", "notes.txt: doesn't belong at the top"])
+
+    def test_what_git_does_not_have_is_no_matter(self):
+        self.assertEqual(self.strays(), [])
+        (self.top / "notes.txt").write_text("text\n")
+        self.assertNotIn("notes.txt", self.do("house").stdout)
+
+    def test_the_list_is_of_what_is_there(self):
+        self.assertEqual([name for name in House.house.AT_TOP if not (TOP / name).exists()], [])
+
+
 class Where(unittest.TestCase):
     def where(self, text, line):
         with tempfile.TemporaryDirectory() as room:
