@@ -10,13 +10,11 @@ use Rattle.gos_link.specs.declared.build.Build.{Build}
 use Rattle.gos_link.specs.declared.build.Instance.{Instance}
 use Rattle.gos_tool.specs.circuits.Objects.{IsObjectCall}
 use Rattle.gos_tool.specs.circuits.Plans.{IsWriteCall, IsPlansCall}
-use Rattle.gos_tool.specs.circuits.Linked.{IsWholeCall}
 use Rattle.gos_tool.specs.simulate.Simulation.{IsSimulationCall}
-use Rattle.gos_tool.specs.build.Objects.{IsInstanceCall, IsModuleCall}
-use Rattle.gos_tool.specs.build.Built.{IsPlansBuildCall, IsInstancesCall, IsBuildCall}
+use Rattle.gos_tool.specs.build.Objects.{IsInstanceCall}
+use Rattle.gos_tool.specs.build.Built.{IsBuildCall}
 use Rattle.gos_tool.specs.explained.Sources.{IsSourceCall}
-use Rattle.gos_tool.specs.explained.Found.{IsLabelsCall}
-use Rattle.gos_tool.specs.explained.Verified.{IsProgramCall, IsVerifyCall}
+use Rattle.gos_tool.specs.explained.Verified.{IsVerifyCall}
 use Rattle.gos_tool.specs.Command as commands
 use Rattle.gos_tool.specs.SmallCalls.{BuildFileMayFail, NoFaultIsNoCall, VerifyWritesNothing}
 

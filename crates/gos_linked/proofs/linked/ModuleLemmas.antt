@@ -2,7 +2,7 @@
 use Rattle.std.specs.Prelude.{◌≡◌, ◌+◌, ℕ, zero, suc, List, [], ◌∷◌, length, Option, Some, None, slice_get}
 use Rattle.std.proofs.Common.{refl, sym, ◌∙◌, ap, subst}
 use Rattle.std.proofs.lemmas.List.Sums.{sum_by-cons}
-use Rattle.gos_types.specs.Types.{Type', Com, Exp, Var, Pair, Fun, IsDone}
+use Rattle.gos_types.specs.Types.{IsDone}
 use Rattle.gos_types.specs.Widths.{HasWidths}
 use Rattle.gos_model.specs.Terms.{Term}
 use Rattle.gos_model.specs.Typing.{Imported}
@@ -21,7 +21,6 @@ use Rattle.gos_supplies.proofs.instances.TypeLemmas.{wide_both}
 use Rattle.gos_linked.specs.keeping.Paced.{ModulesKeepPace}
 use Rattle.gos_link.specs.declared.build.Build.{Build}
 use Rattle.gos_link.specs.Linked.{plans_of, outcome_of, IsLinked}
-use Rattle.gos_link.specs.Linked as link
 use Rattle.gos_link.specs.Answers.{EachRight}
 use Rattle.gos_linked.specs.fits.Fits.{AreSlim, LinkedIsSlim}
 use Rattle.gos_linked.specs.linked.Linked.{binds_of, linked_program, AreRealised, LinkedIsRealised, LinkedIsGround}

@@ -2,7 +2,7 @@
 --
 -- Read first: Sources, LinkedModules, Explained; Headline of build (`SayModules`). Nothing is written. A file that the store doesn't hold
 -- counts as empty.
-use Rattle.std.specs.Prelude.{◌≡◌, ◌⊎◌, ℕ, List, Option, Some, None, IfSome}
+use Rattle.std.specs.Prelude.{◌≡◌, ◌⊎◌, ℕ, List, Option, None, IfSome}
 use Rattle.gos_outside.specs.Files.{Files, bytes_at}
 use Rattle.gos_outside.specs.Faults.{LastFault, ReadFault}
 use Rattle.gos_lex.specs.Lines.{Word}

@@ -21,7 +21,6 @@ use Rattle.gos_command.specs.declared.status.Fault.{Fault}
 use Rattle.gos_command.specs.declared.stop.Stop.{Stop}
 use Rattle.gos_command.proofs.EndLemmas.{of_some}
 use Rattle.gos_tool.specs.Causes.{IsFileFault}
-use Rattle.gos_tool.specs.circuits.Linked.{SaysBuild}
 use Rattle.gos_tool.specs.explained.Sources.{IsSourceCall}
 use Rattle.gos_tool.specs.explained.Taken.{is_named}
 use Rattle.gos_tool.specs.explained.Texts.{SaysLabels, IsTextCause}
