@@ -51,6 +51,8 @@ impl Macro for Control {
 
     ghost is_laid_out = { IsControl };
 
+    ghost suits = { λ _ _. Unit {0} };
+
     fn size(&self) -> u32 {
         match &self.0 {
             Kind::Skip => 1,
@@ -94,7 +96,7 @@ impl Macro for Control {
         leads(&self.0, from, to)
     }
 
-    ghost law = { control_gates };
+    ghost law = { λ g is rank _. control_gates g is rank };
 
     ghost paths = { control_paths };
 }

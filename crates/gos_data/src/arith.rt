@@ -52,6 +52,8 @@ impl Macro for Arith {
 
     ghost is_laid_out = { IsArith };
 
+    ghost suits = { λ _ _. Unit {0} };
+
     fn size(&self) -> u32 {
         match &self.0 {
             Kind::Lit { .. } | Kind::Deref { .. } => 3,
@@ -99,7 +101,7 @@ impl Macro for Arith {
         leads(&self.0, from, to)
     }
 
-    ghost law = { arith_gates };
+    ghost law = { λ g is rank _. arith_gates g is rank };
 
     ghost paths = { arith_paths };
 }

@@ -46,7 +46,7 @@ part_fits : (p : SeenPlan) (root : List ℕ) → CanBeLaid p root → (i : ℕ) 
 part_fits p root can i k is =
     let (kind, found, same) = mapped_found part_of p.parts i k is in
     let keeps = all_gates kind (one_of_all IsInRange p.parts i kind can.in_range.of_parts found) in
-    subst (λ (x : Part). GatesFit x (layout x) (outs_of x)) same keeps.fits
+    subst (λ (x : Part). GatesFit x (layout x) (outs_of x)) same (keeps (λ h. 0)).fits
 
 import_ground : (p : SeenPlan) (root : List ℕ) → CanBeLaid p root → (i : ℕ) (t : Imported) → slice_get (plan_of p).imports i ≡ Some t
     → IsGround t.ty × HasWidths t.ty

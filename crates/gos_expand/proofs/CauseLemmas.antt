@@ -33,11 +33,11 @@ use Rattle.gos_expand.specs.Gates.{layout, outs_of, late_of, pending_of, stands_
 use Rattle.gos_expand.specs.Blocks.{Nets}
 use Rattle.gos_expand.specs.Starts.{Keep, bits_taken}
 use Rattle.gos_expand.specs.Laid.{nets_out}
-use Rattle.gos_expand.specs.Facts.{Places, source, target, width, bits_put, bits_in_at, incoming_at, PlanFacts, PassesOn}
+use Rattle.gos_expand.specs.Facts.{Places, source, target, width, bits_put, bits_in_at, incoming_at, PlanFacts, PassesOn, order_at}
 use Rattle.gos_expand.proofs.TallyLemmas.{due-append, value_due-append, no_value, outgoing_at}
 use Rattle.gos_expand.proofs.StandingLemmas.{pending_if, pending_at, pending_numbers, shown_at, shown_numbers, held_pulse, held_number, number_by_pulse, carried, carried_one, Lies, Now, Ends, ends_of, filled, values, values_if, Taking, taking, is_in_at, small_count, one_token, lies_at, incoming_at_handshake}
 use Rattle.gos_expand.proofs.DueLemmas.{nothing_taken, nothing_put, nothing_pending_there, value_shape, pulse_shape, Due, bare, nothing_at_port, put_at_port}
-use Rattle.gos_expand.proofs.ScheduleLemmas.{Choice, is_early, below_rank, early_below, top, early_made, firings_pulsed, order_at, early_listed, early_times, cut_order, below_top, times_pulsed, chosen_once}
+use Rattle.gos_expand.proofs.ScheduleLemmas.{Choice, is_early, below_rank, early_below, top, early_made, firings_pulsed, early_listed, early_times, cut_order, below_top, times_pulsed, chosen_once}
 use Rattle.gos_expand.proofs.PossibleLemmas.{there_is, listing, firings_listed, slot_taken}
 use Rattle.gos_expand.proofs.EventLemmas.{ins_listed, flag_is, number_is}
 use Rattle.gos_expand.proofs.PulseLemmas.{flag, number_if}
@@ -118,11 +118,11 @@ due_narrow v nets h w ts pulse value none =
     let nothing : at v nets.number ≡ 0 = value ∙ no_value h ts (sym pulse ∙ none) in
     subst (λ (x : ℕ). x < 2 ^ w) (sym nothing) (pow_pos w)
 
-pub leaving_shows : (keep : Keep) (p : Plan) (n : Places) (v : Numbers) (i h : ℕ) (k : Part) (c : Contact) (ts : List Token) → PlanFacts keep p n
-    → KeepLaws k (layout k) (outs_of k) (late_of k) (pending_of k) (stands_of k) → slice_get p.parts i ≡ Some k → contact_at p (PartEnd i h) ≡ Some c
+pub leaving_shows : (keep : Keep) (p : Plan) (n : Places) (rank : End → ℕ) (v : Numbers) (i h : ℕ) (k : Part) (c : Contact) (ts : List Token) → PlanFacts keep p n
+    → KeepLaws k (layout k) (outs_of k) (late_of k) (pending_of k) (stands_of k) (order_at rank i) → slice_get p.parts i ≡ Some k → contact_at p (PartEnd i h) ≡ Some c
     → ((o : Outgoing) → slice_get (outs_of k (n.start i)) h ≡ Some o → NetsShow v o (due h ts) (value_due h ts))
     → (at v (n.leaves (PartEnd i h)).pulse ≡ due h ts) × (0 < bits_put (Some c) → at v (n.leaves (PartEnd i h)).number ≡ value_due h ts)
-leaving_shows keep p n v i h k c ts plan laws is there shows =
+leaving_shows keep p n rank v i h k c ts plan laws is there shows =
     subst (λ (x : Nets). (at v x.pulse ≡ due h ts) × (0 < bits_put (Some c) → at v x.number ≡ value_due h ts)) (sym leaving)
     (net_shows v (n.start i) (layout k (n.start i) (incoming_at p n i)) c out.0 (due h ts) (value_due h ts) out.2 (shows out.0 out.1))
   where
@@ -160,9 +160,9 @@ shown_by_part p n v regs puts xs i h w k is nets =
       narrow = λ some none. due_narrow v (n.leaves (PartEnd i h)) h w (pending_of k (n.start i) regs ++ puts i) pulse (nets.1 some) none;
     }
 
-pub shown_by_port : (keep : Keep) (p : Plan) (net : Netlist) (n : Places) (v regs after : Numbers) (o : Open) (s : Tokens) (puts : ℕ → List Token) (fs : List PartFiring) (e : End) (c : Contact)
-    → Now keep p net n v regs after o s → IsPortEnd e → contact_at p e ≡ Some c → Shown p n v regs puts (listing p n v fs) e (bits_put (Some c))
-shown_by_port keep p net n v regs after o s puts fs e c now port there =
+pub shown_by_port : (keep : Keep) (p : Plan) (net : Netlist) (n : Places) (rank : End → ℕ) (v regs after : Numbers) (o : Open) (s : Tokens) (puts : ℕ → List Token) (fs : List PartFiring) (e : End) (c : Contact)
+    → Now keep p net n rank v regs after o s → IsPortEnd e → contact_at p e ≡ Some c → Shown p n v regs puts (listing p n v fs) e (bits_put (Some c))
+shown_by_port keep p net n rank v regs after o s puts fs e c now port there =
     record {
       pulse =
           let d = (nothing_at_port p n regs e port).0 in
@@ -198,7 +198,7 @@ pub record Below (p : Plan) (n : Places) (rank : End → ℕ) (v : Numbers) (o :
 -- a part's nets show it, where all that passes on to them has such a rank
 part_shows : (keep : Keep) (p : Plan) (net : Netlist) (n : Places) (rank : End → ℕ) (v regs after : Numbers) (o : Open) (s : Tokens) (r : ℕ) (b : Below p n rank v o s r)
     (puts : ℕ → List Token) (i h : ℕ) (k : Part) (c : Contact)
-    → Now keep p net n v regs after o s
+    → Now keep p net n rank v regs after o s
     → PartsPut p (values p n v) puts (listing p n v (early_made p n rank v r)) o s b.open_then b.state_then
     → slice_get p.parts i ≡ Some k → contact_at p (PartEnd i h) ≡ Some c
     → ((from : ℕ) → from < length (part_contacts k) → passing_of k from h ≡ true → below_rank rank r i k from ≡ true)
@@ -206,9 +206,9 @@ part_shows : (keep : Keep) (p : Plan) (net : Netlist) (n : Places) (rank : End �
     → Shown p n v regs puts (listing p n v (early_made p n rank v r)) (PartEnd i h) (bits_put (Some c))
 part_shows keep p net n rank v regs after o s r b puts i h k c now fires is there within one =
     shown_by_part p n v regs puts (listing p n v (early_made p n rank v r)) i h (bits_put (Some c)) k is
-    (leaving_shows keep p n v i h k c (pending_of k (n.start i) regs ++ puts i) now.plan_facts (now.part_facts.gates i k is) is there
+    (leaving_shows keep p n rank v i h k c (pending_of k (n.start i) regs ++ puts i) now.plan_facts (now.part_facts.gates i k is) is there
     (λ y out.
-    causal.partly (order_at rank i) (n.start i) regs (s.state i) (now.standing.parts i k is) (incoming_at p n i) v after (below_rank rank r i k) (b.state_then.state i) (puts i)
+    causal.partly (n.start i) regs (s.state i) (now.standing.parts i k is) (incoming_at p n i) v after (below_rank rank r i k) (b.state_then.state i) (puts i)
     (now.facts.parts i k is) in_range partly h within y out alone))
   where
     alone : due h (pending_of k (n.start i) regs ++ puts i) ≤ 1
@@ -217,9 +217,9 @@ part_shows keep p net n rank v regs after o s r b puts i h k c now fires is ther
         let split = due-append h (pending_of k (n.start i) regs) (puts i) in
         omega (arith, one, held, split)
 
-    causal : AreCausal k (layout k) (outs_of k) (late_of k) (pending_of k) (stands_of k) (passing_of k)
+    causal : AreCausal k (layout k) (outs_of k) (late_of k) (pending_of k) (stands_of k) (order_at rank i) (passing_of k)
     causal =
-        are_causal k (layout k) (outs_of k) (late_of k) (pending_of k) (stands_of k) (passing_of k) (now.part_facts.gates i k is)
+        are_causal k (layout k) (outs_of k) (late_of k) (pending_of k) (stands_of k) (order_at rank i) (passing_of k) (now.part_facts.gates i k is)
         (now.part_facts.paths i k is)
 
     in_range : ComeInRange k (late_of k) v (incoming_at p n i) (below_rank rank r i k)
@@ -265,7 +265,7 @@ part_shows keep p net n rank v regs after o s r b puts i h k c now fires is ther
 -- what leaves an end, where all that passes on to it has such a rank
 end_shows : (keep : Keep) (p : Plan) (net : Netlist) (n : Places) (rank : End → ℕ) (v regs after : Numbers) (o : Open) (s : Tokens) (r : ℕ) (b : Below p n rank v o s r)
     (puts : ℕ → List Token) (e : End) (c : Contact)
-    → Now keep p net n v regs after o s
+    → Now keep p net n rank v regs after o s
     → PartsPut p (values p n v) puts (listing p n v (early_made p n rank v r)) o s b.open_then b.state_then → contact_at p e ≡ Some c
     → ((i h from : ℕ) (k : Part) → e ≡ PartEnd i h → slice_get p.parts i ≡ Some k → h < length (part_contacts k) → from < length (part_contacts k)
     → passing_of k from h ≡ true → below_rank rank r i k from ≡ true)
@@ -276,9 +276,9 @@ end_shows keep p net n rank v regs after o s r b puts (PartEnd i h) c now fires 
     part_shows keep p net n rank v regs after o s r b puts i h k.0 c now fires k.1 there
     (λ from lt passes. within i h from k.0 refl k.1 (slice_get_within (part_contacts k.0) h c (own_contact p i h k.0 c k.1 there)) lt passes) one
 end_shows keep p net n rank v regs after o s r b puts (ImportEnd i h) c now fires there within one =
-    shown_by_port keep p net n v regs after o s puts (early_made p n rank v r) (ImportEnd i h) c now tt there
+    shown_by_port keep p net n rank v regs after o s puts (early_made p n rank v r) (ImportEnd i h) c now tt there
 end_shows keep p net n rank v regs after o s r b puts (ResultEnd h) c now fires there within one =
-    shown_by_port keep p net n v regs after o s puts (early_made p n rank v r) (ResultEnd h) c now tt there
+    shown_by_port keep p net n rank v regs after o s puts (early_made p n rank v r) (ResultEnd h) c now tt there
 
 -- what arrives lies there
 pub record Landed (p : Plan) (n : Places) (v : Numbers) (t : Tokens) (e : End) (c : Contact) (g : Taking p e c) : Type 0 where
@@ -352,7 +352,7 @@ untaken_below p n rank v r i h k c is there later =
 -- What arrives at an end of a part of no lower rank, where all that passes on to it has one.
 pub arrival : (keep : Keep) (p : Plan) (net : Netlist) (n : Places) (rank : End → ℕ) (v regs after : Numbers) (o : Open) (s : Tokens) (r : ℕ) (b : Below p n rank v o s r)
     (i h : ℕ) (k : Part) (c : Contact)
-    → Now keep p net n v regs after o s → slice_get p.parts i ≡ Some k → contact_at p (PartEnd i h) ≡ Some c → below_rank rank r i k h ≡ false
+    → Now keep p net n rank v regs after o s → slice_get p.parts i ≡ Some k → contact_at p (PartEnd i h) ≡ Some c → below_rank rank r i k h ≡ false
     → ((j from : ℕ) (l : Part) → slice_get p.parts j ≡ Some l → PassesOn keep p j from (PartEnd i h) → below_rank rank r j l from ≡ true)
     → Arrived p n v b.state_then i h c
 arrival keep p net n rank v regs after o s r b i h k c now is there later within = by_place (places_of p (PartEnd i h)) refl

@@ -113,10 +113,10 @@ sum_taken_port x xs way (PartEnd i h) port = absurd port
 sum_taken_port x xs way (ImportEnd i h) port = refl
 sum_taken_port x xs way (ResultEnd h) port = refl
 
-pub due_at_port : (keep : Keep) (p : Plan) (net : Netlist) (n : Places) (v regs after : Numbers) (o : Open) (s : Tokens) (e : End) (c : Contact)
-    → Now keep p net n v regs after o s → IsPortEnd e → contact_at p e ≡ Some c → at v (n.shows e).pulse ≡ 1
+pub due_at_port : (keep : Keep) (p : Plan) (net : Netlist) (n : Places) (rank : End → ℕ) (v regs after : Numbers) (o : Open) (s : Tokens) (e : End) (c : Contact)
+    → Now keep p net n rank v regs after o s → IsPortEnd e → contact_at p e ≡ Some c → at v (n.shows e).pulse ≡ 1
     → Due p s e c (number_by v (bits_taken (Some c)) (n.shows e))
-due_at_port keep p net n v regs after o s e c now port there pulse = by_place (places_of p e) refl
+due_at_port keep p net n rank v regs after o s e c now port there pulse = by_place (places_of p e) refl
   where
     held : at regs (n.shows e).pulse ≡ 1
     held = sym (now.facts.ports e c port there).pulse ∙ pulse

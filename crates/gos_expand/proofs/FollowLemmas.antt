@@ -36,7 +36,7 @@ pub record Left (keep : Keep) (p : Plan) (n : Places) (v regs after : Numbers) (
       → pending_at p n regs (source j way) ≤ at v (n.leaves (source j way)).pulse
 
 pub left : (keep : Keep) (p : Plan) (net : Netlist) (n : Places) (rank : End → ℕ) (v regs after : Numbers) (o : Open) (s : Tokens) (w : Whole p n rank v o s)
-    → Rises keep p rank → Now keep p net n v regs after o s → Left keep p n v regs after w.state_then
+    → Rises keep p rank → Now keep p net n rank v regs after o s → Left keep p n v regs after w.state_then
 left keep p net n rank v regs after o s w rises now =
     let law = filled p n v o w.open_then s w.state_then (whole_list p n rank v) now.right now.led w.list w.takes in
     let pass = λ (x : ℕ) (j : Joint) (way : Direction) (there : slice_get p.joints x ≡ Some j).
@@ -58,7 +58,7 @@ left keep p net n rank v regs after o s w rises now =
 -- a cycle that is made
 pub record OneCycle (keep : Keep) (p : Plan) (net : Netlist) (n : Places) (rank : End → ℕ) (v regs after : Numbers) (s : Tokens) (m : Made) : Type 0 where
   pub opened : Open
-  pub now : Now keep p net n v regs after opened s
+  pub now : Now keep p net n rank v regs after opened s
   pub whole : Whole p n rank v opened s
   pub fired : m.firings ≡ made_firings p n rank v
   pub leads : m.after ≡ whole.state_then
@@ -91,14 +91,14 @@ as_labels : (keep : Keep) (p : Plan) (net : Netlist) (n : Places) (v regs after 
 as_labels keep p net n v regs after fs facts = λ i. sym facts.outs i ++ (sym facts.ins i ++ fires_of fs)
 
 pub follows : (keep : Keep) (p : Plan) (net : Netlist) (n : Places) (rank : End → ℕ) (regs : Numbers) (vs : List Numbers) (o : Open) (s : Tokens)
-    → Rises keep p rank → IsRight p → PartFacts p → PlanFacts keep p n → Led p o s → Standing keep p n regs s
+    → Rises keep p rank → IsRight p → PartFacts p rank → PlanFacts keep p n → Led p o s → Standing keep p n regs s
     → Follow keep p net n regs vs → Listed keep p net n rank regs vs o s
 follows keep p net n rank regs [] o s rises right parts plan led standing follow = record { cycles = []; made = tt; chain = tt; ends = inl refl }
 follows keep p net n rank regs (v ∷ vs) o s rises right parts plan led standing (after, facts, follow) =
     by_end (cycle_ends keep p net n rank v regs after o s rises now)
     (λ u t so_far next. follows keep p net n rank after vs u t rises right parts plan so_far next follow)
   where
-    now : Now keep p net n v regs after o s
+    now : Now keep p net n rank v regs after o s
     now = record { right = right; part_facts = parts; plan_facts = plan; facts = facts; led = led; standing = standing }
 
     as_cycle : (fs : List PartFiring) → listing p n v fs ≡ cycle_list p (outputs net v) (inputs net v) fs
@@ -173,8 +173,8 @@ nothing_there : (p : Plan) (way : Direction) (f : Option End) (x : ℕ) → held
 nothing_there p way None x e = cc e
 nothing_there p way (Some a) x e = cc e
 
-pub at_reset : (keep : Keep) (p : Plan) (n : Places) (regs : Numbers) → PartFacts p → ((m : ℕ) → at regs m ≡ 0) → Standing keep p n regs empty
-at_reset keep p n regs parts zero_all =
+pub at_reset : (keep : Keep) (p : Plan) (n : Places) (rank : End → ℕ) (regs : Numbers) → PartFacts p rank → ((m : ℕ) → at regs m ≡ 0) → Standing keep p n regs empty
+at_reset keep p n rank regs parts zero_all =
     record {
       welcome = λ i t c x there way lies. absurd (nothing_there p (way_of t) (places_of p (end_of i t)) x lies);
       fit = idle_fits p empty ((λ way e. refl), λ i. refl);

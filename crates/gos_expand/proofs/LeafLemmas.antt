@@ -23,7 +23,7 @@ outs_for k = refl
 pub nets_go_out : (k : Kind) (b : ℕ) → IsLaidOut (gates_for k) → (i : Incoming) → AllGoOut b (cells_in (gates_for k) b i) (part_contacts (part_of k)) (outs_of (part_of k) b)
 nets_go_out k b laid i =
     subst (λ (os : ℕ → List Outgoing). AllGoOut b (cells_in (gates_for k) b i) (part_contacts (part_of k)) (os b)) (outs_for k)
-    (subst (λ (p : Part). AllGoOut b (cells_in (gates_for k) b i) (part_contacts p) (outs_in (gates_for k) b)) (part_for k) ((gates_keep (gates_for k) laid).fits.outgoing b i))
+    (subst (λ (p : Part). AllGoOut b (cells_in (gates_for k) b i) (part_contacts p) (outs_in (gates_for k) b)) (part_for k) ((gates_keep (gates_for k) laid (λ h. 0)).fits.outgoing b i))
 
 -- an element that there is
 pub some_there : {A : Type 0} (xs : List A) (i : ℕ) → i < length xs → (x : A) × (slice_get xs i ≡ Some x)

@@ -14,11 +14,11 @@ use Rattle.gos_plan.specs.Firings.{Asked, Fires}
 use Rattle.gos_plan.specs.Projection.{firings_of, asked_by}
 use Rattle.gos_expand.specs.Gates.{outs_of, late_of, pending_of, stands_of}
 use Rattle.gos_expand.specs.Starts.{Keep}
-use Rattle.gos_expand.specs.Facts.{Places, incoming_at}
+use Rattle.gos_expand.specs.Facts.{Places, incoming_at, order_at}
 use Rattle.gos_plan.specs.Accounts.{PartsPut}
 use Rattle.gos_expand.proofs.TallyLemmas.{Split, fires_split}
 use Rattle.gos_expand.proofs.StandingLemmas.{Now, values, values_if}
-use Rattle.gos_expand.proofs.ScheduleLemmas.{top, made_firings, slots_made, order_at, early_listed, below_top}
+use Rattle.gos_expand.proofs.ScheduleLemmas.{top, made_firings, slots_made, early_listed, below_top}
 use Rattle.gos_expand.proofs.PossibleLemmas.{listing, firings_listed}
 use Rattle.gos_expand.proofs.CauseLemmas.{pulses_small, values_small}
 use Rattle.gos_expand.proofs.RankLemmas.{Whole}
@@ -41,7 +41,7 @@ pub record PartStep (p : Plan) (n : Places) (rank : End → ℕ) (v regs after :
 
 pub part_step : (keep : Keep) (p : Plan) (net : Netlist) (n : Places) (rank : End → ℕ) (v regs after : Numbers) (o : Open) (s : Tokens) (w : Whole p n rank v o s)
     (puts : ℕ → List Token) (i : ℕ) (k : Part)
-    → Now keep p net n v regs after o s → PartsPut p (values p n v) puts (listing p n v (made_firings p n rank v)) o s w.open_then w.state_then → slice_get p.parts i ≡ Some k
+    → Now keep p net n rank v regs after o s → PartsPut p (values p n v) puts (listing p n v (made_firings p n rank v)) o s w.open_then w.state_then → slice_get p.parts i ≡ Some k
     → PartStep p n rank v regs after o s w.state_then i k (puts i)
 part_step keep p net n rank v regs after o s w puts i k now fires is =
     record {
@@ -98,5 +98,5 @@ part_step keep p net n rank v regs after o s w puts i k now fires is =
     law : ShowOne v (outs_of k (n.start i)) (pending_of k (n.start i) regs ++ split.first) × SameTokens (pending_of k (n.start i) after) split.second
         × stands_of k (n.start i) after (w.state_then.state i)
     law =
-        (now.part_facts.gates i k is).law (order_at rank i) (n.start i) (incoming_at p n i) v regs after (s.state i) (w.state_then.state i) split.first split.second
+        (now.part_facts.gates i k is).law (n.start i) (incoming_at p n i) v regs after (s.state i) (w.state_then.state i) split.first split.second
         (now.facts.parts i k is) small (λ h. values_small p n v (λ i k h. true) i k w.comes is h refl) (now.standing.parts i k is) fired

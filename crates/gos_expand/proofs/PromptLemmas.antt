@@ -75,7 +75,7 @@ out_made : (keep : Keep) (p : Plan) (net : Netlist) (n : Places) (rank : End →
     → OneCycle keep p net n rank v regs after s m → IsPortEnd e → contact_at p e ≡ Some c → s.in_place (way_taken c.role) t.joint.asking ≡ Some x
     → at v (n.shows e).pulse ≡ 1 → Contains (cycles.outs_of p (outputs net v)) (Out e x)
 out_made keep p net n rank v regs after s m e c x t one port there lies pulse =
-    let due : Due p s e c (number_by v (bits_taken (Some c)) (n.shows e)) = due_at_port keep p net n v regs after one.opened s e c one.now port there pulse in
+    let due : Due p s e c (number_by v (bits_taken (Some c)) (n.shows e)) = due_at_port keep p net n rank v regs after one.opened s e c one.now port there pulse in
     let once = one.now.plan_facts.once e c port there in
     let same : s.in_place (way_taken c.role) due.at_end.joint.asking ≡ Some x =
     sym (lies_at p s e c due.at_end) ∙ (lies_at p s e c t ∙ lies) in
@@ -342,7 +342,7 @@ facts_make_lists keep p net n rank regs vs right parts plan rises zero_all follo
     let idle : IsIdle p empty = ((λ way e. refl), λ i. refl) in
     let led : Led p none_open empty = record { past = []; first = empty; idle = idle; list = (refl, refl) } in
     let all : Listed keep p net n rank regs vs none_open empty =
-    follows keep p net n rank regs vs none_open empty rises right parts plan led (at_reset keep p n regs parts zero_all) follow in (
+    follows keep p net n rank regs vs none_open empty rises right parts plan led (at_reset keep p n rank regs parts zero_all) follow in (
       empty,
       all.cycles,
       idle,

@@ -94,7 +94,7 @@ all_ready p n v t these arrive =
 
 phase : (keep : Keep) (p : Plan) (net : Netlist) (n : Places) (rank : End → ℕ) (v regs after : Numbers) (o : Open) (s : Tokens) (r : ℕ) (these : Choice)
     (b : Below p n rank v o s r)
-    → Now keep p net n v regs after o s → AllArrive p n v b.state_then these
+    → Now keep p net n rank v regs after o s → AllArrive p n v b.state_then these
     → Further p n v o s (early_made p n rank v r ++ with_pulse p n v (chosen_from these 0 p.parts)) ⊎ Stopped p n v o s
 phase keep p net n rank v regs after o s r these b now arrive =
     by_end
@@ -140,9 +140,9 @@ phase keep p net n rank v regs after o s r these b now arrive =
         })
 
 -- what passes on is early
-passes_early : (keep : Keep) (p : Plan) (net : Netlist) (n : Places) (v regs after : Numbers) (o : Open) (s : Tokens) (j from : ℕ) (l : Part) (e : End)
-    → Now keep p net n v regs after o s → slice_get p.parts j ≡ Some l → PassesOn keep p j from e → is_early l from ≡ true
-passes_early keep p net n v regs after o s j from l e now is on = by_late (is_among (late_of l) from) refl
+passes_early : (keep : Keep) (p : Plan) (net : Netlist) (n : Places) (rank : End → ℕ) (v regs after : Numbers) (o : Open) (s : Tokens) (j from : ℕ) (l : Part) (e : End)
+    → Now keep p net n rank v regs after o s → slice_get p.parts j ≡ Some l → PassesOn keep p j from e → is_early l from ≡ true
+passes_early keep p net n rank v regs after o s j from l e now is on = by_late (is_among (late_of l) from) refl
   where
     same : on.part ≡ l
     same = let there = on.there in cc (there, is)
@@ -157,7 +157,7 @@ passes_early keep p net n v regs after o s j from l e now is on = by_late (is_am
 
 -- the next rank
 next_rank : (keep : Keep) (p : Plan) (net : Netlist) (n : Places) (rank : End → ℕ) (v regs after : Numbers) (o : Open) (s : Tokens) (r : ℕ)
-    → Rises keep p rank → Now keep p net n v regs after o s → Below p n rank v o s r → Below p n rank v o s (suc r) ⊎ Stopped p n v o s
+    → Rises keep p rank → Now keep p net n rank v regs after o s → Below p n rank v o s r → Below p n rank v o s (suc r) ⊎ Stopped p n v o s
 next_rank keep p net n rank v regs after o s r rises now b = by_end (phase keep p net n rank v regs after o s r (at_rank rank r) b now arrive)
   where
     of_rank : (x : Bool) (m : ℕ) → (x && nat_eq m r) ≡ true → m ≡ r
@@ -178,7 +178,7 @@ next_rank keep p net n rank v regs after o s r rises now b = by_end (phase keep 
         arrival keep p net n rank v regs after o s r b i h k c now is there (not_below (is_early k h) (rank (PartEnd i h)) is_r)
         (λ j from l is_l on.
         let lower = rises j from (PartEnd i h) on in
-        so_below (is_early l from) (rank (PartEnd j from)) (passes_early keep p net n v regs after o s j from l (PartEnd i h) now is_l on) (omega (arith, lower, is_r)))
+        so_below (is_early l from) (rank (PartEnd j from)) (passes_early keep p net n rank v regs after o s j from l (PartEnd i h) now is_l on) (omega (arith, lower, is_r)))
 
     either : (x : Bool) (m : ℕ) → (x && nat_lt m (suc r)) ≡ true → ((x && nat_lt m r) ≡ true) ⊎ ((x && nat_eq m r) ≡ true)
     either false m e = absurd (cc e)
@@ -213,14 +213,14 @@ next_rank keep p net n rank v regs after o s r rises now b = by_end (phase keep 
 
 -- outputs and inputs, before all firings
 no_rank : (keep : Keep) (p : Plan) (net : Netlist) (n : Places) (rank : End → ℕ) (v regs after : Numbers) (o : Open) (s : Tokens)
-    → Now keep p net n v regs after o s → Below p n rank v o s 0 ⊎ Stopped p n v o s
+    → Now keep p net n rank v regs after o s → Below p n rank v o s 0 ⊎ Stopped p n v o s
 no_rank keep p net n rank v regs after o s now = by_inputs (lists_are_decided p (given_elements p n v) outs.0 outs.1 ins.0 ins.1)
   where
     outs : (m : Open) × (w : Tokens) × OrderlyFrom p (shown_elements p n v) o s m w
-    outs = outs_go keep p net n v regs after o o s s [] (port_ends (ports_of p)) now refl (refl, refl)
+    outs = outs_go keep p net n rank v regs after o o s s [] (port_ends (ports_of p)) now refl (refl, refl)
 
     ins : (w : Tokens) × Runs p (given_elements p n v) outs.1 w
-    ins = ins_go keep p net n v regs after o s outs.1 [] (port_ends (ports_of p)) now refl
+    ins = ins_go keep p net n rank v regs after o s outs.1 [] (port_ends (ports_of p)) now refl
 
     without : listing p n v [] ≡ shown_elements p n v ++ given_elements p n v
     without = ap (λ (l : List Element). shown_elements p n v ++ l) (append-nil (given_elements p n v))
@@ -263,7 +263,7 @@ no_rank keep p net n rank v regs after o s now = by_inputs (lists_are_decided p 
 
 -- all ranks
 all_ranks : (keep : Keep) (p : Plan) (net : Netlist) (n : Places) (rank : End → ℕ) (v regs after : Numbers) (o : Open) (s : Tokens) (r : ℕ)
-    → Rises keep p rank → Now keep p net n v regs after o s → Below p n rank v o s r ⊎ Stopped p n v o s
+    → Rises keep p rank → Now keep p net n rank v regs after o s → Below p n rank v o s r ⊎ Stopped p n v o s
 all_ranks keep p net n rank v regs after o s zero rises now = no_rank keep p net n rank v regs after o s now
 all_ranks keep p net n rank v regs after o s (suc r) rises now =
     by_end (all_ranks keep p net n rank v regs after o s r rises now)
@@ -274,7 +274,7 @@ all_ranks keep p net n rank v regs after o s (suc r) rises now =
 
 -- and then what comes in late
 late_last : (keep : Keep) (p : Plan) (net : Netlist) (n : Places) (rank : End → ℕ) (v regs after : Numbers) (o : Open) (s : Tokens)
-    → Now keep p net n v regs after o s → Below p n rank v o s (top p rank) → Whole p n rank v o s ⊎ Stopped p n v o s
+    → Now keep p net n rank v regs after o s → Below p n rank v o s (top p rank) → Whole p n rank v o s ⊎ Stopped p n v o s
 late_last keep p net n rank v regs after o s now b = by_end (phase keep p net n rank v regs after o s (top p rank) are_late b now arrive)
   where
     not_below : (x y : Bool) → x ≡ true → (not x && y) ≡ false
@@ -292,7 +292,7 @@ late_last keep p net n rank v regs after o s now b = by_end (phase keep p net n 
         (λ j from l is_l on.
         let on_there = on.there in
         let same : on.part ≡ l = cc (on_there, is_l) in
-        so_below (is_early l from) (rank (PartEnd j from)) (passes_early keep p net n v regs after o s j from l (PartEnd i h) now is_l on)
+        so_below (is_early l from) (rank (PartEnd j from)) (passes_early keep p net n rank v regs after o s j from l (PartEnd i h) now is_l on)
         (below_top p rank j from l is_l (subst (λ (x : Part). from < length (part_contacts x)) same on.from_there)))
 
     comes : AllComeIn p n v (λ i k h. true)
@@ -312,7 +312,7 @@ late_last keep p net n rank v regs after o s now b = by_end (phase keep p net n 
 
 -- The list of a cycle is orderly to its end, or broken.
 pub cycle_ends : (keep : Keep) (p : Plan) (net : Netlist) (n : Places) (rank : End → ℕ) (v regs after : Numbers) (o : Open) (s : Tokens)
-    → Rises keep p rank → Now keep p net n v regs after o s → Whole p n rank v o s ⊎ Stopped p n v o s
+    → Rises keep p rank → Now keep p net n rank v regs after o s → Whole p n rank v o s ⊎ Stopped p n v o s
 cycle_ends keep p net n rank v regs after o s rises now =
     by_end (all_ranks keep p net n rank v regs after o s (top p rank) rises now)
   where

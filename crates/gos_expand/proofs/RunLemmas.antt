@@ -23,7 +23,7 @@ use Rattle.gos_expand.specs.Blocks.{Nets}
 use Rattle.gos_expand.specs.Starts.{Keep, part_start}
 use Rattle.gos_expand.specs.Laid.{leaves, nets_out, outs_if, incoming, laid_cells, laid}
 use Rattle.gos_expand.specs.Acceptance.{AreDifferent, CanBeLaid}
-use Rattle.gos_expand.specs.Facts.{bits_put, CycleFacts, PlanFacts, PartFacts, Follow}
+use Rattle.gos_expand.specs.Facts.{bits_put, CycleFacts, PlanFacts, order_at, PartFacts, Follow}
 use Rattle.gos_expand.specs.Runs.{LaidMakesLists}
 use Rattle.gos_expand.specs.Rings.{RingsAreCycles}
 use Rattle.gos_expand.proofs.FlowLemmas.{IsSound}
@@ -76,13 +76,13 @@ follow_run keep p root (i ∷ ins) (v ∷ vs) regs fits differ range run = (
 )
 
 -- the parts of a plan that can be laid out
-pub part_facts : AllKeepPaths → (p : SeenPlan) (root : List ℕ) → CanBeLaid p root → PartFacts (plan_of p)
-part_facts paths p root can =
+pub part_facts : AllKeepPaths → (p : SeenPlan) (root : List ℕ) → CanBeLaid p root → (rank : End → ℕ) → PartFacts (plan_of p) rank
+part_facts paths p root can rank =
     record {
       gates = λ i k is.
           let found = mapped_found part_of p.parts i k is in
           let keeps = all_gates found.0 (one_of_all ranges.IsInRange p.parts i found.0 can.in_range.of_parts found.1) in
-          subst (λ (x : Part). KeepLaws x (layout x) (outs_of x) (late_of x) (pending_of x) (stands_of x)) found.2 keeps;
+          subst (λ (x : Part). KeepLaws x (layout x) (outs_of x) (late_of x) (pending_of x) (stands_of x) (order_at rank i)) found.2 (keeps (order_at rank i));
       paths = λ i k is.
           let found = mapped_found part_of p.parts i k is in
           let keeps = paths found.0 (one_of_all ranges.IsInRange p.parts i found.0 can.in_range.of_parts found.1) in
@@ -112,9 +112,10 @@ laid_makes_lists paths keep p root ins vs can acyclic range run =
     let differ : AreDifferent (root ∷ map (λ (x : Imported). x.name) plan.imports) =
     subst (λ (names : List (List ℕ)). AreDifferent (root ∷ names)) (same_names p.imports) can.names in
     let regs : Numbers = replicate (length (laid_cells keep plan)) 0 in
-    let parts : PartFacts plan = part_facts paths p root can in
+    let rank : End → ℕ = rank_of (laid_cells keep plan) (places_in keep plan) in
+    let parts : PartFacts plan rank = part_facts paths p root can rank in
     let wired = laid_wired keep plan fits parts.paths in
-    facts_make_lists keep plan (laid keep plan root) (places_in keep plan) (rank_of (laid_cells keep plan) (places_in keep plan)) regs vs can.right parts
+    facts_make_lists keep plan (laid keep plan root) (places_in keep plan) rank regs vs can.right parts
     (plan_facts keep plan can.right) (ranks_rise keep plan (laid_cells keep plan) (places_in keep plan) wired acyclic)
     (all_zero (length (laid_cells keep plan))) (follow_run keep plan root ins vs regs fits differ range run)
 
@@ -122,7 +123,7 @@ laid_makes_lists paths keep p root ins vs can acyclic range run =
 pub rings_cycles : AllKeepPaths → RingsAreCycles
 rings_cycles paths keep p root can =
     let plan : Plan = plan_of p in
-    let wired = laid_wired keep plan (sound p root can) (part_facts paths p root can).paths in (
+    let wired = laid_wired keep plan (sound p root can) (part_facts paths p root can (λ e. 0)).paths in (
       cycle_is_ring keep plan (laid_cells keep plan) (places_in keep plan) wired,
       ring_is_cycle keep plan (laid_cells keep plan) (places_in keep plan) wired,
     )

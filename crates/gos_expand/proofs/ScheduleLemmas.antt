@@ -16,7 +16,7 @@ use Rattle.gos_plan.specs.Firings.{times}
 use Rattle.gos_plan.specs.Made.{PartFiring, fires_of}
 use Rattle.gos_plan.specs.Projection.{firings_of}
 use Rattle.gos_expand.specs.Gates.{late_of}
-use Rattle.gos_expand.specs.Facts.{Places, incoming_at}
+use Rattle.gos_expand.specs.Facts.{Places, incoming_at, order_at}
 use Rattle.gos_expand.proofs.TallyLemmas.{Each, times-append, firings-append, each_once, pulse_there, shake_in}
 
 -- which handshakes of which parts
@@ -182,10 +182,6 @@ with_pulse-append p n v (x ∷ xs) ys = by_test (nat_eq (pulse_in v (incoming_at
         → (if b then x ∷ with_pulse p n v (xs ++ ys) else with_pulse p n v (xs ++ ys)) ≡ (if b then x ∷ with_pulse p n v xs else with_pulse p n v xs) ++ with_pulse p n v ys
     by_test true h = ap (λ (l : List PartFiring). x ∷ l) h
     by_test false h = h
-
--- the order of a part's handshakes: the ranks of its ends
-abbrev pub order_at : (End → ℕ) → ℕ → Order
-order_at rank i h = rank (PartEnd i h)
 
 -- the early firings of a part, of ranks below r, stand in this order
 pub early_listed : (p : Plan) (rank : End → ℕ) (r i : ℕ) (k : Part) → slice_get p.parts i ≡ Some k

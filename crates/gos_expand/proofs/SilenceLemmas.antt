@@ -49,7 +49,7 @@ pub record RegistersAreSilent (keep : Keep) (p : Plan) (n : Places) (regs : Numb
   pub ports : (e : End) (c : Contact) → IsPortEnd e → contact_at p e ≡ Some c → 0 < bits_taken (Some c) → IsSilent regs (n.shows e)
 
 -- a cycle of which what parts take are pulses or none, and what the outside gives is silent
-module _ (keep : Keep) (p : Plan) (net : Netlist) (n : Places) (v regs after : Numbers) (right : IsRight p) (parts : PartFacts p)
+module _ (keep : Keep) (p : Plan) (net : Netlist) (n : Places) (v regs after : Numbers) (right : IsRight p) (rank : End → ℕ) (parts : PartFacts p rank)
     (plan : PlanFacts keep p n) (facts : CycleFacts keep p net n v regs after) (before : RegistersAreSilent keep p n regs)
     (pulses : (i h : ℕ) (c : Contact) → contact_at p (PartEnd i h) ≡ Some c → at v (n.arrives (PartEnd i h)).pulse ≤ 1)
     (given : (e : End) (c : Contact) → IsPortEnd e → contact_at p e ≡ Some c → 0 < bits_put (Some c) → IsSilent v (n.leaves e)) where

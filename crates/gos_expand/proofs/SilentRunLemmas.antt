@@ -27,16 +27,16 @@ use Rattle.gos_expand.proofs.SilenceLemmas.{IsSilent, RegistersAreSilent, regist
 use Rattle.gos_expand.proofs.SilentPortLemmas.{given_silent, ports_silent}
 
 module _ (keep : Keep) (p : Plan) (root : List ℕ) (fits : IsSound p) (differ : AreDifferent (root ∷ map (λ (x : Imported). x.name) p.imports))
-    (parts : PartFacts p) (plan : PlanFacts keep p (places_in keep p)) (acyclic : HasCycle (laid_cells keep p) → ⊥) (widths : WidthsFit (laid_cells keep p)) where
+    (rank : End → ℕ) (parts : PartFacts p rank) (plan : PlanFacts keep p (places_in keep p)) (acyclic : HasCycle (laid_cells keep p) → ⊥) (widths : WidthsFit (laid_cells keep p)) where
   run_silent : (ins vs : List Numbers) (regs : Numbers) → AreBits (laid_cells keep p) regs → RegistersAreSilent keep p (places_in keep p) regs
       → InputsAreClean (laid keep p root) ins → RunFrom (laid_cells keep p) regs ins vs → OutputsAreSilent (laid keep p root) vs
   run_silent [] vs regs bits before clean run = subst (OutputsAreSilent (laid keep p root)) (sym run) tt
   run_silent (i ∷ ins) [] regs bits before clean run = absurd run
   run_silent (i ∷ ins) (v ∷ vs) regs bits before clean run = (
     ports_silent keep p root v fits
-        (shows_silent keep p (laid keep p root) (places_in keep p) v regs after fits.right parts plan facts before pulses given),
+        (shows_silent keep p (laid keep p root) (places_in keep p) v regs after fits.right rank parts plan facts before pulses given),
     run_silent ins vs after (bits_held (laid_cells keep p) acyclic widths regs i v run.0 bits clean.0.0)
-        (registers_after keep p (laid keep p root) (places_in keep p) v regs after fits.right parts plan facts before pulses given) clean.1 run.1,
+        (registers_after keep p (laid keep p root) (places_in keep p) v regs after fits.right rank parts plan facts before pulses given) clean.1 run.1,
   )
     where
       after : Numbers
@@ -60,6 +60,6 @@ laid_stays_silent paths keep p root ins vs can acyclic clean run =
     subst (λ (names : List (List ℕ)). AreDifferent (root ∷ names)) (same_names p.imports) can.names in
     let regs : Numbers = replicate (length (laid_cells keep plan)) 0 in
     let none : (m : ℕ) → at regs m ≡ 0 = all_zero (length (laid_cells keep plan)) in
-    run_silent keep plan root (sound p root can) differ (part_facts paths p root can) (plan_facts keep plan can.right) acyclic
+    run_silent keep plan root (sound p root can) differ (λ e. 0) (part_facts paths p root can (λ e. 0)) (plan_facts keep plan can.right) acyclic
     (laid_accepted keep p root can acyclic).widths ins vs regs (λ n c there one. let zero_here = none n in omega (arith, zero_here))
     (silent_at_reset keep plan (places_in keep plan) regs none) clean run

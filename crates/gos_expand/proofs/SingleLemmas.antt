@@ -26,11 +26,11 @@ use Rattle.gos_macro.specs.laws.Counting.{times-append, shake_in, times_pulsed}
 use Rattle.gos_macro.proofs.causal.FiringLemmas.{pulsed-append}
 use Rattle.gos_expand.specs.Gates.{late_of, passing_of}
 use Rattle.gos_expand.specs.Starts.{Keep}
-use Rattle.gos_expand.specs.Facts.{Places, source, target, incoming_at, PassesOn, Rises}
+use Rattle.gos_expand.specs.Facts.{Places, source, target, incoming_at, PassesOn, Rises, order_at}
 use Rattle.gos_expand.proofs.TallyLemmas.{Split, fires_split, due-append}
 use Rattle.gos_expand.proofs.ChainLemmas.{Parted, orderly_parts}
 use Rattle.gos_expand.proofs.StandingLemmas.{pending_at, shown_at, held_pulse, Lies, Now, filled, values, values_if, small_count}
-use Rattle.gos_expand.proofs.ScheduleLemmas.{is_early, at_rank, below_rank, chosen_from, early_below, late_ones, top, with_pulse, early_made, made_firings, firings_pulsed, with_pulse-append, order_at, early_listed, below_top}
+use Rattle.gos_expand.proofs.ScheduleLemmas.{is_early, at_rank, below_rank, chosen_from, early_below, late_ones, top, with_pulse, early_made, made_firings, firings_pulsed, with_pulse-append, early_listed, below_top}
 use Rattle.gos_expand.proofs.PossibleLemmas.{listing, listing-append, firings_listed}
 use Rattle.gos_expand.proofs.CauseLemmas.{untaken_below}
 use Rattle.gos_expand.proofs.RankLemmas.{Whole}
@@ -215,7 +215,7 @@ puts_below p n rank v i h r k o u e q b c first lower is low none sooner by_then
 -- The source of a direction without registers whose other end is one of a part.
 pub single_ring : (keep : Keep) (p : Plan) (net : Netlist) (n : Places) (rank : End → ℕ) (v regs after : Numbers) (o : Open) (s : Tokens) (w : Whole p n rank v o s)
     (ts : List Token) (i h : ℕ) (k : Part) (x : ℕ) (j : Joint) (way : Direction) (d g : ℕ) (l : Part) (c : Contact)
-    → Rises keep p rank → Now keep p net n v regs after o s → slice_get p.joints x ≡ Some j → keep x way ≡ false
+    → Rises keep p rank → Now keep p net n rank v regs after o s → slice_get p.joints x ≡ Some j → keep x way ≡ false
     → source j way ≡ PartEnd i h → slice_get p.parts i ≡ Some k → h < length (part_contacts k)
     → target j way ≡ PartEnd d g → slice_get p.parts d ≡ Some l → g < length (part_contacts l) → contact_at p (PartEnd d g) ≡ Some c → way_taken c.role ≡ way
     → (step : PartStep p n rank v regs after o s w.state_then i k ts) → pending_at p n regs (PartEnd i h) + due h step.first ≤ 1

@@ -120,9 +120,9 @@ led_on p xs o u s t led more =
     }
 
 -- all that is known of a cycle at its beginning
-pub record Now (keep : Keep) (p : Plan) (net : Netlist) (n : Places) (v regs after : Numbers) (o : Open) (s : Tokens) : Type 0 where
+pub record Now (keep : Keep) (p : Plan) (net : Netlist) (n : Places) (rank : End → ℕ) (v regs after : Numbers) (o : Open) (s : Tokens) : Type 0 where
   pub right : IsRight p
-  pub part_facts : PartFacts p
+  pub part_facts : PartFacts p rank
   pub plan_facts : PlanFacts keep p n
   pub facts : CycleFacts keep p net n v regs after
   pub led : Led p o s

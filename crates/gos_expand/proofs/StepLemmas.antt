@@ -53,7 +53,7 @@ pub record Got (p : Plan) (n : Places) (rank : End → ℕ) (v regs after : Numb
 
 sent_by_part : (keep : Keep) (p : Plan) (net : Netlist) (n : Places) (rank : End → ℕ) (v regs after : Numbers) (o : Open) (s : Tokens) (w : Whole p n rank v o s)
     (puts : ℕ → List Token) (i h : ℕ) (k : Part) (c : Contact)
-    → Now keep p net n v regs after o s → PartsPut p (values p n v) puts (whole_list p n rank v) o s w.open_then w.state_then → slice_get p.parts i ≡ Some k
+    → Now keep p net n rank v regs after o s → PartsPut p (values p n v) puts (whole_list p n rank v) o s w.open_then w.state_then → slice_get p.parts i ≡ Some k
     → contact_at p (PartEnd i h) ≡ Some c → ((step : PartStep p n rank v regs after o s w.state_then i k (puts i)) → pending_at p n regs (PartEnd i h) + due h step.first ≤ 1)
     → Sent p n rank v regs after puts (PartEnd i h) (bits_put (Some c))
 sent_by_part keep p net n rank v regs after o s w puts i h k c now fires is there one =
@@ -102,7 +102,7 @@ sent_by_part keep p net n rank v regs after o s w puts i h k c now fires is ther
 
     nets : (at v (n.leaves (PartEnd i h)).pulse ≡ due h all) × (0 < bits_put (Some c) → at v (n.leaves (PartEnd i h)).number ≡ value_due h all)
     nets =
-        leaving_shows keep p n v i h k c all now.plan_facts (now.part_facts.gates i k is) is there
+        leaving_shows keep p n rank v i h k c all now.plan_facts (now.part_facts.gates i k is) is there
         (λ y out. step.shows h y out alone)
 
     held_next : pending_at p n after (PartEnd i h) ≡ due h (pending_of k b after)
@@ -115,10 +115,10 @@ sent_by_part keep p net n rank v regs after o s w puts i h k c now fires is ther
     next_sum = ap (λ (f : Option Part). value_due h (pending_if f b after)) is
 
 sent_by_port : (keep : Keep) (p : Plan) (net : Netlist) (n : Places) (rank : End → ℕ) (v regs after : Numbers) (o : Open) (s : Tokens) (puts : ℕ → List Token) (e : End) (c : Contact)
-    → Now keep p net n v regs after o s → IsPortEnd e → contact_at p e ≡ Some c → Sent p n rank v regs after puts e (bits_put (Some c))
+    → Now keep p net n rank v regs after o s → IsPortEnd e → contact_at p e ≡ Some c → Sent p n rank v regs after puts e (bits_put (Some c))
 sent_by_port keep p net n rank v regs after o s puts e c now port there =
     let shown : Shown p n v regs puts (whole_list p n rank v) e (bits_put (Some c)) =
-    shown_by_port keep p net n v regs after o s puts (made_firings p n rank v) e c now port there in
+    shown_by_port keep p net n rank v regs after o s puts (made_firings p n rank v) e c now port there in
     record {
       pulse = let a = (nothing_at_port p n after e port).0 in let b = shown.pulse in omega (arith, a, b);
       number = λ some. let a = (nothing_at_port p n after e port).1 in let b = shown.number some in omega (arith, a, b);
@@ -134,7 +134,7 @@ OneDue p n rank v regs after o s t puts e =
 
 sent : (keep : Keep) (p : Plan) (net : Netlist) (n : Places) (rank : End → ℕ) (v regs after : Numbers) (o : Open) (s : Tokens) (w : Whole p n rank v o s)
     (puts : ℕ → List Token) (e : End) (c : Contact)
-    → Now keep p net n v regs after o s → PartsPut p (values p n v) puts (whole_list p n rank v) o s w.open_then w.state_then → contact_at p e ≡ Some c
+    → Now keep p net n rank v regs after o s → PartsPut p (values p n v) puts (whole_list p n rank v) o s w.open_then w.state_then → contact_at p e ≡ Some c
     → OneDue p n rank v regs after o s w.state_then puts e → Sent p n rank v regs after puts e (bits_put (Some c))
 sent keep p net n rank v regs after o s w puts (PartEnd i h) c now fires there one =
     let k = part_there p i h c there in
@@ -148,7 +148,7 @@ sent keep p net n rank v regs after o s w puts (ResultEnd h) c now fires there o
 -- what leaves the end at which the tokens of a direction are put
 sent_from : (keep : Keep) (p : Plan) (net : Netlist) (n : Places) (rank : End → ℕ) (v regs after : Numbers) (o : Open) (s : Tokens) (w : Whole p n rank v o s)
     (puts : ℕ → List Token) (x : ℕ) (j : Joint) (way : Direction)
-    → Now keep p net n v regs after o s → PartsPut p (values p n v) puts (whole_list p n rank v) o s w.open_then w.state_then → slice_get p.joints x ≡ Some j
+    → Now keep p net n rank v regs after o s → PartsPut p (values p n v) puts (whole_list p n rank v) o s w.open_then w.state_then → slice_get p.joints x ≡ Some j
     → OneDue p n rank v regs after o s w.state_then puts (source j way) → Sent p n rank v regs after puts (source j way) (width p j way)
 sent_from keep p net n rank v regs after o s w puts x j way now fires there one =
     subst (λ (b : ℕ). Sent p n rank v regs after puts (source j way) b) ends.from_bits
@@ -159,7 +159,7 @@ sent_from keep p net n rank v regs after o s w puts x j way now fires there one 
 
 got_by_part : (keep : Keep) (p : Plan) (net : Netlist) (n : Places) (rank : End → ℕ) (v regs after : Numbers) (o : Open) (s : Tokens) (w : Whole p n rank v o s)
     (puts : ℕ → List Token) (i h : ℕ) (k : Part) (c : Contact)
-    → Now keep p net n v regs after o s → PartsPut p (values p n v) puts (whole_list p n rank v) o s w.open_then w.state_then
+    → Now keep p net n rank v regs after o s → PartsPut p (values p n v) puts (whole_list p n rank v) o s w.open_then w.state_then
     → slice_get p.parts i ≡ Some k → contact_at p (PartEnd i h) ≡ Some c
     → Got p n rank v regs after (way_taken c.role) (PartEnd i h) (bits_taken (Some c))
 got_by_part keep p net n rank v regs after o s w puts i h k c now fires is there =
@@ -193,7 +193,7 @@ got_by_part keep p net n rank v regs after o s w puts i h k c now fires is there
 
 got_by_port : (keep : Keep) (p : Plan) (net : Netlist) (n : Places) (rank : End → ℕ) (v regs after : Numbers) (o : Open) (s : Tokens) (w : Whole p n rank v o s)
     (puts : ℕ → List Token) (e : End) (c : Contact)
-    → Now keep p net n v regs after o s → PartsPut p (values p n v) puts (whole_list p n rank v) o s w.open_then w.state_then
+    → Now keep p net n rank v regs after o s → PartsPut p (values p n v) puts (whole_list p n rank v) o s w.open_then w.state_then
     → IsPortEnd e → contact_at p e ≡ Some c → shown_at n regs e ≤ 1
     → Got p n rank v regs after (way_taken c.role) e (bits_taken (Some c))
 got_by_port keep p net n rank v regs after o s w puts e c now fires port there small =
@@ -231,7 +231,7 @@ got_by_port keep p net n rank v regs after o s w puts e c now fires port there s
 
 pub got : (keep : Keep) (p : Plan) (net : Netlist) (n : Places) (rank : End → ℕ) (v regs after : Numbers) (o : Open) (s : Tokens) (w : Whole p n rank v o s)
     (puts : ℕ → List Token) (e : End) (c : Contact)
-    → Now keep p net n v regs after o s → PartsPut p (values p n v) puts (whole_list p n rank v) o s w.open_then w.state_then
+    → Now keep p net n rank v regs after o s → PartsPut p (values p n v) puts (whole_list p n rank v) o s w.open_then w.state_then
     → contact_at p e ≡ Some c → shown_at n regs e ≤ 1
     → Got p n rank v regs after (way_taken c.role) e (bits_taken (Some c))
 got keep p net n rank v regs after o s w puts (PartEnd i h) c now fires there small =
@@ -261,7 +261,7 @@ record Holds (keep : Keep) (p : Plan) (n : Places) (v regs after : Numbers) (x :
 
 pub passed : (keep : Keep) (p : Plan) (net : Netlist) (n : Places) (rank : End → ℕ) (v regs after : Numbers) (o : Open) (s : Tokens) (w : Whole p n rank v o s)
     (puts : ℕ → List Token) (x : ℕ) (j : Joint) (way : Direction)
-    → Rises keep p rank → Now keep p net n v regs after o s → PartsPut p (values p n v) puts (whole_list p n rank v) o s w.open_then w.state_then
+    → Rises keep p rank → Now keep p net n rank v regs after o s → PartsPut p (values p n v) puts (whole_list p n rank v) o s w.open_then w.state_then
     → AddsUp (values p n v) puts (whole_list p n rank v) s w.state_then way j.asking (source j way) (target j way)
     → slice_get p.joints x ≡ Some j → Passed keep p n v regs after w.state_then x j way
 passed keep p net n rank v regs after o s w puts x j way rises now fires sums there =

@@ -12,6 +12,7 @@ use Rattle.gos_plan.specs.Plans.{End, PartEnd, Joint, Plan, IsRight, contact_at,
 use Rattle.gos_plan.specs.Tokens.{Element, Out, In, IsPortEnd, places_of, bits_of, way_put}
 use Rattle.gos_plan.specs.TokenBits.{LiteralFits}
 use Rattle.gos_macro.specs.Gates.{Incoming, Settled}
+use Rattle.gos_macro.specs.Law.{Order}
 use Rattle.gos_macro.specs.Kept.{KeepLaws}
 use Rattle.gos_macro.specs.Paths.{KeepPaths}
 use Rattle.gos_pace.specs.Cycles as cycles
@@ -150,11 +151,15 @@ pub record PassesOn (keep : Keep) (p : Plan) (i from : ℕ) (to : End) : Type 0 
 abbrev pub Rises : Keep → Plan → (End → ℕ) → Type 0
 Rises keep p rank = (i from : ℕ) (to : End) → PassesOn keep p i from to → rank (PartEnd i from) < rank to
 
--- the gates of each part keep the laws, and its literal fits
-pub record PartFacts (p : Plan) : Type 0 where
+-- the order of a part's handshakes: the ranks of its ends
+abbrev pub order_at : (End → ℕ) → ℕ → Order
+order_at rank i h = rank (PartEnd i h)
+
+-- the gates of each part keep the laws in the order of its ends, and its literal fits
+pub record PartFacts (p : Plan) (rank : End → ℕ) : Type 0 where
   pub gates :
       (i : ℕ) (k : Part) → slice_get p.parts i ≡ Some k
-      → KeepLaws k (layout k) (outs_of k) (late_of k) (pending_of k) (stands_of k)
+      → KeepLaws k (layout k) (outs_of k) (late_of k) (pending_of k) (stands_of k) (order_at rank i)
   pub paths : (i : ℕ) (k : Part) → slice_get p.parts i ≡ Some k → KeepPaths k (layout k) (outs_of k) (late_of k) (passing_of k)
   pub literals : All LiteralFits p.parts
 
@@ -163,5 +168,5 @@ pub record PartFacts (p : Plan) : Type 0 where
 abbrev pub FactsMakeLists : Type 0
 FactsMakeLists =
     (keep : Keep) (p : Plan) (net : Netlist) (n : Places) (rank : End → ℕ) (regs : Numbers) (vs : List Numbers)
-    → IsRight p → PartFacts p → PlanFacts keep p n → Rises keep p rank → ((m : ℕ) → at regs m ≡ 0) → Follow keep p net n regs vs
+    → IsRight p → PartFacts p rank → PlanFacts keep p n → Rises keep p rank → ((m : ℕ) → at regs m ≡ 0) → Follow keep p net n regs vs
     → cycles.CyclesAreLists p net vs

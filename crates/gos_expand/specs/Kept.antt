@@ -8,14 +8,14 @@ use Rattle.gos_plan.specs.Ranges.{IsInRange}
 use Rattle.gos_plan.specs.Kinds.{Part, part_contacts}
 use Rattle.gos_plan.specs.Size.{numbers_in}
 use Rattle.gos_macro.specs.Gates.{Incoming}
-use Rattle.gos_macro.specs.Kept.{KeepLaws}
+use Rattle.gos_macro.specs.Kept.{KeepLawsInEachOrder}
 use Rattle.gos_macro.specs.Paths.{KeepPaths}
 use Rattle.gos_expand.specs.Gates.{layout, outs_of, late_of, pending_of, stands_of, passing_of}
 
--- what the laws say of a kind
+-- what the laws say of a kind, whose gates know no order
 abbrev pub KindKeeps : Kind → Type 0
 KindKeeps k =
-    KeepLaws (part_of k) (layout (part_of k)) (outs_of (part_of k)) (late_of (part_of k)) (pending_of (part_of k)) (stands_of (part_of k))
+    KeepLawsInEachOrder (part_of k) (layout (part_of k)) (outs_of (part_of k)) (late_of (part_of k)) (pending_of (part_of k)) (stands_of (part_of k))
 
 -- every kind in range keeps them
 abbrev pub AllKeep : Type 0

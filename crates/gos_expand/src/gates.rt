@@ -36,6 +36,8 @@ impl<'a> Macro for Gates<'a> {
 
     ghost is_laid_out = { IsLaidOut };
 
+    ghost suits = { λ _ _. Unit {0} };
+
     fn size(&self) -> u32 {
         match self {
             Gates::Controls(control) => control.size(),
@@ -68,7 +70,7 @@ impl<'a> Macro for Gates<'a> {
         }
     }
 
-    ghost law = { gates_keep };
+    ghost law = { λ g is rank _. gates_keep g is rank };
 
     ghost paths = { gates_pass };
 }

@@ -275,9 +275,9 @@ shared_widths b i bits come (w0, (w1, (w2, (w3, (w4, (w5, (w6, (w7, (w8, nothing
     )
 
 pub shared_gates : SharedGates
-shared_gates =
+shared_gates rank =
     record {
-      law = law_in_order (Share Com) shared_cells shared_outs shared_late shared_pending SharedStands shared_law;
+      law = law_in_order (Share Com) shared_cells shared_outs shared_late shared_pending SharedStands shared_law rank;
       rests = λ b regs zeros. (
         record { rests = refl; branch = sym (zeros (b + 3)); one = omega (arith, zeros (b + 3)); held = omega (arith, zeros (b + 6)) },
         ap (held (Req 0)) (zeros (b + 6)),

@@ -13,7 +13,7 @@ use Rattle.gos_plan.specs.laws.Inversion.{first_or_later, no_row}
 use Rattle.gos_macro.specs.Gates.{Incoming, Outgoing, Bare, incoming_bits, Settled, pulse_in, value_in, NetsShow, ShowOne}
 use Rattle.gos_macro.specs.Law.{pulsed, early_in_order, FiredInOrder}
 use Rattle.gos_macro.specs.Paths.{PutsPass}
-use Rattle.gos_macro.specs.SmallGates.{answer_first_cells, answer_last_cells, passing_outs, last_first, GatesOfTheOrder, GatesOfAnotherOrder, SecondAsksFirst, SecondAsksLast, OrderIsSeen, HoldsSilently, HeldIsNotSilent}
+use Rattle.gos_macro.specs.SmallGates.{answer_first_cells, answer_last_cells, passing_outs, last_first, GatesOfTheOrder, GatesOfAnotherOrder, OrderCounts, SecondAsksFirst, SecondAsksLast, OrderIsSeen, HoldsSilently, HeldIsNotSilent}
 use Rattle.gos_macro.specs.SmallPaths.{answer_first_passing, answer_last_passing, AnswerFirstPaths, AnswerLastPaths}
 use Rattle.gos_macro.specs.path_search.laws.Told.{told_is_kept}
 use Rattle.gos_macro.proofs.GatesLemmas.{to_branch, requests, next_branch, Passed, shared_requests, branch_table, answer_table}
@@ -166,6 +166,9 @@ gates_of_another_order law =
       where
         by_bits : (bits : ℕ) → (if nat_eq bits 0 then 0 else 0) < 2 ^ bits
         by_bits bits = value_fits bits 0 (2 ^ bits) (pow_pos bits) (λ some. pow_pos bits)
+
+pub order_counts : OrderCounts
+order_counts kept = gates_of_another_order (kept last_first).law
 
 pub second_asks_first : SecondAsksFirst
 second_asks_first = (_, (_, put (Req 1) 0 ∷ [], refl, (refl, tt), refl, (_, [], refl, (refl, tt), refl, (refl, refl, refl))))

@@ -12,7 +12,7 @@ use Rattle.gos_plan.specs.Firings.{Asked, Fires}
 use Rattle.gos_macro.specs.Gates.{Incoming, Outgoing, Bare, Bearing, held, nothing_pending}
 use Rattle.gos_macro.specs.Cells.{bit, buffer}
 use Rattle.gos_macro.specs.Law.{Order, early_in_order, GatesLaw, LawInOrder, StaySilent}
-use Rattle.gos_macro.specs.Kept.{KeepLaws}
+use Rattle.gos_macro.specs.Kept.{KeepLawsInEachOrder}
 
 -- the request is the answer
 abbrev pub skip_cells : ℕ → Incoming → List Cell
@@ -25,7 +25,7 @@ abbrev pub skip_stands : ℕ → Numbers → State → Type 0
 skip_stands b regs q = q.phase ≡ Rest
 
 abbrev pub SkipGates : Type 0
-SkipGates = KeepLaws Skip skip_cells skip_outs [] nothing_pending skip_stands
+SkipGates = KeepLawsInEachOrder Skip skip_cells skip_outs [] nothing_pending skip_stands
 
 -- Cell 3 is the branch, and cell 6 the request to the source, which comes a cycle later. The answer goes to the branch.
 abbrev pub shared_cells : ℕ → Incoming → List Cell
@@ -56,7 +56,7 @@ pub record SharedStands (b : ℕ) (regs : Numbers) (q : State) : Type 0 where
   pub held : at regs (b + 6) ≤ 1
 
 abbrev pub SharedGates : Type 0
-SharedGates = KeepLaws (Share Com) shared_cells shared_outs shared_late shared_pending SharedStands
+SharedGates = KeepLawsInEachOrder (Share Com) shared_cells shared_outs shared_late shared_pending SharedStands
 
 -- gates of Skip that answer nothing don't keep the law
 abbrev pub silent_cells : ℕ → Incoming → List Cell
@@ -165,6 +165,10 @@ AnswerFirst = early_in_order (Share Com) [] (λ h. 0) 1 ≡ Ans 0 ∷ Req 1 ∷ 
 
 abbrev pub GatesOfAnotherOrder : Type 0
 GatesOfAnotherOrder = AnswerGatesInOrder last_first → ⊥
+
+-- so they don't keep the laws in each order
+abbrev pub OrderCounts : Type 0
+OrderCounts = KeepLawsInEachOrder (Share Com) answer_first_cells passing_outs [] nothing_pending PassingStands → ⊥
 
 -- In which order callers ask tells to whom a Share answers, which is the last one. Here two ask in one cycle at two
 -- handshakes of a type, the second caller for a command and the first one for a number.

@@ -7,6 +7,7 @@ ghost use Rattle.gos_plan.specs.Kinds.{Part, part_contacts};
 ghost use Rattle.gos_plan.specs.Firing.{State, Token};
 ghost use Rattle.gos_macro.specs.Gates.{Incoming, Outgoing};
 ghost use Rattle.gos_macro.specs.Wires.{nets_in, incoming_of, HoldNets};
+ghost use Rattle.gos_macro.specs.Law.{Order};
 ghost use Rattle.gos_macro.specs.Kept.{KeepLaws};
 ghost use Rattle.gos_macro.specs.Paths.{KeepPaths, TellsIfItPasses};
 
@@ -49,6 +50,9 @@ pub trait Macro {
     // What the laws ask of the part, as that its widths are in range.
     ghost is_laid_out: { Self → Type 0 };
 
+    // In which orders of the part's handshakes its gates keep the law of a cycle: where they know no order, in each.
+    ghost suits: { Self → Order → Type 0 };
+
     /// How many cells the part has.
     fn size(&self) -> u32
         ensures cells { (base : ℕ) (nets : Incoming) → length (cells self.now base nets) ≡ result }
@@ -85,9 +89,11 @@ pub trait Macro {
         ensures path { TellsIfItPasses (part self.now) (cells self.now) (outs_at self.now) from to result }
         ensures known { result ≡ passing self.now from to };
 
-    // In each cycle the gates do what the part does by its rows; registers that are all 0 stand for a part at rest; no
-    // number goes out without its pulse; and in a netlist the gates keep what is asked of an accepted one.
-    ghost law: { (m : Self) → is_laid_out m → KeepLaws (part m) (cells m) (outs_at m) (late m) (pending m) (stands m) };
+    // In each cycle the gates do what the part does by its rows, in each order that suits them; registers that are all 0
+    // stand for a part at rest; no number goes out without its pulse; and in a netlist the gates keep what is asked of an
+    // accepted one.
+    ghost law: { (m : Self) → is_laid_out m → (rank : Order) → suits m rank
+        → KeepLaws (part m) (cells m) (outs_at m) (late m) (pending m) (stands m) rank };
 
     // Paths lead where `passing` says, from pulse to pulse too, and from no handshake at which what comes in is late; and the
     // gates depend on their place and wires by name alone.

@@ -34,6 +34,8 @@ impl Macro for Buffer {
 
     ghost is_laid_out = { λ _. Unit {0} };
 
+    ghost suits = { λ _ _. Unit {0} };
+
     fn size(&self) -> u32 {
         1
     }
@@ -57,7 +59,7 @@ impl Macro for Buffer {
         true
     }
 
-    ghost law = { λ _ _. skip_gates };
+    ghost law = { λ _ _ rank _. skip_gates rank };
 
     ghost paths = { λ _ _. skip_paths };
 }

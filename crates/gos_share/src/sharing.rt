@@ -51,6 +51,8 @@ impl<'a> Macro for Sharing<'a> {
 
     ghost is_laid_out = { IsSmall };
 
+    ghost suits = { λ _ _. Unit {0} };
+
     fn size(&self) -> u32 {
         4 + blocks(self.0)
     }
@@ -72,7 +74,7 @@ impl<'a> Macro for Sharing<'a> {
         passing::passes(self.0, from, to)
     }
 
-    ghost law = { share_gates };
+    ghost law = { λ g is rank _. share_gates g is rank };
 
     ghost paths = { share_paths };
 }

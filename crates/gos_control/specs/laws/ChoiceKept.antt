@@ -10,7 +10,7 @@ use Rattle.gos_plan.specs.Firing.{State, Slot, Req, Ans, Token}
 use Rattle.gos_macro.specs.Gates.{Incoming, pulse_in, value_in, SameTokens, nothing_pending}
 use Rattle.gos_plan.specs.Firings.{due, value_due, times}
 use Rattle.gos_macro.specs.Law.{Order, Fired, FiredInOrder, PulsesComeIn, LawInOrder, StaySilent}
-use Rattle.gos_macro.specs.Kept.{KeepLaws}
+use Rattle.gos_macro.specs.Kept.{KeepLawsInEachOrder}
 use Rattle.gos_macro.specs.laws.AnyOrder.{fired_in_some, EachShown, shown_each}
 use Rattle.gos_macro.specs.laws.Passing.{repeated, bears, same_tokens}
 use Rattle.gos_plan.specs.laws.Inversion.{passes}
@@ -93,19 +93,19 @@ choice_exp_silent w b i v regs after (c0, k0, (c1, k1, (c2, k2, (c3, k3, (c4, k4
         let first = c5 ∙ passed_over (pulse_in v i 1) (nets.at v (i.value 1)) 0 parts.0 in
         c6 ∙ (passed_over (pulse_in v i 2) (nets.at v (i.value 2)) (nets.at v (b + 5)) parts.1 ∙ first)
 
-pub choice_com_gates : KeepLaws (If 0) choice_com_layout choice_com_outs [] nothing_pending choice_stands
-choice_com_gates =
+pub choice_com_gates : KeepLawsInEachOrder (If 0) choice_com_layout choice_com_outs [] nothing_pending choice_stands
+choice_com_gates rank =
     record {
-      law = choice_com_law;
+      law = choice_com_law rank;
       rests = λ b regs zeros. (tt, refl);
       silent = λ b i v regs after settled pulses. tt;
       fits = choice_com_fits;
     }
 
-pub choice_exp_gates : (w : ℕ) → 1 ≤ w → w ≤ GREATEST_WIDTH → KeepLaws (If w) (choice_exp_layout w) choice_exp_outs [] nothing_pending choice_stands
-choice_exp_gates w some small =
+pub choice_exp_gates : (w : ℕ) → 1 ≤ w → w ≤ GREATEST_WIDTH → KeepLawsInEachOrder (If w) (choice_exp_layout w) choice_exp_outs [] nothing_pending choice_stands
+choice_exp_gates w some small rank =
     record {
-      law = choice_exp_law w some;
+      law = choice_exp_law w some rank;
       rests = λ b regs zeros. (tt, refl);
       silent = choice_exp_silent w;
       fits = choice_exp_fits w some small;

@@ -5,7 +5,7 @@ use Rattle.std.proofs.Common.{zero, suc, arith}
 use Rattle.gos_plan.specs.declared.kinds.Kind.{Kind}
 use Rattle.gos_plan.specs.declared.kinds.Kind.TheVariants as kinds
 use Rattle.gos_plan.specs.Seen.{part_of}
-use Rattle.gos_macro.specs.Kept.{KeepLaws}
+use Rattle.gos_macro.specs.Kept.{KeepLawsInEachOrder}
 use Rattle.gos_macro.specs.laws.SkipKept.{skip_gates}
 use Rattle.gos_control.specs.laws.SeqKept.{seq_com_gates, seq_exp_gates}
 use Rattle.gos_control.specs.laws.ParKept.{par_gates}
@@ -17,7 +17,7 @@ use Rattle.gos_control.specs.Ranges.{IsControl}
 -- what the law says of a kind
 abbrev pub ControlGates : Kind → Type 0
 ControlGates k =
-    KeepLaws (part_of k) (layout (part_of k)) (outs_of (part_of k)) (late_of (part_of k)) (pending_of (part_of k)) (stands_of (part_of k))
+    KeepLawsInEachOrder (part_of k) (layout (part_of k)) (outs_of (part_of k)) (late_of (part_of k)) (pending_of (part_of k)) (stands_of (part_of k))
 
 pub control_gates : (k : Kind) → IsControl k → ControlGates k
 control_gates kinds.Skip is = skip_gates

@@ -9,7 +9,7 @@ use Rattle.gos_plan.specs.Firing.{Phase, Rest, Both, LeftOnly, RightOnly, State,
 use Rattle.gos_macro.specs.Gates.{pulse_in, value_in, nothing_pending}
 use Rattle.gos_plan.specs.Firings.{due, times}
 use Rattle.gos_macro.specs.Law.{GatesLaw}
-use Rattle.gos_macro.specs.Kept.{KeepLaws}
+use Rattle.gos_macro.specs.Kept.{KeepLawsInEachOrder}
 use Rattle.gos_macro.specs.laws.AnyOrder.{law_in_order}
 use Rattle.gos_macro.specs.laws.Passing.{buffered, same_tokens}
 use Rattle.gos_control.specs.Par.{par_layout, par_outs, ParPhase, par_stands}
@@ -79,10 +79,10 @@ par_law b i v regs after q s ts us (c0, k0, (c1, k1, (c2, k2, (c3, k3, (c4, k4, 
       subst (λ (c : State). ParPhase c.phase (nets.at after (b + 2)) (nets.at after (b + 3))) (sym fired.later.1) stood,
     )
 
-pub par_gates : KeepLaws Par par_layout par_outs [] nothing_pending par_stands
-par_gates =
+pub par_gates : KeepLawsInEachOrder Par par_layout par_outs [] nothing_pending par_stands
+par_gates rank =
     record {
-      law = law_in_order Par par_layout par_outs [] nothing_pending par_stands par_law;
+      law = law_in_order Par par_layout par_outs [] nothing_pending par_stands par_law rank;
       rests = λ b regs zeros. ((zeros (b + 2), zeros (b + 3)), refl);
       silent = λ b i v regs after settled pulses. tt;
       fits = par_fits;

@@ -10,7 +10,7 @@ use Rattle.gos_macro.specs.Gates.{pulse_in, value_in, held}
 use Rattle.gos_plan.specs.Firings.{due, times}
 use Rattle.gos_macro.specs.Law.{Order, Fired, LawInOrder, RestsAtZero}
 use Rattle.gos_macro.specs.Fit.{GatesFit}
-use Rattle.gos_macro.specs.Kept.{KeepLaws}
+use Rattle.gos_macro.specs.Kept.{KeepLawsInEachOrder}
 use Rattle.gos_macro.specs.laws.AnyOrder.{fired_in_some, EachShown, shown_each}
 use Rattle.gos_macro.specs.laws.Passing.{same_tokens}
 use Rattle.gos_control.specs.laws.Pulses.{due_with_request, due_beside_request, test_table, or_table}
@@ -98,10 +98,10 @@ repeat_fits =
           );
     }
 
-pub repeat_gates : KeepLaws While repeat_layout repeat_outs repeat_late repeat_pending RepeatStands
-repeat_gates =
+pub repeat_gates : KeepLawsInEachOrder While repeat_layout repeat_outs repeat_late repeat_pending RepeatStands
+repeat_gates rank =
     record {
-      law = repeat_law;
+      law = repeat_law rank;
       rests = repeat_rests;
       silent = λ b i v regs after settled pulses. tt;
       fits = repeat_fits;

@@ -9,7 +9,7 @@ use Rattle.gos_plan.specs.Firing.{Phase, Rest, First, Second, State, Slot, Req, 
 use Rattle.gos_macro.specs.Gates.{pulse_in, value_in, SameTokens, nothing_pending}
 use Rattle.gos_plan.specs.Firings.{due, value_due, Asked, Fires, times}
 use Rattle.gos_macro.specs.Law.{GatesLaw, StaySilent}
-use Rattle.gos_macro.specs.Kept.{KeepLaws}
+use Rattle.gos_macro.specs.Kept.{KeepLawsInEachOrder}
 use Rattle.gos_plan.specs.laws.Inversion.{by_one_row}
 use Rattle.gos_macro.specs.laws.AnyOrder.{law_in_order}
 use Rattle.gos_macro.specs.laws.Passing.{buffered, repeated, bears, let_through, same_tokens}
@@ -100,10 +100,10 @@ seq_exp_silent w b i v regs after (c0, k0, (c1, k1, (c2, k2, (c3, k3, none)))) p
         let second = neither (pulse_in v i 1) (pulse_in v i 1) (sym c2 ∙ no_answer) in
         c3 ∙ passed_over (pulse_in v i 1) (nets.at v (i.value 1)) 0 second.0
 
-pub seq_com_gates : KeepLaws (Seq 0) (λ b. seq_com_layout) seq_com_outs [] nothing_pending seq_stands
-seq_com_gates =
+pub seq_com_gates : KeepLawsInEachOrder (Seq 0) (λ b. seq_com_layout) seq_com_outs [] nothing_pending seq_stands
+seq_com_gates rank =
     record {
-      law = law_in_order (Seq 0) (λ b. seq_com_layout) seq_com_outs [] nothing_pending seq_stands seq_com_law;
+      law = law_in_order (Seq 0) (λ b. seq_com_layout) seq_com_outs [] nothing_pending seq_stands seq_com_law rank;
       rests = λ b regs zeros. (tt, refl);
       silent = λ b i v regs after settled pulses. tt;
       fits =
@@ -125,10 +125,10 @@ seq_com_gates =
           };
     }
 
-pub seq_exp_gates : (w : ℕ) → 1 ≤ w → w ≤ GREATEST_WIDTH → KeepLaws (Seq w) (λ b. seq_exp_layout w) seq_exp_outs [] nothing_pending seq_stands
-seq_exp_gates w some small =
+pub seq_exp_gates : (w : ℕ) → 1 ≤ w → w ≤ GREATEST_WIDTH → KeepLawsInEachOrder (Seq w) (λ b. seq_exp_layout w) seq_exp_outs [] nothing_pending seq_stands
+seq_exp_gates w some small rank =
     record {
-      law = law_in_order (Seq w) (λ b. seq_exp_layout w) seq_exp_outs [] nothing_pending seq_stands (seq_exp_law w some);
+      law = law_in_order (Seq w) (λ b. seq_exp_layout w) seq_exp_outs [] nothing_pending seq_stands (seq_exp_law w some) rank;
       rests = λ b regs zeros. (tt, refl);
       silent = seq_exp_silent w;
       fits =

@@ -12,7 +12,7 @@ use Rattle.gos_plan.specs.Firing.{Req, Ans}
 use Rattle.gos_macro.specs.Gates.{held}
 use Rattle.gos_macro.specs.Law.{StaySilent}
 use Rattle.gos_macro.specs.Fit.{GatesFit}
-use Rattle.gos_macro.specs.Kept.{KeepLaws}
+use Rattle.gos_macro.specs.Kept.{KeepLawsInEachOrder}
 use Rattle.gos_macro.specs.laws.AnyOrder.{law_in_order}
 use Rattle.gos_macro.specs.laws.SettledCells.{settled_both}
 use Rattle.gos_data.specs.BodyAnswer.{number_cells}
@@ -44,11 +44,11 @@ array_silent w n (suc u) b i v regs after settled pulses =
     )
 
 pub array_gates : (w n u : ℕ) → IsWidth w → IsLength n → u ≤ GREATEST_WIDTH
-    → KeepLaws (Array w n u) (array_cells w n u) (array_outs n u) array_late array_pending (ArrayStands n)
-array_gates w n u width long small =
+    → KeepLawsInEachOrder (Array w n u) (array_cells w n u) (array_outs n u) array_late array_pending (ArrayStands n)
+array_gates w n u width long small rank =
     let known = indexed n long in
     record {
-      law = law_in_order (Array w n u) (array_cells w n u) (array_outs n u) array_late array_pending (ArrayStands n) (array_law w n u width known.narrow.0);
+      law = law_in_order (Array w n u) (array_cells w n u) (array_outs n u) array_late array_pending (ArrayStands n) (array_law w n u width known.narrow.0) rank;
       rests = λ b regs zeros. (
         record {
           entered = omega (arith, zeros (b + 0));

@@ -13,7 +13,7 @@ use Rattle.gos_macro.specs.Gates.{Incoming, pulse_in, value_in, nothing_pending}
 use Rattle.gos_plan.specs.Firings.{due, value_due, Asked, Fires, times}
 use Rattle.gos_macro.specs.Law.{GatesLaw, StaySilent}
 use Rattle.gos_macro.specs.Fit.{BitsComeIn, HaveBits, GatesFit}
-use Rattle.gos_macro.specs.Kept.{KeepLaws}
+use Rattle.gos_macro.specs.Kept.{KeepLawsInEachOrder}
 use Rattle.gos_macro.specs.laws.AnyOrder.{law_in_order}
 use Rattle.gos_plan.specs.laws.Inversion.{by_one_row}
 use Rattle.gos_macro.specs.laws.Passing.{repeated, buffered, let_through, bears, same_tokens}
@@ -129,5 +129,5 @@ assign_fits w width =
       widths = assign_widths w width;
     }
 
-pub assign_gates : (w : ℕ) → IsWidth w → KeepLaws (Assign w) (λ b. assign_cells w) assign_outs [] nothing_pending assign_stands
-assign_gates w width = record { law = law_in_order (Assign w) (λ b. assign_cells w) assign_outs [] nothing_pending assign_stands (assign_law w width); rests = λ b regs zeros. (tt, refl); silent = assign_silent w; fits = assign_fits w width }
+pub assign_gates : (w : ℕ) → IsWidth w → KeepLawsInEachOrder (Assign w) (λ b. assign_cells w) assign_outs [] nothing_pending assign_stands
+assign_gates w width rank = record { law = law_in_order (Assign w) (λ b. assign_cells w) assign_outs [] nothing_pending assign_stands (assign_law w width) rank; rests = λ b regs zeros. (tt, refl); silent = assign_silent w; fits = assign_fits w width }

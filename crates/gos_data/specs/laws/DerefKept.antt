@@ -12,7 +12,7 @@ use Rattle.gos_plan.specs.Firing.{State, Req, Ans}
 use Rattle.gos_macro.specs.Gates.{Incoming, pulse_in, value_in, nothing_pending}
 use Rattle.gos_macro.specs.Law.{GatesLaw, StaySilent}
 use Rattle.gos_macro.specs.Fit.{BitsComeIn, HaveBits, GatesFit}
-use Rattle.gos_macro.specs.Kept.{KeepLaws}
+use Rattle.gos_macro.specs.Kept.{KeepLawsInEachOrder}
 use Rattle.gos_macro.specs.laws.AnyOrder.{law_in_order}
 use Rattle.gos_macro.specs.laws.Passing.{buffered, let_through, bears, same_tokens}
 use Rattle.gos_data.specs.Waiting.{IsWaitingPhase, waiting_stands}
@@ -62,5 +62,5 @@ deref_fits w width =
       widths = deref_widths w width;
     }
 
-pub deref_gates : (w : ℕ) → IsWidth w → KeepLaws (Deref w) (λ b. deref_cells w) deref_outs [] nothing_pending waiting_stands
-deref_gates w width = record { law = law_in_order (Deref w) (λ b. deref_cells w) deref_outs [] nothing_pending waiting_stands (deref_law w width); rests = λ b regs zeros. (tt, refl); silent = deref_silent w; fits = deref_fits w width }
+pub deref_gates : (w : ℕ) → IsWidth w → KeepLawsInEachOrder (Deref w) (λ b. deref_cells w) deref_outs [] nothing_pending waiting_stands
+deref_gates w width rank = record { law = law_in_order (Deref w) (λ b. deref_cells w) deref_outs [] nothing_pending waiting_stands (deref_law w width) rank; rests = λ b regs zeros. (tt, refl); silent = deref_silent w; fits = deref_fits w width }

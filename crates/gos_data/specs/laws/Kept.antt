@@ -4,7 +4,7 @@
 use Rattle.gos_plan.specs.declared.kinds.Kind.{Kind}
 use Rattle.gos_plan.specs.declared.kinds.Kind.TheVariants as kinds
 use Rattle.gos_plan.specs.Seen.{operation_of, part_of}
-use Rattle.gos_macro.specs.Kept.{KeepLaws}
+use Rattle.gos_macro.specs.Kept.{KeepLawsInEachOrder}
 use Rattle.gos_data.specs.Layout.{layout, outs_of, late_of, pending_of, stands_of}
 use Rattle.gos_data.specs.Ranges.{IsArith}
 use Rattle.gos_data.specs.laws.LitKept.{lit_gates}
@@ -16,7 +16,7 @@ use Rattle.gos_data.specs.laws.LocalFit.{local_gates}
 use Rattle.gos_data.specs.laws.ArrayFit.{array_gates}
 
 pub arith_gates : (k : Kind) → IsArith k
-    → KeepLaws (part_of k) (layout (part_of k)) (outs_of (part_of k)) (late_of (part_of k)) (pending_of (part_of k)) (stands_of (part_of k))
+    → KeepLawsInEachOrder (part_of k) (layout (part_of k)) (outs_of (part_of k)) (late_of (part_of k)) (pending_of (part_of k)) (stands_of (part_of k))
 arith_gates (kinds.Lit w k) in_range = lit_gates w k in_range.0 in_range.1
 arith_gates (kinds.Op op w) in_range = op_gates (operation_of op) w in_range
 arith_gates (kinds.Not w) in_range = not_gates w in_range

@@ -12,7 +12,7 @@ use Rattle.gos_macro.specs.Gates.{Incoming, pulse_in, value_in, nothing_pending}
 use Rattle.gos_plan.specs.Firings.{due, value_due, Asked, Fires, times}
 use Rattle.gos_macro.specs.Law.{GatesLaw, StaySilent}
 use Rattle.gos_macro.specs.Fit.{BitsComeIn, HaveBits, GatesFit}
-use Rattle.gos_macro.specs.Kept.{KeepLaws}
+use Rattle.gos_macro.specs.Kept.{KeepLawsInEachOrder}
 use Rattle.gos_macro.specs.laws.AnyOrder.{law_in_order}
 use Rattle.gos_plan.specs.laws.Inversion.{by_one_row}
 use Rattle.gos_macro.specs.laws.Passing.{repeated, buffered, let_through, same_tokens}
@@ -76,6 +76,6 @@ lit_fits w k width small =
       widths = lit_widths w k width small;
     }
 
-pub lit_gates : (w k : ℕ) → IsWidth w → k < 2 ^ w → KeepLaws (Lit w k) (lit_cells w k) lit_outs [] nothing_pending lit_stands
-lit_gates w k width small =
-    record { law = law_in_order (Lit w k) (lit_cells w k) lit_outs [] nothing_pending lit_stands (lit_law w k); rests = λ b regs zeros. (tt, refl); silent = lit_silent w k; fits = lit_fits w k width small }
+pub lit_gates : (w k : ℕ) → IsWidth w → k < 2 ^ w → KeepLawsInEachOrder (Lit w k) (lit_cells w k) lit_outs [] nothing_pending lit_stands
+lit_gates w k width small rank =
+    record { law = law_in_order (Lit w k) (lit_cells w k) lit_outs [] nothing_pending lit_stands (lit_law w k) rank; rests = λ b regs zeros. (tt, refl); silent = lit_silent w k; fits = lit_fits w k width small }

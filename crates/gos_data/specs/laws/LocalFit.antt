@@ -12,7 +12,7 @@ use Rattle.gos_plan.specs.Firing.{Req, Ans}
 use Rattle.gos_macro.specs.Gates.{Incoming, held}
 use Rattle.gos_macro.specs.Law.{StaySilent}
 use Rattle.gos_macro.specs.Fit.{IsKnown, NameEarlier, BitsComeIn, HaveBits, GatesFit}
-use Rattle.gos_macro.specs.Kept.{KeepLaws}
+use Rattle.gos_macro.specs.Kept.{KeepLawsInEachOrder}
 use Rattle.gos_macro.specs.laws.AnyOrder.{law_in_order}
 use Rattle.gos_data.specs.BodyAnswer.{number_cells}
 use Rattle.gos_data.specs.Local.{variable_cells, local_cells, local_outs, local_late, local_pending, LocalStands}
@@ -128,10 +128,10 @@ local_silent w (suc u) b i v regs after
     (c0, k0, (c1, k1, (c2, k2, (c3, k3, (c4, k4, (c5, k5, (c6, k6, (c7, k7, (c8, k8, (c9, k9, nothing)))))))))) pulses =
     (silent _ _ _ _ (pulses 1 (omega arith)) c1 c2, (silent _ _ _ _ (pulses 0 (omega arith)) c8 c9, tt))
 
-pub local_gates : (w u : ℕ) → IsWidth w → u ≤ GREATEST_WIDTH → KeepLaws (Local w u) (local_cells w u) (local_outs u) local_late local_pending LocalStands
-local_gates w u width small =
+pub local_gates : (w u : ℕ) → IsWidth w → u ≤ GREATEST_WIDTH → KeepLawsInEachOrder (Local w u) (local_cells w u) (local_outs u) local_late local_pending LocalStands
+local_gates w u width small rank =
     record {
-      law = law_in_order (Local w u) (local_cells w u) (local_outs u) local_late local_pending LocalStands (local_law w u width);
+      law = law_in_order (Local w u) (local_cells w u) (local_outs u) local_late local_pending LocalStands (local_law w u width) rank;
       rests = λ b regs zeros. (
         record {
           asked = omega (arith, zeros (b + 0));

@@ -13,7 +13,7 @@ use Rattle.gos_plan.specs.Firing.{State, Req, Ans}
 use Rattle.gos_macro.specs.Gates.{Incoming, pulse_in, value_in, nothing_pending}
 use Rattle.gos_macro.specs.Law.{GatesLaw, StaySilent}
 use Rattle.gos_macro.specs.Fit.{BitsComeIn, HaveBits, GatesFit}
-use Rattle.gos_macro.specs.Kept.{KeepLaws}
+use Rattle.gos_macro.specs.Kept.{KeepLawsInEachOrder}
 use Rattle.gos_macro.specs.laws.AnyOrder.{law_in_order}
 use Rattle.gos_macro.specs.laws.Passing.{buffered, let_through, bears, same_tokens}
 use Rattle.gos_data.specs.Waiting.{IsWaitingPhase, waiting_stands}
@@ -66,5 +66,5 @@ not_fits w width =
       widths = not_widths w width;
     }
 
-pub not_gates : (w : ℕ) → IsWidth w → KeepLaws (Not w) (not_cells w) not_outs [] nothing_pending waiting_stands
-not_gates w width = record { law = law_in_order (Not w) (not_cells w) not_outs [] nothing_pending waiting_stands (not_law w width); rests = λ b regs zeros. (tt, refl); silent = not_silent w; fits = not_fits w width }
+pub not_gates : (w : ℕ) → IsWidth w → KeepLawsInEachOrder (Not w) (not_cells w) not_outs [] nothing_pending waiting_stands
+not_gates w width rank = record { law = law_in_order (Not w) (not_cells w) not_outs [] nothing_pending waiting_stands (not_law w width) rank; rests = λ b regs zeros. (tt, refl); silent = not_silent w; fits = not_fits w width }

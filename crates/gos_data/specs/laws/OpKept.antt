@@ -17,7 +17,7 @@ use Rattle.gos_macro.specs.Gates.{Incoming, pulse_in, value_in, nothing_pending}
 use Rattle.gos_plan.specs.Firings.{due, value_due, Asked, Fires, times}
 use Rattle.gos_macro.specs.Law.{GatesLaw, StaySilent}
 use Rattle.gos_macro.specs.Fit.{IsKnown, NameEarlier, reach_of, BitsComeIn, HaveBits, GatesFit}
-use Rattle.gos_macro.specs.Kept.{KeepLaws}
+use Rattle.gos_macro.specs.Kept.{KeepLawsInEachOrder}
 use Rattle.gos_macro.specs.laws.AnyOrder.{law_in_order}
 use Rattle.gos_plan.specs.laws.Inversion.{by_one_row}
 use Rattle.gos_macro.specs.laws.Passing.{repeated, buffered, let_through, bears, same_tokens}
@@ -345,10 +345,10 @@ op_fits op w width =
       widths = op_widths op w width;
     }
 
-pub op_gates : (op : Operation) (w : ℕ) → IsWidth w → KeepLaws (Op op w) (op_cells op w) op_outs [] nothing_pending OpStands
-op_gates op w width =
+pub op_gates : (op : Operation) (w : ℕ) → IsWidth w → KeepLawsInEachOrder (Op op w) (op_cells op w) op_outs [] nothing_pending OpStands
+op_gates op w width rank =
     record {
-      law = law_in_order (Op op w) (op_cells op w) op_outs [] nothing_pending OpStands (op_law op w width);
+      law = law_in_order (Op op w) (op_cells op w) op_outs [] nothing_pending OpStands (op_law op w width) rank;
       rests = λ b regs zeros. (record { waits = zeros (b + 6); number = sym (zeros (b + 2)); phase = tt }, refl);
       silent = op_silent op w;
       fits = op_fits op w width;

@@ -12,7 +12,7 @@ use Rattle.gos_plan.specs.Kinds.{Part, Share}
 use Rattle.gos_plan.specs.Firing.{State, Token}
 use Rattle.gos_macro.specs.Gates.{Incoming, Outgoing}
 use Rattle.gos_plan.specs.Ranges.{IsSmall}
-use Rattle.gos_macro.specs.Kept.{KeepLaws}
+use Rattle.gos_macro.specs.Kept.{KeepLawsInEachOrder}
 use Rattle.gos_macro.specs.Paths.{KeepPaths}
 use Rattle.gos_control.specs.Layout as control
 use Rattle.gos_control.specs.Ranges.{IsControl}
@@ -83,7 +83,7 @@ IsLaidOut (held.Computes k) = IsArith k
 IsLaidOut (held.Shares t) = IsSmall t
 
 -- they keep the laws
-pub gates_keep : (g : Gates) → IsLaidOut g → KeepLaws (part_in g) (cells_in g) (outs_in g) (late_in g) (pending_in g) (stands_in g)
+pub gates_keep : (g : Gates) → IsLaidOut g → KeepLawsInEachOrder (part_in g) (cells_in g) (outs_in g) (late_in g) (pending_in g) (stands_in g)
 gates_keep (held.Controls k) is = control_gates k is
 gates_keep (held.Computes k) is = arith_gates k is
 gates_keep (held.Shares t) is = share_gates t is

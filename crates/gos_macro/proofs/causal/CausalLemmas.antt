@@ -91,17 +91,17 @@ late_is_unseen k cells outs late rank passing fits paths b regs q pending follow
 
 -- gates that keep the law follow the rows from registers that stand for a state
 pub follow_rows : (k : Part) (cells : ℕ → Incoming → List Cell) (outs : ℕ → List Outgoing) (late : List ℕ) (pending : ℕ → Numbers → List Token)
-    → (stands : ℕ → Numbers → State → Type 0) → KeepLaws k cells outs late pending stands → (rank : Order) (b : ℕ) (regs : Numbers) (q : State) → stands b regs q
+    → (stands : ℕ → Numbers → State → Type 0) (rank : Order) → KeepLaws k cells outs late pending stands rank → (b : ℕ) (regs : Numbers) (q : State) → stands b regs q
     → FollowRows k cells outs late rank b regs q (pending b regs)
-follow_rows k cells outs late pending stands keep rank b regs q at_state i v after s ts us settled pulses fit fired =
-    (keep.law rank b i v regs after q s ts us settled pulses fit at_state fired).0
+follow_rows k cells outs late pending stands rank keep b regs q at_state i v after s ts us settled pulses fit fired =
+    (keep.law b i v regs after q s ts us settled pulses fit at_state fired).0
 
 -- so they are causal
 pub are_causal : (k : Part) (cells : ℕ → Incoming → List Cell) (outs : ℕ → List Outgoing) (late : List ℕ) (pending : ℕ → Numbers → List Token)
-    → (stands : ℕ → Numbers → State → Type 0) (passing : ℕ → ℕ → Bool) → KeepLaws k cells outs late pending stands → KeepPaths k cells outs late passing
-    → AreCausal k cells outs late pending stands passing
-are_causal k cells outs late pending stands passing keep paths =
+    → (stands : ℕ → Numbers → State → Type 0) (rank : Order) (passing : ℕ → ℕ → Bool) → KeepLaws k cells outs late pending stands rank → KeepPaths k cells outs late passing
+    → AreCausal k cells outs late pending stands rank passing
+are_causal k cells outs late pending stands rank passing keep paths =
     record {
-      partly = λ rank b regs q at_state. causal k cells outs late rank passing keep.fits paths b regs q (pending b regs) (follow_rows k cells outs late pending stands keep rank b regs q at_state);
-      early = λ rank b regs q at_state. late_is_unseen k cells outs late rank passing keep.fits paths b regs q (pending b regs) (follow_rows k cells outs late pending stands keep rank b regs q at_state);
+      partly = λ b regs q at_state. causal k cells outs late rank passing keep.fits paths b regs q (pending b regs) (follow_rows k cells outs late pending stands rank keep b regs q at_state);
+      early = λ b regs q at_state. late_is_unseen k cells outs late rank passing keep.fits paths b regs q (pending b regs) (follow_rows k cells outs late pending stands rank keep b regs q at_state);
     }

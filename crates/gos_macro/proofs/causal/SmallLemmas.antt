@@ -31,7 +31,7 @@ skip_fires_by_none =
     }
 
 pub skip_is_causal : SkipIsCausal
-skip_is_causal = are_causal Skip skip_cells skip_outs [] nothing_pending skip_stands skip_passing skip_gates skip_paths
+skip_is_causal rank = are_causal Skip skip_cells skip_outs [] nothing_pending skip_stands rank skip_passing (skip_gates rank) skip_paths
 
 pub skip_shows_its_answer : SkipShowsItsAnswer
 skip_shows_its_answer = ((λ o is alone. at_first o is), (λ shows. let wrong = shows (Bare 0) refl (omega arith) in omega (arith, wrong)))
@@ -45,6 +45,6 @@ two_are_not_shown v o is alone = absurd (omega (arith, alone))
 pub demand_is_needed : DemandIsNeeded
 demand_is_needed law =
     skip_shows_its_answer.1
-    (law Skip skip_cells skip_outs [] (λ h. 0) skip_passing skip_gates.fits skip_paths 0 [] (at Rest 0) []
-    (follow_rows Skip skip_cells skip_outs [] nothing_pending skip_stands skip_gates (λ h. 0) 0 [] (at Rest 0) refl)
+    (law Skip skip_cells skip_outs [] (λ h. 0) skip_passing (skip_gates (λ h. 0)).fits skip_paths 0 [] (at Rest 0) []
+    (follow_rows Skip skip_cells skip_outs [] nothing_pending skip_stands (λ h. 0) (skip_gates (λ h. 0)) 0 [] (at Rest 0) refl)
     joined asked_once [] none (at Rest 0) [] (refl, refl, tt) (λ h small is early. cc is) skip_fires_by_none 0 tt)

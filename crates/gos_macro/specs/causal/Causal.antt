@@ -108,10 +108,10 @@ LateIsUnseen =
     → FollowRows k cells outs late rank b regs q pending
     → ShowEarly k cells outs late rank b regs q pending
 
--- Gates are causal wherever their registers stand for a state. Those that keep the laws are.
+-- Gates are causal in an order wherever their registers stand for a state. Those that keep the laws in this order are.
 pub record AreCausal (k : Part) (cells : ℕ → Incoming → List Cell) (outs : ℕ → List Outgoing) (late : List ℕ)
-    (pending : ℕ → Numbers → List Token) (stands : ℕ → Numbers → State → Type 0) (passing : ℕ → ℕ → Bool) : Type 0 where
+    (pending : ℕ → Numbers → List Token) (stands : ℕ → Numbers → State → Type 0) (rank : Order) (passing : ℕ → ℕ → Bool) : Type 0 where
   pub partly :
-      (rank : Order) (b : ℕ) (regs : Numbers) (q : State) → stands b regs q
+      (b : ℕ) (regs : Numbers) (q : State) → stands b regs q
       → ShowPartly HearsAll k cells outs late rank passing b regs q (pending b regs)
-  pub early : (rank : Order) (b : ℕ) (regs : Numbers) (q : State) → stands b regs q → ShowEarly k cells outs late rank b regs q (pending b regs)
+  pub early : (b : ℕ) (regs : Numbers) (q : State) → stands b regs q → ShowEarly k cells outs late rank b regs q (pending b regs)

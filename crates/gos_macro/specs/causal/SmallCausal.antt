@@ -8,6 +8,7 @@ use Rattle.gos_plan.specs.Firing.{Rest, Ans, at, put}
 use Rattle.gos_macro.specs.Gates.{Incoming, ShowOneAt, nothing_pending}
 use Rattle.gos_macro.specs.SmallGates.{skip_cells, skip_outs, skip_stands}
 use Rattle.gos_macro.specs.SmallPaths.{skip_passing}
+use Rattle.gos_macro.specs.Law.{Order}
 use Rattle.gos_macro.specs.causal.Causal.{Set, PartlyFired, all, CausalUnder, AreCausal}
 
 -- all nets that come in are net 1
@@ -30,9 +31,9 @@ SkipFiresPartly = PartlyFired Skip [] (λ h. 0) asked_once joined all (at Rest 0
 abbrev pub SkipFiresByNone : Type 0
 SkipFiresByNone = PartlyFired Skip [] (λ h. 0) asked_once joined none (at Rest 0) (at Rest 0) []
 
--- its gates are causal
+-- its gates are causal in each order
 abbrev pub SkipIsCausal : Type 0
-SkipIsCausal = AreCausal Skip skip_cells skip_outs [] nothing_pending skip_stands skip_passing
+SkipIsCausal = (rank : Order) → AreCausal Skip skip_cells skip_outs [] nothing_pending skip_stands rank skip_passing
 
 -- they show the answer, and it would be wrong to say that they show none
 abbrev pub SkipShowsItsAnswer : Type 0

@@ -36,9 +36,9 @@ skip_law b i v regs after q s ts us settled pulses values stands fired =
     )
 
 pub skip_gates : SkipGates
-skip_gates =
+skip_gates rank =
     record {
-      law = law_in_order Skip skip_cells skip_outs [] nothing_pending skip_stands skip_law;
+      law = law_in_order Skip skip_cells skip_outs [] nothing_pending skip_stands skip_law rank;
       rests = λ b regs zeros. (refl, refl);
       silent = λ b i v regs after settled pulses. tt;
       fits =

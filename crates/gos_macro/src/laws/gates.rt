@@ -1,10 +1,11 @@
 // The laws of gates hold of small ones, and refuse others.
-ghost use Rattle.gos_macro.specs.SmallGates.{SkipGates, SharedGates, SilenceIsNoAnswer, ChoiceShowsOne, RepeatShowsOne, RequestsFirst, AnswerFirst, GatesOfTheOrder, GatesOfAnotherOrder, SecondAsksFirst, SecondAsksLast, OrderIsSeen, HoldsSilently, HeldIsNotSilent};
+ghost use Rattle.gos_macro.specs.SmallGates.{SkipGates, SharedGates, SilenceIsNoAnswer, ChoiceShowsOne, RepeatShowsOne, RequestsFirst, AnswerFirst, GatesOfTheOrder, GatesOfAnotherOrder, OrderCounts, SecondAsksFirst, SecondAsksLast, OrderIsSeen, HoldsSilently, HeldIsNotSilent};
 ghost use Rattle.gos_macro.specs.SmallPaths.{SkipPaths, SkipIsNoDeadEnd, SkipPuts, SkipPutsSomething, ChoicePutsLate, ChoicePutsEarly, AnswerFirstPaths, AnswerLastPaths, SharedAnswersPass, SharedRequestsWait, SharedAnswersAreNotLate, CountingIsNotNamed};
 
-/// The gates of Skip keep the law, and so do those of a Share of a command. Gates of Skip that answer nothing don't. Those of a
-/// choice that holds no request fail the law that asks for each handshake to be shown, since two answers can be due on one net;
-/// and so do those of a repeated command that asks for its first test at once, since two requests can be.
+/// The gates of Skip keep the laws in each order, and so do those of a Share of a command. Gates of Skip that answer nothing
+/// don't keep the law of a cycle. Those of a choice that holds no request fail the law that asks for each handshake to be shown,
+/// since two answers can be due on one net; and so do those of a repeated command that asks for its first test at once, since
+/// two requests can be.
 pub fn small_gates()
     ensures skip { SkipGates }
     ensures share { SharedGates }
@@ -24,10 +25,12 @@ pub fn small_orders()
 {}
 
 /// Gates of a Share that passes on all within the cycle keep the law in the order that they are made for, and don't keep it in
-/// another. A caller's request leads to its answer, which closes a cycle, where the answer comes last.
+/// another, so they don't keep the laws in each order. A caller's request leads to its answer, which closes a cycle, where the
+/// answer comes last.
 pub fn gates_of_an_order()
     ensures own { GatesOfTheOrder }
     ensures other { GatesOfAnotherOrder }
+    ensures each { OrderCounts }
     ensures answer_first { AnswerFirstPaths }
     ensures answer_last { AnswerLastPaths }
 {}

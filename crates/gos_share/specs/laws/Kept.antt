@@ -5,7 +5,7 @@ use Rattle.gos_types.specs.declared.types.Ty.{Ty}
 use Rattle.gos_types.specs.Types.{type_of}
 use Rattle.gos_plan.specs.Kinds.{Share, contacts_of}
 use Rattle.gos_plan.specs.Ranges.{IsSmall}
-use Rattle.gos_macro.specs.Kept.{KeepLaws}
+use Rattle.gos_macro.specs.Kept.{KeepLawsInEachOrder}
 use Rattle.gos_macro.specs.laws.AnyOrder.{law_in_order}
 use Rattle.gos_share.specs.Layout.{layout, outs_of, late_of, pending_of, stands_of}
 use Rattle.gos_share.specs.laws.Keeping.{share_law, share_rests}
@@ -17,14 +17,14 @@ use Rattle.gos_share.specs.laws.Widths.{type_narrow, share_right}
 -- what the laws say of the Share of a type
 abbrev pub ShareGates : Ty → Type 0
 ShareGates t =
-    KeepLaws (Share (type_of t)) (layout (Share (type_of t))) (outs_of (Share (type_of t))) (late_of (Share (type_of t))) (pending_of (Share (type_of t))) (stands_of (Share (type_of t)))
+    KeepLawsInEachOrder (Share (type_of t)) (layout (Share (type_of t))) (outs_of (Share (type_of t))) (late_of (Share (type_of t))) (pending_of (Share (type_of t))) (stands_of (Share (type_of t)))
 
 pub share_gates : (t : Ty) → IsSmall t → ShareGates t
-share_gates t small =
+share_gates t small rank =
     record {
       law =
           law_in_order (Share (type_of t)) (layout (Share (type_of t))) (outs_of (Share (type_of t))) (late_of (Share (type_of t))) (pending_of (Share (type_of t)))
-          (stands_of (Share (type_of t))) (share_law (type_of t));
+          (stands_of (Share (type_of t))) (share_law (type_of t)) rank;
       rests = share_rests (contacts_of (type_of t));
       silent = share_silent (type_of t);
       fits =
