@@ -86,7 +86,7 @@ AllCome p x a fs h j (k ∷ ks) =
     × Comes p x a fs k.role (in_bits k.role k.ask_bits k.answer_bits) (h + h + j)
     × AllCome p x a fs h (suc j) ks
 
-bears : (w a : ℕ) → (if nat_eq w 0 then 0 else a) ≡ number_of w a
+pub bears : (w a : ℕ) → (if nat_eq w 0 then 0 else a) ≡ number_of w a
 bears zero a = refl
 bears (suc w) a = grind arith
 

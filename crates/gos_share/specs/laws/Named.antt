@@ -21,15 +21,15 @@ use Rattle.gos_share.specs.laws.Own.{row_stands}
 use Rattle.gos_share.specs.laws.Order.{last_cell}
 
 -- the nets of a handshake with w bits, in the other place
-record SideNamed (f : ℕ → ℕ) (i o : Incoming) (w e : ℕ) : Type 0 where
+pub record SideNamed (f : ℕ → ℕ) (i o : Incoming) (w e : ℕ) : Type 0 where
   pub pulse : o.pulse e ≡ f (i.pulse e)
   pub value : 0 < w → o.value e ≡ f (i.value e)
 
 -- the part's own nets below a place, in the other place
-abbrev OwnNamed : (ℕ → ℕ) → ℕ → ℕ → ℕ → Type 0
+abbrev pub OwnNamed : (ℕ → ℕ) → ℕ → ℕ → ℕ → Type 0
 OwnNamed f b d size = (n : ℕ) → n < size → d + n ≡ f (b + n)
 
-side_named : (contacts : List Contact) (size : ℕ) (f : ℕ → ℕ) (b d : ℕ) (i o : Incoming) (w e : ℕ) (k : Contact) → Renames contacts size f b d i o
+pub side_named : (contacts : List Contact) (size : ℕ) (f : ℕ → ℕ) (b d : ℕ) (i o : Incoming) (w e : ℕ) (k : Contact) → Renames contacts size f b d i o
     → slice_get contacts e ≡ Some k → bits_in k.role k ≡ w → SideNamed f i o w e
 side_named contacts size f b d i o w e k names there is =
     let within = slice_get_within contacts e k there in
@@ -95,7 +95,7 @@ sent_named f i o (suc w) j b d n size own fits source =
     λ t. bit (And (source.pulse t) (to_first t)) ∷ bit (And (source.pulse t) (to_second t)) ∷ bit (Reg (o0 t)) ∷ bit (Reg (o1 t)) ∷ wide (suc w) (Reg (v t))
     ∷ wide (suc w) (Gate (o2 t) (o4 t)) ∷ wide (suc w) (Gate (o3 t) (o4 t)) ∷ []
 
-told_named : (f : ℕ → ℕ) (i o : Incoming) (w h j b d n size : ℕ) → OwnNamed f b d size → n + told_size w ≤ size
+pub told_named : (f : ℕ → ℕ) (i o : Incoming) (w h j b d n size : ℕ) → OwnNamed f b d size → n + told_size w ≤ size
     → SideNamed f i o w (h + j) → SideNamed f i o w (h + h + j)
     → told_cells w o h j d n ≡ map (with_renamed f) (told_cells w i h j b n)
 told_named f i o zero h j b d n size own fits first second = λ t. bit (Or (first.pulse t) (second.pulse t)) ∷ []
@@ -107,7 +107,7 @@ told_named f i o (suc w) h j b d n size own fits first second =
     let v2 = second.value some in
     λ t. bit (Or (first.pulse t) (second.pulse t)) ∷ wide (suc w) (Mux (second.pulse t) (v2 t) (v1 t)) ∷ wide (suc w) (Gate (o0 t) (o1 t)) ∷ []
 
-both_named : (f : ℕ → ℕ) (xs ys us vs : List Cell) → us ≡ map (with_renamed f) xs → vs ≡ map (with_renamed f) ys → us ++ vs ≡ map (with_renamed f) (xs ++ ys)
+pub both_named : (f : ℕ → ℕ) (xs ys us vs : List Cell) → us ≡ map (with_renamed f) xs → vs ≡ map (with_renamed f) ys → us ++ vs ≡ map (with_renamed f) (xs ++ ys)
 both_named f xs ys us vs first second = (λ t. first t ++ second t) ∙ sym (map-append (with_renamed f) xs ys)
 
 block_named : (r : Role) (q a : ℕ) (f : ℕ → ℕ) (i o : Incoming) (h j b d n size c1 c2 d1 d2 : ℕ) → OwnNamed f b d size → 3 ≤ n → n + block_size r q a ≤ size

@@ -25,7 +25,7 @@ pub record SideKnown (contacts : List Contact) (i : Incoming) (b : ℕ) (all : L
   pub pulse : (n : ℕ) → IsKnown contacts i b all n (i.pulse e)
   pub value : 0 < w → (n : ℕ) → IsKnown contacts i b all n (i.value e)
 
-side_known : (contacts : List Contact) (i : Incoming) (b : ℕ) (all : List Cell) (w e : ℕ) (k : Contact) → slice_get contacts e ≡ Some k → bits_in k.role k ≡ w
+pub side_known : (contacts : List Contact) (i : Incoming) (b : ℕ) (all : List Cell) (w e : ℕ) (k : Contact) → slice_get contacts e ≡ Some k → bits_in k.role k ≡ w
     → SideKnown contacts i b all w e
 side_known contacts i b all w e k there bits =
     let low = slice_get_within contacts e k there in

@@ -24,17 +24,17 @@ use Rattle.gos_share.specs.laws.Cones.{OnlyFrom, comes_alone, comes_by_pins}
 use Rattle.gos_share.specs.laws.Pairs.{AtPairs, AtAllPairs, Passes, all_pass}
 
 -- Facts of nets that a cell's net has where its pins have them; a register's net has them.
-abbrev GoesOn : ℕ → List Cell → (ℕ → Type 0) → Type 0
+abbrev pub GoesOn : ℕ → List Cell → (ℕ → Type 0) → Type 0
 GoesOn b all P = (k : ℕ) (c : Cell) → slice_get all k ≡ Some c → ((IsRegister c.gate → ⊥) → AllByRecursion P (pins c.gate)) → P (b + k)
 
 -- the fact holds of what comes in at a handshake with w bits, and of what goes out
-abbrev OfSide : (ℕ → Type 0) → Incoming → ℕ → ℕ → Type 0
+abbrev pub OfSide : (ℕ → Type 0) → Incoming → ℕ → ℕ → Type 0
 OfSide P i w e = P (i.pulse e) × (0 < w → P (i.value e))
 
-abbrev OfOut : (ℕ → Type 0) → Outgoing → Type 0
+abbrev pub OfOut : (ℕ → Type 0) → Outgoing → Type 0
 OfOut P o = (z : ℕ) → IsOut (Some o) z → P z
 
-of_outgoing : (P : ℕ → Type 0) (w p a : ℕ) → P p → (0 < w → P a) → OfOut P (outgoing w p a)
+pub of_outgoing : (P : ℕ → Type 0) (w p a : ℕ) → P p → (0 < w → P a) → OfOut P (outgoing w p a)
 of_outgoing P zero p a pulse value z is = subst P (sym is) pulse
 of_outgoing P (suc w) p a pulse value z (inl is) = subst P (sym is) pulse
 of_outgoing P (suc w) p a pulse value z (inr is) = subst P (sym is) (value (omega arith))
@@ -86,7 +86,7 @@ sent_second P (suc w) i j b n all goes stand =
     of_outgoing P (suc w) (b + (n + 3)) (b + (n + 6)) pulse (λ some. goes (n + 6) _ (stand 6 _ refl) (λ none. (pulse, (held, tt))))
 
 -- an answer of the callers comes from both of them
-told_from : (P : ℕ → Type 0) (w : ℕ) (i : Incoming) (h j b n : ℕ) (all : List Cell) → GoesOn b all P → OfSide P i w (h + j) → OfSide P i w (h + h + j)
+pub told_from : (P : ℕ → Type 0) (w : ℕ) (i : Incoming) (h j b n : ℕ) (all : List Cell) → GoesOn b all P → OfSide P i w (h + j) → OfSide P i w (h + h + j)
     → StandAt all n (told_cells w i h j b n) → OfOut P (outgoing w (b + (n + 0)) (b + (n + 2)))
 told_from P zero i h j b n all goes first second stand =
     of_outgoing P zero (b + (n + 0)) (b + (n + 2)) (goes (n + 0) _ (stand 0 _ refl) (λ none. (first.0, (second.0, tt)))) (λ some. absurd (omega (arith, some)))
@@ -123,7 +123,7 @@ block_from P Ask q a i h j b n c d all kept nets stand =
     )
 
 -- the facts hold of what goes out, from handshake e on
-abbrev AllOfOut : (ℕ → ℕ → Type 0) → ℕ → List Outgoing → Type 0
+abbrev pub AllOfOut : (ℕ → ℕ → Type 0) → ℕ → List Outgoing → Type 0
 AllOfOut P e [] = Unit {0}
 AllOfOut P e (o ∷ os) = OfOut (P e) o × AllOfOut P (suc e) os
 
@@ -161,11 +161,11 @@ row_from P ls passing i j e1 e2 b n c d all (k ∷ ks) kept nets is1 is2 pass pl
     by_role Serve q a passes here = (nets j (length ls + j) _ passes.0 here.source, nets j (length ls + length ls + j) _ passes.1 here.source)
     by_role Ask q a passes here = (nets (length ls + j) j _ passes.0 here.first, nets (length ls + length ls + j) j _ passes.1 here.second)
 
-out_both : (P : ℕ → ℕ → Type 0) (e d : ℕ) (os qs : List Outgoing) → d ≡ e + length os → AllOfOut P e os → AllOfOut P d qs → AllOfOut P e (os ++ qs)
+pub out_both : (P : ℕ → ℕ → Type 0) (e d : ℕ) (os qs : List Outgoing) → d ≡ e + length os → AllOfOut P e os → AllOfOut P d qs → AllOfOut P e (os ++ qs)
 out_both P e d [] qs is first second = let here : d ≡ e = omega (arith, is) in subst (λ (m : ℕ). AllOfOut P m qs) here second
 out_both P e d (o ∷ os) qs is first second = (first.0, out_both P (suc e) d os qs (omega (arith, is)) first.1 second)
 
-out_at : (P : ℕ → ℕ → Type 0) (e m d z : ℕ) (os : List Outgoing) → d ≡ e + m → AllOfOut P e os → IsOut (slice_get os m) z → P d z
+pub out_at : (P : ℕ → ℕ → Type 0) (e m d z : ℕ) (os : List Outgoing) → d ≡ e + m → AllOfOut P e os → IsOut (slice_get os m) z → P d z
 out_at P e m d z [] is every out = absurd out
 out_at P e zero d z (o ∷ os) is every out = let here : d ≡ e = omega (arith, is) in subst (λ (x : ℕ). P x z) (sym here) (every.0 z out)
 out_at P e (suc m) d z (o ∷ os) is every out = out_at P (suc e) m d z os (omega (arith, is)) every.1 out

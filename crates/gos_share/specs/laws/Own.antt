@@ -16,7 +16,7 @@ use Rattle.gos_share.specs.laws.Comes.{sides}
 use Rattle.gos_share.specs.laws.Row.{asked_length, sent_length, block_length}
 
 -- a pulse, and a number of w bits where there are any
-goes_out : (w : ℕ) (b : ℕ) (all : List Cell) (k : Contact) (p a : ℕ) → bits_out k.role k ≡ w → IsOwn b all p 1 → (0 < w → IsOwn b all a w)
+pub goes_out : (w : ℕ) (b : ℕ) (all : List Cell) (k : Contact) (p a : ℕ) → bits_out k.role k ≡ w → IsOwn b all p 1 → (0 < w → IsOwn b all a w)
     → GoesOut b all k (outgoing w p a)
 goes_out zero b all k p a bits pulse number = (bits, pulse)
 goes_out (suc w) b all k p a bits pulse number =
@@ -46,7 +46,7 @@ sent_out (suc w) i j b n all k bits stand = (
   goes_out (suc w) b all k _ _ bits (n + 3, _, refl, stand 3 _ refl, refl) (λ some. (n + 6, _, refl, stand 6 _ refl, refl)),
 )
 
-told_out : (w : ℕ) (i : Incoming) (h j b n : ℕ) (all : List Cell) (k : Contact) → bits_out k.role k ≡ w → StandAt all n (told_cells w i h j b n)
+pub told_out : (w : ℕ) (i : Incoming) (h j b n : ℕ) (all : List Cell) (k : Contact) → bits_out k.role k ≡ w → StandAt all n (told_cells w i h j b n)
     → GoesOut b all k (outgoing w (b + (n + 0)) (b + (n + 2)))
 told_out zero i h j b n all k bits stand = (bits, (n + 0, _, refl, stand 0 _ refl, refl))
 told_out (suc w) i h j b n all k bits stand =
@@ -100,7 +100,7 @@ row_out i h j b n c d all (k ∷ ks) stand =
     let rest = row_out i h (suc j) b (n + size) next_c next_d all ks (stand_right all n size block row (block_length k.role q a i h j b n c d) stand) in
     ((here.0, rest.0), (here.1, rest.1), (here.2, rest.2))
 
-out_append : (b : ℕ) (all : List Cell) (ks ls : List Contact) (os qs : List Outgoing) → AllGoOut b all ks os → AllGoOut b all ls qs → AllGoOut b all (ks ++ ls) (os ++ qs)
+pub out_append : (b : ℕ) (all : List Cell) (ks ls : List Contact) (os qs : List Outgoing) → AllGoOut b all ks os → AllGoOut b all ls qs → AllGoOut b all (ks ++ ls) (os ++ qs)
 out_append b all [] ls [] qs first second = second
 out_append b all [] ls (o ∷ os) qs first second = absurd first
 out_append b all (k ∷ ks) ls [] qs first second = absurd first

@@ -21,7 +21,7 @@ abbrev pub SharePaths : Ty → Type 0
 SharePaths t =
     KeepPaths (Share (type_of t)) (layout (Share (type_of t))) (outs_of (Share (type_of t))) (late_of (Share (type_of t))) (passing_of (Share (type_of t)))
 
-pulse_goes_out : (o : Option Outgoing) (z : ℕ) → IsPulseOut o z → IsOut o z
+pub pulse_goes_out : (o : Option Outgoing) (z : ℕ) → IsPulseOut o z → IsOut o z
 pulse_goes_out None z out = out
 pulse_goes_out (Some (Bare p)) z out = out
 pulse_goes_out (Some (Bearing p a)) z out = inl out

@@ -21,7 +21,7 @@ use Rattle.gos_share.specs.laws.Comes.{sides, IsPlaced, ArePlaced, all_placed}
 use Rattle.gos_share.specs.laws.Pairs.{AtPairs, AtAllPairs, Passes, all_pass, tells_at}
 
 -- a token that is due is put at its handshake
-put_there : (s : Slot) (x to : ℕ) → 0 < due to (put s x ∷ []) → shake_of s ≡ to
+pub put_there : (s : Slot) (x to : ℕ) → 0 < due to (put s x ∷ []) → shake_of s ≡ to
 put_there s x to some = by_test (nat_eq (shake_of s) to) refl some
   where
     by_test : (b : Bool) → nat_eq (shake_of s) to ≡ b → 0 < (if b then 1 else 0) → shake_of s ≡ to
@@ -29,7 +29,7 @@ put_there s x to some = by_test (nat_eq (shake_of s) to) refl some
     by_test false is more = absurd (omega (arith, more))
 
 -- of the callers' handshakes j, that of the branch is one of two, since there are no more callers
-by_branch : (P : ℕ → Type 0) (h b j m : ℕ) → m ≡ h + b * h + j → m < h + (h + h) → P (h + j) → P (h + h + j) → P m
+pub by_branch : (P : ℕ → Type 0) (h b j m : ℕ) → m ≡ h + b * h + j → m < h + (h + h) → P (h + j) → P (h + h + j) → P m
 by_branch P h zero j m is small first second = let here : h + j ≡ m = omega (arith, is) in subst P here first
 by_branch P h (suc zero) j m is small first second = let here : h + h + j ≡ m = omega (arith, is) in subst P here second
 by_branch P h (suc (suc b)) j m is small first second =
@@ -107,7 +107,7 @@ rows_lead ls b j (k ∷ ks) s w placed pairs is =
         ]
 
 -- a Share has so many handshakes
-sides_count : (ks : List Contact) → length (sides ks) ≡ length ks + (length ks + length ks)
+pub sides_count : (ks : List Contact) → length (sides ks) ≡ length ks + (length ks + length ks)
 sides_count ks =
     let long = length-map ks turned_contact in
     let one = length-append (other_side ks) (ks ++ ks) in

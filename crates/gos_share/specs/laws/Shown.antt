@@ -30,7 +30,7 @@ first_table (suc zero) (suc zero) g h = refl
 first_table (suc (suc n)) p g h = absurd (omega (arith, g))
 first_table n (suc (suc p)) g h = absurd (omega (arith, h))
 
-second_table : (n p : ℕ) → n ≤ 1 → p ≤ 1 → bit_and p n ≡ to_second n p
+pub second_table : (n p : ℕ) → n ≤ 1 → p ≤ 1 → bit_and p n ≡ to_second n p
 second_table zero zero g h = refl
 second_table zero (suc zero) g h = refl
 second_table (suc zero) zero g h = refl
@@ -55,7 +55,7 @@ either_table (suc (suc p)) q h = absurd (omega (arith, h))
 either_table p (suc (suc q)) h = absurd (omega (arith, h))
 
 -- a number that is let through with a pulse
-gated : (p a : ℕ) → p ≤ 1 → (if nat_eq p 1 then a else 0) ≡ repeated p a
+pub gated : (p a : ℕ) → p ≤ 1 → (if nat_eq p 1 then a else 0) ≡ repeated p a
 gated zero a h = refl
 gated (suc zero) a h = omega arith
 gated (suc (suc p)) a h = absurd (omega (arith, h))

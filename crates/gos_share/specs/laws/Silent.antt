@@ -16,20 +16,20 @@ use Rattle.gos_macro.specs.laws.SettledCells.{settled_both, settled_at}
 use Rattle.gos_share.specs.laws.Row.{asked_length, sent_length, block_length}
 
 -- the number at a handshake is 0 where its pulse is
-abbrev SilentAt : Numbers → Outgoing → Type 0
+abbrev pub SilentAt : Numbers → Outgoing → Type 0
 SilentAt v (Bare p) = Unit {0}
 SilentAt v (Bearing p a) = at v p ≡ 0 → at v a ≡ 0
 
-one_behind : (v : Numbers) (o : Outgoing) (os : List Outgoing) → SilentAt v o → AreSilent v os → AreSilent v (o ∷ os)
+pub one_behind : (v : Numbers) (o : Outgoing) (os : List Outgoing) → SilentAt v o → AreSilent v os → AreSilent v (o ∷ os)
 one_behind v (Bare p) os first rest = rest
 one_behind v (Bearing p a) os first rest = (first, rest)
 
-silent_append : (v : Numbers) (os qs : List Outgoing) → AreSilent v os → AreSilent v qs → AreSilent v (os ++ qs)
+pub silent_append : (v : Numbers) (os qs : List Outgoing) → AreSilent v os → AreSilent v qs → AreSilent v (os ++ qs)
 silent_append v [] qs first second = second
 silent_append v (Bare p ∷ os) qs first second = silent_append v os qs first second
 silent_append v (Bearing p a ∷ os) qs first second = (first.0, silent_append v os qs first.1 second)
 
-let_through : (p a number : ℕ) → number ≡ (if nat_eq p 1 then a else 0) → p ≡ 0 → number ≡ 0
+pub let_through : (p a number : ℕ) → number ≡ (if nat_eq p 1 then a else 0) → p ≡ 0 → number ≡ 0
 let_through p a number shown none = shown ∙ (rw none refl)
 
 asked_silent : (w : ℕ) (i : Incoming) (h j b n : ℕ) (v regs after : Numbers) → Settled v regs after b n (asked_cells w i h j b n)
@@ -70,7 +70,7 @@ sent_silent (suc w) i j b n v regs after settled =
       let_through (at v (b + (n + 3))) (at v (b + (n + 4))) (at v (b + (n + 6))) c6.0,
     )
 
-told_silent : (w : ℕ) (i : Incoming) (h j b n : ℕ) (v regs after : Numbers) → Settled v regs after b n (told_cells w i h j b n)
+pub told_silent : (w : ℕ) (i : Incoming) (h j b n : ℕ) (v regs after : Numbers) → Settled v regs after b n (told_cells w i h j b n)
     → SilentAt v (outgoing w (b + (n + 0)) (b + (n + 2)))
 told_silent zero i h j b n v regs after settled = tt
 told_silent (suc w) i h j b n v regs after settled =

@@ -28,7 +28,7 @@ answered_ways (suc w) i j b n all stand = (
   (n + 1, _, refl, stand 1 _ refl, (λ r. cc r.1), (0, omega arith, refl)),
 )
 
-told_ways : (w : ℕ) (i : Incoming) (h j b n : ℕ) (all : List Cell) → StandAt all n (told_cells w i h j b n)
+pub told_ways : (w : ℕ) (i : Incoming) (h j b n : ℕ) (all : List Cell) → StandAt all n (told_cells w i h j b n)
     → Drives b all (i.pulse (h + j)) (b + (n + 0)) × Drives b all (i.pulse (h + h + j)) (b + (n + 0))
 told_ways zero i h j b n all stand = (
   (n + 0, _, refl, stand 0 _ refl, (λ r. cc r.1), (0, omega arith, refl)),
@@ -44,7 +44,7 @@ pulse_out zero p a = refl
 pulse_out (suc w) p a = refl
 
 -- the pulse that comes in at one handshake drives that which goes out at another
-by_one_cell : (b : ℕ) (i : Incoming) (all : List Cell) (outs : List Outgoing) (from to w p a : ℕ) → slice_get outs to ≡ Some (outgoing w p a)
+pub by_one_cell : (b : ℕ) (i : Incoming) (all : List Cell) (outs : List Outgoing) (from to w p a : ℕ) → slice_get outs to ≡ Some (outgoing w p a)
     → Drives b all (i.pulse from) p → PulseLeadsOn b i all outs from to
 by_one_cell b i all outs from to w p a there drives =
     (p, [], subst (λ o. IsPulseOut o p) (sym there) (pulse_out w p a), drives)
@@ -62,13 +62,13 @@ block_ways Ask q a i h j b n c d all outs source first second stand =
     (by_one_cell b i all outs (h + j) j a _ _ source ways.0, by_one_cell b i all outs (h + h + j) j a _ _ source ways.1)
 
 -- what goes out stands among others from place e on
-abbrev OutAt : List Outgoing → ℕ → List Outgoing → Type 0
+abbrev pub OutAt : List Outgoing → ℕ → List Outgoing → Type 0
 OutAt outs e os = (m : ℕ) (o : Outgoing) → slice_get os m ≡ Some o → slice_get outs (e + m) ≡ Some o
 
-out_here : (outs os : List Outgoing) (e d : ℕ) (o : Outgoing) → e ≡ d → OutAt outs e (o ∷ os) → slice_get outs d ≡ Some o
+pub out_here : (outs os : List Outgoing) (e d : ℕ) (o : Outgoing) → e ≡ d → OutAt outs e (o ∷ os) → slice_get outs d ≡ Some o
 out_here outs os e d o is there = let here : e + 0 ≡ d = omega (arith, is) in subst (λ (m : ℕ). slice_get outs m ≡ Some o) here (there 0 o refl)
 
-out_behind : (outs os : List Outgoing) (e : ℕ) (o : Outgoing) → OutAt outs e (o ∷ os) → OutAt outs (suc e) os
+pub out_behind : (outs os : List Outgoing) (e : ℕ) (o : Outgoing) → OutAt outs e (o ∷ os) → OutAt outs (suc e) os
 out_behind outs os e o there m p at =
     let here : e + suc m ≡ suc e + m = omega arith in subst (λ (k : ℕ). slice_get outs k ≡ Some p) here (there (suc m) p at)
 
@@ -95,12 +95,12 @@ row_ways i h j e1 e2 b n c d all outs (k ∷ ks) is1 is2 source first second sta
           (stand_right all n size block row (block_length k.role q a i h j b n c d) stand),
     )
 
-out_left : (os qs : List Outgoing) (m : ℕ) (o : Outgoing) → slice_get os m ≡ Some o → slice_get (os ++ qs) m ≡ Some o
+pub out_left : (os qs : List Outgoing) (m : ℕ) (o : Outgoing) → slice_get os m ≡ Some o → slice_get (os ++ qs) m ≡ Some o
 out_left [] qs m o there = absurd (cc there)
 out_left (p ∷ os) qs zero o there = there
 out_left (p ∷ os) qs (suc m) o there = out_left os qs m o there
 
-out_right : (os qs : List Outgoing) (l : ℕ) → length os ≡ l → OutAt (os ++ qs) l qs
+pub out_right : (os qs : List Outgoing) (l : ℕ) → length os ≡ l → OutAt (os ++ qs) l qs
 out_right [] qs l long m o there = let here : m ≡ l + m = omega (arith, long) in subst (λ (e : ℕ). slice_get qs e ≡ Some o) here there
 out_right (p ∷ os) qs zero long m o there = absurd (omega (arith, long))
 out_right (p ∷ os) qs (suc l) long m o there =

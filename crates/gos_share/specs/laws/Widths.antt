@@ -64,10 +64,10 @@ pub type_narrow : (t : Type') → HasWidths t → AreNarrow (contacts_of t)
 type_narrow t widths = contacts_narrow (handshakes_of t) (shakes_narrow t widths)
 
 -- the nets of a handshake have their bits
-abbrev SideBits : List ℕ → Incoming → ℕ → ℕ → Type 0
+abbrev pub SideBits : List ℕ → Incoming → ℕ → ℕ → Type 0
 SideBits bits i w e = (width_at bits (i.pulse e) ≡ 1) × (0 < w → width_at bits (i.value e) ≡ w)
 
-side_bits : (contacts : List Contact) (i : Incoming) (bits : List ℕ) (w e : ℕ) (k : Contact) → BitsComeIn contacts i bits → slice_get contacts e ≡ Some k → bits_in k.role k ≡ w
+pub side_bits : (contacts : List Contact) (i : Incoming) (bits : List ℕ) (w e : ℕ) (k : Contact) → BitsComeIn contacts i bits → slice_get contacts e ≡ Some k → bits_in k.role k ≡ w
     → SideBits bits i w e
 side_bits contacts i bits w e k come there is =
     let known = come e (slice_get_within contacts e k there) in
@@ -138,7 +138,7 @@ sent_right (suc w) i j b n bits narrow source to_caller to_other have =
       ),
     )
 
-told_right : (w : ℕ) (i : Incoming) (h j b n : ℕ) (bits : List ℕ) → w ≤ GREATEST_WIDTH → SideBits bits i w (h + j) → SideBits bits i w (h + h + j)
+pub told_right : (w : ℕ) (i : Incoming) (h j b n : ℕ) (bits : List ℕ) → w ≤ GREATEST_WIDTH → SideBits bits i w (h + j) → SideBits bits i w (h + h + j)
     → HaveBits bits b n (told_cells w i h j b n) → AllByRecursion (HasRightWidths bits) (told_cells w i h j b n)
 told_right zero i h j b n bits narrow first second have = ((omega arith, omega arith, (first.0, second.0)), tt)
 told_right (suc w) i h j b n bits narrow first second have =

@@ -1,0 +1,19 @@
+-- Proofs of the laws of these gates, and what they stand on. In reading order: a file uses only files above it.
+pub mod Turns
+pub mod Moved
+pub mod Fired
+pub mod Threaded
+pub mod Shown
+pub mod Keeping
+pub mod Silent
+pub mod Own
+pub mod Named
+pub mod Widths
+pub mod Kept
+pub mod Tops
+pub mod Pairs
+pub mod Puts
+pub mod Ways
+pub mod Origins
+pub mod Renamed
+pub mod Paths
