@@ -317,13 +317,13 @@ class Provers(Mutex):
 
     CLAIM = "assert never: !a_uses__run\n"
 
-    def by(self, lines, *options):
+    def by(self, lines, *options, claim=CLAIM):
         """What is said where this is abc."""
         there = self.path / "there"
         there.mkdir(exist_ok=True)
         (there / "berkeley-abc").write_text(f"#!/bin/bash\n{lines}\n")
         (there / "berkeley-abc").chmod(0o755)
-        return self.formal(self.CLAIM, *options, PATH=f"{there}:{os.environ['PATH']}")
+        return self.formal(claim, *options, PATH=f"{there}:{os.environ['PATH']}")
 
     def test_no_words_are_a_proof(self):
         right, checked = "f : i/o =   10/    1  lat =   19  and =     63", "Verification of invariant with 5 clauses was successful."
@@ -333,6 +333,12 @@ class Provers(Mutex):
             with self.subTest(lines):
                 said, status = self.by(lines, "--seconds", "6")
                 self.assertEqual((status, "proved of" in said, "fails" in said), (4, False, False), said)
+
+    def test_each_claim_by_itself(self):
+        """Where abc has no proof of all together, each claim has its own."""
+        once = f'case "$*" in *pdr*) [ -e asked ] || {{ touch asked; exit 1; }} ;; esac\nexec {provers.abc()} "$@"'
+        said, status = self.by(once, claim="assert exclusion: !(a_uses__run__open && b_uses__run__open)\n")
+        self.assertEqual((said, status), (f"proved of all numbers of cycles: {PORTS}, exclusion\n", 0))
 
     def test_a_run_is_tried(self):
         said, status = self.by("echo 'Output 0 of miter \"cone\" was asserted in frame 3.'; echo 0000 >cex.txt", "--seconds", "6")

@@ -8,7 +8,9 @@ import contextlib
 import errno
 import io
 import os
+import pty
 import re
+import select
 import shutil
 import signal
 import subprocess
@@ -206,6 +208,44 @@ class Ended(built.Case):
                 while not mark.exists() and time.monotonic() - begun < SECONDS:
                     time.sleep(0.02)
                 self.assertEqual(self.end(child, number), wanted)
+
+
+class Long(built.Case):
+    """Scripts that go on for long say on a terminal how far they are, after two seconds."""
+
+    def says(self, wanted, words, **environment):
+        """Has a script, whose program or peer is at work for long, say this; and ends it."""
+        ours, theirs = pty.openpty()
+        how = {"cwd": self.room.path, "stdin": subprocess.DEVNULL, "stdout": subprocess.DEVNULL, "env": {**os.environ, "TERM": "xterm", **environment}}
+        child = subprocess.Popen([str(it) for it in words], stderr=theirs, **how)
+        os.close(theirs)
+        said, ends = b"", time.monotonic() + SECONDS
+        while not re.search(wanted, said.decode()) and time.monotonic() < ends and child.poll() is None:
+            said += os.read(ours, 4096) if select.select([ours], [], [], 0.1)[0] else b""
+        child.terminate()
+        child.wait()
+        os.close(ours)
+        self.assertRegex(said.decode(), wanted)
+
+    def sleeper(self, name):
+        """A program that sleeps."""
+        path = self.room.path / name
+        path.write_text("#!/bin/sh\nexec sleep 10\n")
+        path.chmod(0o755)
+        return path
+
+    def test_those_that_run_a_program(self):
+        for name, wanted in (("fuzz/run", "0 of 2000 cases"), ("peers/check", r"0 of \d+ circuits"), ("bench/designs.py", "0 of 1 designs")):
+            with self.subTest(name):
+                words = [*words_of(TOP / name), self.sleeper("gos"), *RUNNERS[name].split()]
+                self.says(rf"\r{name}: {wanted}(, \w+ is built)?, \d+ s", words)
+
+    def test_those_that_run_a_peer(self):
+        for it in (TOP / "examples/sequence").iterdir():
+            shutil.copy(it, self.room.path)
+        self.room.run(self.room.gos, "build", "b.txt")
+        path = f"{self.sleeper('iverilog').parent}:{os.environ['PATH']}"
+        self.says(r"\rgos-bench: iverilog is at work, \d+ s", [*words_of(built.TOOLS / "gos-bench"), "b.txt"], PATH=path)
 
 
 class Outputs(built.Case):

@@ -5,6 +5,7 @@ usage: tools/tests/test_pages.py GOS [WORDS OF unittest]
 """
 import re
 import shutil
+import subprocess
 import unittest
 from pathlib import Path
 
@@ -40,6 +41,14 @@ def first_example():
     """The two columns of the first example in README.md, line by line."""
     block = next(it for it in README.split("\n\n") if it.startswith("    "))
     return zip(*(re.match(r"    (.*?) {3,}(\d.*)", line).groups() for line in block.split("\n")))
+
+
+def forward_edges():
+    """The edges from a crate to one of a later part of docs/ARCHITECTURE.md, as crates.txt names them."""
+    plan, uses = (TOP / "docs" / "ARCHITECTURE.md").read_text(), (TOP / "crates.txt").read_text()
+    part = {name: at for at, block in enumerate(plan.split("\n\n")) for name in re.findall(r"(?m)^    (gos\w*)(?: |$)", block)}
+    edges = [(name, other) for name, below in re.findall(r"(?m)^(\w+)[^:\n]*:(.*)$", uses) for other in below.split()]
+    return {(name, other) for name, other in edges if name in part and part.get(other, 0) > part[name]}
 
 
 def books():
@@ -85,6 +94,35 @@ class Readme(built.Case):
         self.assertIn(f"{count.capitalize()} crates of laws, `gos_programs` to `gos_linked`", plain(README))
         self.assertIn(f"Laws on programs and plans are {count} crates", (TOP / "docs" / "DECISIONS.md").read_text())
 
+    def test_what_tidy_leaves_of_the_examples(self):
+        self.assertIn("on the examples to two thirds of the cells, though an iCE40's LUTs stay about as many", plain(README))
+        said = [self.tidied(it.parent) for it in sorted((TOP / "examples").glob("*/b.txt"))]
+        before, after = map(sum, zip(*said))
+        self.assertEqual(round(3 * after / before), 2, (before, after))
+
+    def tidied(self, example):
+        """How many cells an example's circuit has before and after `gos tidy`."""
+        room = built.Room(shutil.copytree(example, self.room.path / example.name))
+        for line in map(str.split, (room.path / "b.txt").read_text().split("\n")):
+            if line[:1] == ["inst"]:
+                room.run(room.gos, "compile", *line[2:])
+            elif line[:1] == ["net"]:
+                net = line[1]
+        room.run(room.gos, "link", "b.txt")
+        return [int(it) for it in re.findall(r"\d+", room.run(room.gos, "tidy", net, "tidy.net").stdout)]
+
+    @unittest.skipUnless(shutil.which("strace"), "strace is not installed")
+    def test_a_file_is_read_once_for_each_place_that_names_it(self):
+        self.assertIn("A file is read once for each place that names it", plain(README))
+        self.room.write(m__gos="import c : com\nexport c : com\n", in__pls="cycles 5\n", b__txt=built.BUILD.format(
+            "inst a m.gos a.obj\ninst b m.gos b.obj\nbind a c b\n", "a"))
+        words = ["strace", "-f", "-qq", "-e", "trace=open,openat", "-o", "calls", self.room.gos, "build", "b.txt"]
+        ran = subprocess.run(words, cwd=self.room.path, capture_output=True, text=True)
+        if "ok " not in ran.stdout:
+            self.skipTest(f"strace can't be used: {ran.stderr}")
+        calls = (self.room.path / "calls").read_text()
+        self.assertEqual([calls.count(f'"{name}", O_RDONLY') for name in ("b.txt", "m.gos", "in.pls")], [1, 2, 1])
+
     def test_each_row_of_the_tables_has_links(self):
         rows = [row for row in re.findall(r"^\| (.*) \|$", README, re.M) if row not in ("You design | You verify", "To find | Read")]
         self.assertGreaterEqual(len(rows), 10)
@@ -97,6 +135,34 @@ class Readme(built.Case):
         linked = set(LINK.findall(README))
         pages = {str(page.relative_to(TOP)) for page in (TOP / "docs").glob("*.md")}
         self.assertEqual(pages - {it.split("#")[0] for it in linked}, set())
+
+
+class Others(unittest.TestCase):
+    """What docs/ARCHITECTURE.md, docs/TRUST.md and docs/INSTALL.md say."""
+
+    def test_edges_that_lead_forward(self):
+        edges = forward_edges()
+        said = re.search(r"(\w+) edges lead forward: (.*?)\.", plain((TOP / "docs" / "ARCHITECTURE.md").read_text()))
+        self.assertEqual(said[1].lower(), NUMBERS[len(edges)])
+        # (a name behind `from` is that of a crate that the last one before stands on)
+        named, user = set(), ""
+        for before, name in re.findall(r"(from )?(gos_\w+)", said[2]):
+            user = user if before else name
+            named |= {(user, name)} if before else set()
+        self.assertEqual(named, edges)
+
+    def test_commands_that_could_write_over_what_they_read(self):
+        """docs/TRUST.md names just those for which the script gos looks at the names of files."""
+        script = (TOP / "gos").read_text()
+        looked = re.findall(r'"(\w+) \d"', script[script.index("find_files() {"):script.index("find_keys_of_few() {")])
+        said = re.search(r"That \*\*each file has one name\*\*.*?The script `gos` refuses this", plain((TOP / "docs" / "TRUST.md").read_text()))[0]
+        self.assertEqual(sorted({*re.findall(r"`([a-z]+)`", said), "demo"}), sorted({*looked, "gos"}))
+
+    def test_what_the_scripts_need(self):
+        text = plain((TOP / "docs" / "INSTALL.md").read_text())
+        self.assertIn("The scripts need Python 3.10 or later, Bash 4.4 or later, an awk, and GNU's `coreutils`, `findutils`, `diffutils`, `grep` and "
+                      "`sed`", text)
+        self.assertIn("`.ci/run` is the gate: it proves what changed", text)
 
 
 class Pages(unittest.TestCase):
