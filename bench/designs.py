@@ -16,8 +16,8 @@ each cycle; in the runs that are measured, in the cycles in which the trace has 
 
 Times are of the processor. That of a run which ends after one cycle is taken from that of the whole, so what is read and made
 before isn't in it; in that of gos is that the trace is written, in a peer's that inputs are given and outputs compared. All take
-turns, five times, or ROUNDS times where the environment says so, and the least time of each counts. The status is 3 where a trace
-or outputs differ.
+turns, five times, or ROUNDS times where the environment says so, and the least time of each counts. vvp runs a tenth of the cycles
+in these turns. The status is 3 where a trace or outputs differ.
 """
 
 import argparse
@@ -113,20 +113,26 @@ def long_pulses(design, programs, cycles):
 
 def peer_command(peer, design, pulses, cycles):
     """The command of a peer, which shows what the trace says in each cycle."""
-    command = SIMULATORS[peer][1](Replay(design.folder, design.verilog, design.pins, pulses))
+    command = SIMULATORS[peer].made_by(Replay(design.folder, design.verilog, design.pins, pulses))
     said = called(command(cycles, each=True), design.folder).strip().splitlines()
     if said[-1:] != ['agrees']:
         raise manners.Wrong(f'{design.name}: {peer} {said[-1] if said else "says nothing"}', builds.RUN_IS_WRONG)
     return command
 
 
-def cycle_times(commands, cycles, folder):
-    """The seconds of the processor that a cycle takes by each command."""
+def of_share(command, share):
+    """A command for one cycle of so many, and for two or more."""
+    return lambda cycles: command(max(2, cycles // share))
+
+
+def cycle_times(commands, shares, cycles, folder):
+    """The seconds of the processor that a cycle takes by each command, each of which runs one cycle of so many as its share says."""
     try:
-        few, many = (least(commands, number, folder, ROUNDS, LIMIT) for number in (1, cycles))
+        few = least(commands, 1, folder, ROUNDS, LIMIT)
+        many = least(list(map(of_share, commands, shares)), cycles, folder, ROUNDS, LIMIT)
     except TooLong as error:
         raise manners.Wrong(f'a run takes longer than {LIMIT} s', builds.RUN_IS_WRONG) from error
-    return [max(long - short, 1e-9) / (cycles - 1) for short, long in zip(few, many)]
+    return [max(long - short, 1e-9) / (max(2, cycles // share) - 1) for short, long, share in zip(few, many, shares)]
 
 
 def measured(programs, peers, name, cycles, progress):
@@ -137,8 +143,9 @@ def measured(programs, peers, name, cycles, progress):
         pulses = long_pulses(design, programs, cycles)
         commands = [gos_command(gos, design, 'out.trc') for gos in programs]
         commands += [peer_command(peer, design, pulses, cycles) for peer in peers]
+        shares = [1] * len(programs) + [SIMULATORS[peer].share for peer in peers]
         progress.now(f'{name} is run')
-        return design.cells(), len(pulses), cycle_times(commands, cycles, design.folder)
+        return design.cells(), len(pulses), cycle_times(commands, shares, cycles, design.folder)
 
 
 def ratios(times, count):
@@ -179,7 +186,7 @@ def main(words):
     parser.add_argument('--cycles', type=cycle_count, default=CYCLES)
     asked = parser.parse_args(words)
     programs, names = [manners.program(name) for name in asked.programs], asked.names or NAMES
-    peers = [peer for peer, (command, _) in SIMULATORS.items() if shutil.which(command)]
+    peers = [peer for peer, it in SIMULATORS.items() if it.is_there()]
     found = []
     with manners.Progress('designs', len(names)) as progress:
         for missing in SIMULATORS.keys() - peers:

@@ -6,9 +6,11 @@ something happens from a file, and runs as many cycles as it is told. Told so, i
 those of the file.
 """
 
+import shutil
 import struct
 import subprocess
 import sys
+from collections.abc import Callable
 from dataclasses import dataclass
 from pathlib import Path
 
@@ -200,5 +202,16 @@ def by_verilator(replay):
     return lambda cycles, each=False: ['obj_dir/Vcircuit', str(cycles), str(int(each))]
 
 
-# The simulators, each with the command that has to be installed, and what makes its own.
-SIMULATORS = {'vvp': ('iverilog', by_vvp), 'Verilator': ('verilator', by_verilator)}
+@dataclass
+class Simulator:
+    """A simulator: the command that has to be installed, what makes its own one for a replay, and of how many cycles one is enough to
+    measure it."""
+    command: str
+    made_by: Callable
+    share: int
+
+    def is_there(self):
+        return shutil.which(self.command) is not None
+
+
+SIMULATORS = {'vvp': Simulator('iverilog', by_vvp, 10), 'Verilator': Simulator('verilator', by_verilator, 1)}

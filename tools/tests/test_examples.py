@@ -155,7 +155,7 @@ class Designs(built.Case):
 
     def test_its_rows(self):
         ran = self.measured(self.room.gos, self.room.gos)
-        peers = [name for name, (command, _) in replays.SIMULATORS.items() if shutil.which(command)]
+        peers = [name for name, it in replays.SIMULATORS.items() if it.is_there()]
         head, _, row, mean = [line.strip("| ").split(" | ") for line in ran.stdout.splitlines() if line.startswith("|")]
         self.assertEqual(ran.returncode, 0, ran.stderr)
         self.assertEqual(head[:5 + len(peers)], ["design", "cells", "pulses", "program 1", "program 2", *peers])
@@ -183,11 +183,11 @@ class Designs(built.Case):
         ran = self.room.build({"main": PASSING}, PASSED)
         self.assertEqual(ran.values("to_64.write"), [(1 << 64) - 1 - (1 << 64) // 3])
         replay, cycles = self.replay()
-        for name, (command, made_by) in replays.SIMULATORS.items():
+        for name, it in replays.SIMULATORS.items():
             with self.subTest(name):
-                if not shutil.which(command):
-                    self.skipTest(f"{command} is not installed")
-                self.assertEqual(self.room.run(*made_by(replay)(cycles, each=True)).stdout, "agrees\n")
+                if not it.is_there():
+                    self.skipTest(f"{it.command} is not installed")
+                self.assertEqual(self.room.run(*it.made_by(replay)(cycles, each=True)).stdout, "agrees\n")
 
     def test_the_moves_for_verilator_stand_without_gaps(self):
         self.room.build({"main": PASSING}, PASSED)
@@ -202,11 +202,11 @@ class Designs(built.Case):
         self.room.run(self.room.gos, "build", "b.txt")
         left_out = next(it for it in self.replay()[0].pulses if it[1] == "wish.ask")
         replay, cycles = self.replay(left_out)
-        for name, (command, made_by) in replays.SIMULATORS.items():
+        for name, it in replays.SIMULATORS.items():
             with self.subTest(name):
-                if not shutil.which(command):
-                    self.skipTest(f"{command} is not installed")
-                run = made_by(replay)
+                if not it.is_there():
+                    self.skipTest(f"{it.command} is not installed")
+                run = it.made_by(replay)
                 self.assertEqual(self.room.run(*run(cycles, each=True)).stdout, f"differs in cycle {left_out[0]}\n")
 
 
