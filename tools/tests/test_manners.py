@@ -349,7 +349,8 @@ class Progress(unittest.TestCase):
                 setattr(progress, name, seconds)
             with progress:
                 progress.step(4)
-                while times and "4 of 9 cases" not in stream.getvalue():
+                ends = time.monotonic() + SECONDS / 4
+                while times and "4 of 9 cases" not in stream.getvalue() and time.monotonic() < ends:
                     time.sleep(0.01)
                 progress.print("a line")
         return stream.getvalue(), out.getvalue()
