@@ -153,7 +153,7 @@ class Ended(built.Case):
 
     def test_while_a_file_is_read(self):
         for name in ("gos-wave", "gos-vcd", "gos-picture", "gos-play", "gos-cost", "gos-formal", "gos-bench", "gos-why", "gos-explain-show", "gos-fmt",
-                     "aag-to-aig"):
+                     "gos-top", "aag-to-aig"):
             with self.subTest(name):
                 pipe = self.room.path / f"{name}.txt"
                 os.mkfifo(pipe)
@@ -257,11 +257,13 @@ class Outputs(built.Case):
             shutil.copy(it, self.room.path)
         self.room.run(self.room.gos, "build", "b.txt")
         self.room.run(self.room.gos, "gates", "out.net", "a.aag")
+        self.room.write(top__txt="board icestick\ncircuit out.net out.v\nmain runs once\nline is pin 1\nhalf_a_bit takes 52 cycles\n"
+                                 "bit beats every 104 cycles from half_a_bit.done\nreceived is pins 2 3 4 7 8 9 10 11\n")
         fault = "main.gos: C1 d at 7..8"
         self.calls = [[built.TOOLS / name, *words] for name, *words in (
             ("gos-wave", "out.net", "out.trc"), ("gos-vcd", "out.net", "out.trc"), ("gos-picture", "b.txt"), ("gos-cost", "b.txt"),
             ("gos-cost", "--parts", "b.txt"), ("gos-explain-show", "--to", "40", "b.txt"), ("gos-where", fault), ("gos-why", "b.txt"),
-            ("gos-play", "--gos", self.room.gos, "b.txt", "uart.play"), ("gos-make", "--module", "mul", "W=8"), ("gos-bench", "b.txt"))]
+            ("gos-play", "--gos", self.room.gos, "b.txt", "uart.play"), ("gos-make", "--module", "mul", "W=8"), ("gos-bench", "b.txt"), ("gos-top", "top.txt"))]
 
     def test_it_is_said(self):
         writer = closed_pipe()
