@@ -220,8 +220,10 @@ class Long(built.Case):
         child = subprocess.Popen([str(it) for it in words], stderr=theirs, **how)
         os.close(theirs)
         said, ends = b"", time.monotonic() + SECONDS
-        while not re.search(wanted, said.decode()) and time.monotonic() < ends and child.poll() is None:
-            said += os.read(ours, 4096) if select.select([ours], [], [], 0.1)[0] else b""
+        # (where the script is over, a read of its terminal ends with an error)
+        with contextlib.suppress(OSError):
+            while not re.search(wanted, said.decode()) and time.monotonic() < ends:
+                said += os.read(ours, 4096) if select.select([ours], [], [], 0.1)[0] else b""
         child.terminate()
         child.wait()
         os.close(ours)
