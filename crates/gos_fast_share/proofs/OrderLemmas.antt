@@ -1,6 +1,6 @@
 -- Which order is that of some ranks, and cycles in which gates that are made for another one go wrong.
-use Rattle.std.proofs.Common.{◌≡◌, ℕ, zero, suc, ◌<◌, ◌≤◌, ◌^◌, Bool, true, false, List, [], ◌∷◌, refl, sym, ◌∙◌, ap, subst, arith, pow_pos, if◌then◌else◌}
-use Rattle.std.specs.Prelude.{nat_eq, length}
+use Rattle.std.proofs.Common.{ℕ, ◌<◌, ◌≤◌, ◌^◌, Bool, true, false, List, [], ◌∷◌, refl, arith, pow_pos, if◌then◌else◌}
+use Rattle.std.specs.Prelude.{nat_eq}
 use Rattle.gos_types.specs.declared.types.Ty.TheVariants as types
 use Rattle.gos_types.specs.Types.{Com, Exp, Pair}
 use Rattle.gos_netlist.specs.Settling.{Numbers}
@@ -8,8 +8,8 @@ use Rattle.gos_netlist.specs.Settling as nets
 use Rattle.gos_plan.specs.Kinds.{Share, contacts_of, part_contacts}
 use Rattle.gos_plan.specs.Firing.{Rest, Req, Ans, Token, at, put}
 use Rattle.gos_plan.specs.Firings.{Asked, with_asked}
-use Rattle.gos_macro.specs.Gates.{Incoming, Bare, incoming_bits, Settled, value_in}
-use Rattle.gos_macro.specs.Law.{Order, FiredInOrder}
+use Rattle.gos_macro.specs.Gates.{Incoming, Bare, incoming_bits, Settled}
+use Rattle.gos_macro.specs.Law.{FiredInOrder}
 use Rattle.gos_macro.specs.SmallGates.{last_first}
 use Rattle.gos_macro.proofs.causal.FiringLemmas.{value_fits}
 use Rattle.gos_fast_share.specs.Fast.{fast_cells, FastStands}

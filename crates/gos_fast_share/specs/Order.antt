@@ -1,7 +1,7 @@
 -- Which order of handshakes is that of ranks, and what the gates that are made for it keep.
 --
 -- Read first: Law and Kept of gos_macro; Ranges of gos_plan; Fast.
-use Rattle.std.specs.Prelude.{◌≡◌, ℕ, List, [], map}
+use Rattle.std.specs.Prelude.{◌≡◌, ◌<◌, ◌*◌, ℕ, List, [], All, length, map}
 use Rattle.gos_types.specs.declared.types.Ty.{Ty}
 use Rattle.gos_types.specs.Types.{Type', type_of}
 use Rattle.gos_plan.specs.Kinds.{Share, contacts_of}
@@ -11,6 +11,7 @@ use Rattle.gos_macro.specs.Gates.{nothing_pending}
 use Rattle.gos_macro.specs.Law.{Order, IsAbove, early_in_order, LawInOrder}
 use Rattle.gos_macro.specs.Kept.{KeepLaws}
 use Rattle.gos_macro.specs.Paths.{KeepPaths}
+use Rattle.gos_fast_share.specs.Made.{Made}
 use Rattle.gos_fast_share.specs.Fast.{fast_cells, fast_outs, fast_passing, FastStands}
 
 -- The handshakes of the Share of a type stand in this order by their ranks, and where two are equal by their numbers.
@@ -42,3 +43,10 @@ FastPaths t order =
 
 abbrev pub FastKeepPaths : Type 0
 FastKeepPaths = (t : Ty) (order : List ℕ) → FastPaths (type_of t) order
+
+-- A part that can be laid out: its type is small, and its order has three handshakes for each of the type's, all of them its own.
+abbrev pub IsMade : Made → Type 0
+IsMade m =
+    IsSmall m.ty
+    × (length m.order ≡ 3 * length (contacts_of (type_of m.ty)))
+    × All (λ e. e < 3 * length (contacts_of (type_of m.ty))) m.order

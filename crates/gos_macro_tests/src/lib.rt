@@ -15,6 +15,10 @@ mod data_cells;
 #[cfg(test)]
 mod data_cycles;
 #[cfg(test)]
+mod fast_share_cells;
+#[cfg(test)]
+mod fast_share_cycles;
+#[cfg(test)]
 mod gates;
 #[cfg(test)]
 mod layouts;

@@ -16,4 +16,5 @@ mod sharing;
 mod sides;
 
 pub use laws::small_passing;
+pub use shared::{Shared, next};
 pub use sharing::Sharing;

@@ -5,16 +5,20 @@ ghost use Rattle.gos_types.specs.Types.{type_of};
 ghost use Rattle.gos_types.specs.declared.shakes.Role.TheVariants.{Serve, Ask};
 ghost use Rattle.gos_plan.specs.Kinds.{contacts_of, turned_contact};
 ghost use Rattle.gos_share.specs.Blocks.{asked_size, answered_size, sent_size, told_size, block_size};
-ghost use Rattle.gos_share.specs.inner.Seen.{contact_of, all_of, from, outgoing_of, side_out, blocks_size};
+ghost use Rattle.gos_share.specs.Handshakes.{contact_of, all_of, from};
+ghost use Rattle.gos_share.specs.inner.Seen.{outgoing_of, side_out, blocks_size};
 
 use gos_types::{Role, Ty};
 
-// A handshake of a type: who asks, and the bits of the request and of the answer.
+/// A handshake of a type.
 #[derive(Debug, Clone, Copy)]
-pub(crate) struct Shared {
-    pub(crate) role: Role,
-    pub(crate) ask_bits: u32,
-    pub(crate) answer_bits: u32,
+pub struct Shared {
+    /// Who asks: `Role::Serve` where the callers do, and `Role::Ask` where the source does.
+    pub role: Role,
+    /// The bits of the request.
+    pub ask_bits: u32,
+    /// The bits of the answer.
+    pub answer_bits: u32,
 }
 
 // A side of a handshake: the source's, or that of one of both callers.
@@ -83,9 +87,9 @@ fn find(ty: &Ty, j: u32) -> Result<Shared, u32>
     }
 }
 
-// Handshake `j` of a type, if it has so many.
+/// Handshake `j` of a type, from 0 on. `None` where it hasn't so many.
 #[tactic(auto, using(crate::proofs::SharedLemmas::drop_there, crate::proofs::SharedLemmas::drop_behind))]
-pub(crate) fn next(ty: &Ty, j: u32) -> Option<Shared>
+pub fn next(ty: &Ty, j: u32) -> Option<Shared>
     ensures { MatchOption result (from j ty.now ≡ []) (λ k. from j ty.now ≡ contact_of k ∷ from (j + 1) ty.now) }
 {
     match find(ty, j) {

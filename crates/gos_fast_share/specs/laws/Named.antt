@@ -15,6 +15,7 @@ use Rattle.gos_share.specs.laws.Slots.{bits_there}
 use Rattle.gos_share.specs.laws.Comes.{sides, ArePlaced, all_placed}
 use Rattle.gos_fast_share.specs.Thread.{Asker, Nobody, Caller0, Caller1, asker, one_if_asks, requests, requests_before}
 use Rattle.gos_fast_share.specs.Fast.{set_cells, thread_cells, up_bits, down_bits, split_cells, split_size, block_cells, block_size, row_cells, fast_cells}
+use Rattle.gos_fast_share.specs.inner.Sizes.{blocks_size}
 use Rattle.gos_fast_share.specs.laws.Threaded.{set_length, IsThere, asker_there}
 use Rattle.gos_fast_share.specs.laws.Shown.{told_length, block_length}
 use Rattle.gos_fast_share.specs.laws.Keeping.{sides_length, thread_length, up_is, down_is}
@@ -93,11 +94,7 @@ fewer_before ks j (e ∷ es) = by_test (nat_eq e j) (fewer_before ks j es)
     by_test true ih = omega arith
     by_test false ih = omega (arith, ih)
 
-abbrev pub row_size : List Contact → ℕ
-row_size [] = 0
-row_size (l ∷ ls) = block_size l.role l.ask_bits l.answer_bits + row_size ls
-
-pub row_length : (ks : List Contact) (order : List ℕ) (i : Incoming) (j b n : ℕ) (ls : List Contact) → length (row_cells ks order i j b n ls) ≡ row_size ls
+pub row_length : (ks : List Contact) (order : List ℕ) (i : Incoming) (j b n : ℕ) (ls : List Contact) → length (row_cells ks order i j b n ls) ≡ blocks_size ls
 row_length ks order i j b n [] = refl
 row_length ks order i j b n (l ∷ ls) =
     let net = b + (1 + requests_before ks j order) in
@@ -106,7 +103,7 @@ row_length ks order i j b n (l ∷ ls) =
     ∙ (λ d. block_length l.role l.ask_bits l.answer_bits i (length ks) j b n net d + row_length ks order i (suc j) b (n + size) ls d)
 
 row_names : (ks : List Contact) (order : List ℕ) (i : Incoming) (j b n : ℕ) (all : List Cell) (ls : List Contact) → 2 + requests ks order ≤ n
-    → n + row_size ls ≤ length all → ArePlaced ks j ls → NameEarlier (sides ks) i b all n (row_cells ks order i j b n ls)
+    → n + blocks_size ls ≤ length all → ArePlaced ks j ls → NameEarlier (sides ks) i b all n (row_cells ks order i j b n ls)
 row_names ks order i j b n all [] behind long placed = tt
 row_names ks order i j b n all (l ∷ ls) behind long placed =
     names_append (sides ks) i b all n size (told ++ split) (row_cells ks order i (suc j) b (n + size) ls) (block_length l.role q a i h j b n net)
@@ -176,7 +173,7 @@ thread_names ks i b n all (e ∷ es) long =
     subst (λ (m : ℕ). NameEarlier (sides ks) i b all m (thread_cells ks i b (n + one_if_asks (asker ks e)) es)) here
     (thread_names ks i b (n + one_if_asks (asker ks e)) all es (omega (arith, long))))
 
-pub fast_length : (b : ℕ) (i : Incoming) (ks : List Contact) (order : List ℕ) → length (fast_cells ks order b i) ≡ 2 + (requests ks order + row_size ks)
+pub fast_length : (b : ℕ) (i : Incoming) (ks : List Contact) (order : List ℕ) → length (fast_cells ks order b i) ≡ 2 + (requests ks order + blocks_size ks)
 fast_length b i ks order =
     let inner = length-append (thread_cells ks i b 1 order) (row_cells ks order i 0 b (2 + requests ks order) ks)
     ∙ (λ d. thread_length ks i b 1 order d + row_length ks order i 0 b (2 + requests ks order) ks d) in

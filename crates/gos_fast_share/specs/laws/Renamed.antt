@@ -13,9 +13,10 @@ use Rattle.gos_share.specs.laws.Comes.{sides, ArePlaced, all_placed}
 use Rattle.gos_share.specs.laws.Named.{SideNamed, OwnNamed, side_named, told_named, both_named}
 use Rattle.gos_fast_share.specs.Thread.{Asker, Nobody, Caller0, Caller1, asker, one_if_asks, requests, requests_before}
 use Rattle.gos_fast_share.specs.Fast.{set_cells, thread_cells, up_bits, down_bits, split_cells, split_size, block_cells, block_size, row_cells, fast_cells}
+use Rattle.gos_fast_share.specs.inner.Sizes.{blocks_size}
 use Rattle.gos_fast_share.specs.laws.Threaded.{IsThere, asker_there}
 use Rattle.gos_fast_share.specs.laws.Keeping.{sides_length, up_is, down_is}
-use Rattle.gos_fast_share.specs.laws.Named.{fewer_before, row_size, fast_length}
+use Rattle.gos_fast_share.specs.laws.Named.{fewer_before, fast_length}
 
 split_named : (f : ℕ → ℕ) (i o : Incoming) (w j b d n k size : ℕ) → OwnNamed f b d size → n + split_size w ≤ size → k < size → SideNamed f i o w j
     → split_cells w o j d n (d + k) ≡ map (with_renamed f) (split_cells w i j b n (b + k))
@@ -59,7 +60,7 @@ thread_named ks total f i o b d n size (e ∷ es) names own fits =
     there Caller1 is asks = sym (names.pulse e (let long = sides_length ks in omega (arith, is, long)))
 
 row_named : (ks : List Contact) (order : List ℕ) (total : ℕ) (f : ℕ → ℕ) (i o : Incoming) (j b d n size : ℕ) (ls : List Contact) → Renames (sides ks) total f b d i o
-    → OwnNamed f b d size → 1 + requests ks order < size → n + row_size ls ≤ size → ArePlaced ks j ls
+    → OwnNamed f b d size → 1 + requests ks order < size → n + blocks_size ls ≤ size → ArePlaced ks j ls
     → row_cells ks order o j d n ls ≡ map (with_renamed f) (row_cells ks order i j b n ls)
 row_named ks order total f i o j b d n size [] names own thread fits placed = λ t. []
 row_named ks order total f i o j b d n size (l ∷ ls) names own thread fits placed =

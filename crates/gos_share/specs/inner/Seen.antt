@@ -1,28 +1,15 @@
--- How clauses see the handshakes of a type and the blocks of this crate's program.
+-- How clauses see the blocks of this crate's program.
 --
--- Read first: Share.
-use Rattle.std.specs.Prelude.{ℕ, ◌+◌, List, [], ◌∷◌, drop}
-use Rattle.gos_types.specs.declared.types.Ty.{Ty}
+-- Read first: Share, Handshakes.
+use Rattle.std.specs.Prelude.{ℕ, ◌+◌, List, [], ◌∷◌}
 use Rattle.gos_types.specs.declared.shakes.Role.{Role}
-use Rattle.gos_types.specs.Types.{type_of}
-use Rattle.gos_plan.specs.Kinds.{Contact, contacts_of}
+use Rattle.gos_plan.specs.Kinds.{Contact}
 use Rattle.gos_macro.specs.Gates.{Outgoing}
+pub use Rattle.gos_share.specs.Handshakes.{contact_of, all_of, from}
 use Rattle.gos_share.specs.Blocks.{outgoing, block_size, source_out, caller_out}
-use Rattle.gos_share.specs.declared.shared.Shared.{Shared}
 use Rattle.gos_share.specs.declared.shared.Out.{Out}
 use Rattle.gos_share.specs.declared.shared.Side.{Side}
 use Rattle.gos_share.specs.declared.shared.Side.TheVariants as sides
-
--- a handshake as a contact
-abbrev pub contact_of : Shared → Contact
-contact_of k = record { role = k.role; ask_bits = k.ask_bits; answer_bits = k.answer_bits }
-
--- the handshakes of a type, and those from number j on
-abbrev pub all_of : Ty → List Contact
-all_of t = contacts_of (type_of t)
-
-abbrev pub from : ℕ → Ty → List Contact
-from j t = drop j (contacts_of (type_of t))
 
 -- nets that go out, by their places in a region
 abbrev pub outgoing_of : ℕ → Out → Outgoing
