@@ -17,11 +17,11 @@ use Rattle.gos_plan.specs.Ranges.{IsInRange}
 use Rattle.gos_types.specs.Widths.{HasWidths}
 use Rattle.gos_plan.specs.Seen.{SeenPlan, part_of, import_of, plan_of}
 use Rattle.gos_macro.specs.Fit.{GatesFit}
-use Rattle.gos_expand.specs.Gates.{layout, outs_of}
-use Rattle.gos_expand.proofs.KeptLemmas.{all_gates}
-use Rattle.gos_expand.specs.Acceptance.{AreDifferent, CanBeLaid, LaidIsAccepted, AllCutCycles}
+use Rattle.gos_expand.specs.Gates.{Making, layout, outs_of}
+use Rattle.gos_expand.proofs.KeptLemmas.{all_fit}
+use Rattle.gos_expand.specs.Acceptance.{AreDifferent, CanBeLaid, CircuitIsAccepted, LaidIsAccepted, AllCutCycles}
 use Rattle.gos_expand.proofs.NarrowLemmas.{IsNarrow, one_narrow, narrow_kind, narrow_type}
-use Rattle.gos_expand.specs.Starts.{keep_all}
+use Rattle.gos_expand.specs.Starts.{plain, Laying, keep_all}
 use Rattle.gos_expand.proofs.NetLemmas.{IsCut, IsAny}
 use Rattle.gos_expand.proofs.FlowLemmas.{IsSound, cells_of, any_arriving, cut_arriving}
 use Rattle.gos_expand.proofs.GoodLemmas.{all_good}
@@ -41,12 +41,12 @@ one_of_all P xs i x all is = subst P (get_or_from_slice_get xs i x x is) (all i 
 
 -- the plan of the program, in the words of the other lemmas
 
-part_fits : (p : SeenPlan) (root : List ℕ) → CanBeLaid p root → (i : ℕ) (k : Part) → slice_get (plan_of p).parts i ≡ Some k
-    → GatesFit k (layout k) (outs_of k)
-part_fits p root can i k is =
+part_fits : (m : Making) (p : SeenPlan) (root : List ℕ) → CanBeLaid p root → (i : ℕ) (k : Part) → slice_get (plan_of p).parts i ≡ Some k
+    → GatesFit k (layout m k) (outs_of m k)
+part_fits m p root can i k is =
     let (kind, found, same) = mapped_found part_of p.parts i k is in
-    let keeps = all_gates kind (one_of_all IsInRange p.parts i kind can.in_range.of_parts found) in
-    subst (λ (x : Part). GatesFit x (layout x) (outs_of x)) same (keeps (λ h. 0)).fits
+    let fits = all_fit m kind (one_of_all IsInRange p.parts i kind can.in_range.of_parts found) in
+    subst (λ (x : Part). GatesFit x (layout m x) (outs_of m x)) same fits
 
 import_ground : (p : SeenPlan) (root : List ℕ) → CanBeLaid p root → (i : ℕ) (t : Imported) → slice_get (plan_of p).imports i ≡ Some t
     → IsGround t.ty × HasWidths t.ty
@@ -85,10 +85,10 @@ narrow p root can (ImportEnd i h) c is = narrow_import p root can i h c (slice_g
 narrow p root can (ResultEnd h) c is =
     narrow_outcome (type_of p.outcome) can.in_range.of_result.0 h c (slice_get (contacts_of (type_of p.outcome)) h) refl is
 
-pub sound : (p : SeenPlan) (root : List ℕ) → CanBeLaid p root → IsSound (plan_of p)
-sound p root can =
+pub sound : (lay : Laying) (p : SeenPlan) (root : List ℕ) → CanBeLaid p root → IsSound lay (plan_of p)
+sound lay p root can =
     record {
-      gates = part_fits p root can;
+      gates = λ i. part_fits (lay.making i) p root can i;
       narrow = narrow p root can;
       right = can.right;
       done = can.ports.result;
@@ -101,20 +101,23 @@ pub same_names : (ts : List PlanImport) → map (λ (i : PlanImport). i.name) ts
 same_names [] = refl
 same_names (t ∷ ts) = ap (λ (names : List (List ℕ)). t.name ∷ names) (same_names ts)
 
-pub laid_accepted : LaidIsAccepted
-laid_accepted keep p root can acyclic =
+pub circuit_accepted : CircuitIsAccepted
+circuit_accepted lay p root can acyclic =
     let plan : Plan = plan_of p in
-    let fits = sound p root can in
-    let good = all_good IsAny keep plan (any_arriving keep) fits in
+    let fits = sound lay p root can in
+    let good = all_good IsAny lay plan (any_arriving lay) fits in
     let different = subst (λ (names : List (List ℕ)). AreDifferent (root ∷ names)) (same_names p.imports) can.names in
     record {
       nets = λ k c is. (good k c is).exist;
       widths = λ k c is. (good k c is).fit;
-      ports = ports_fit keep plan fits root different;
+      ports = ports_fit lay plan fits root different;
       acyclic = acyclic;
     }
+
+pub laid_accepted : LaidIsAccepted
+laid_accepted keep = circuit_accepted (plain keep)
 
 -- where all directions keep registers, what comes in is cut
 pub all_cut : AllCutCycles
 all_cut p root can =
-    no_cycle (cells_of keep_all (plan_of p)) (all_good IsCut keep_all (plan_of p) cut_arriving (sound p root can))
+    no_cycle (cells_of (plain keep_all) (plan_of p)) (all_good IsCut (plain keep_all) (plan_of p) cut_arriving (sound (plain keep_all) p root can))

@@ -7,7 +7,7 @@ use Rattle.gos_plan.specs.Contacts.{held_contact}
 use Rattle.gos_plan.specs.Plans.{End, PartEnd, ImportEnd, ResultEnd, Joint, Plan, Fits, IsRight, contact_at, same_end}
 use Rattle.gos_plan.specs.Seen.{end_of}
 use Rattle.gos_expand.specs.Blocks.{Nets, nets_from, total}
-use Rattle.gos_expand.specs.Starts.{Keep, bits_taken, way_size, joint_size, loose_size, joints_start, joint_start, loose_ends_start, loose_ends, parts_start, start_among}
+use Rattle.gos_expand.specs.Starts.{Laying, bits_taken, way_size, joint_size, loose_size, joints_start, joint_start, loose_ends_start, loose_ends, parts_start, start_among}
 use Rattle.gos_expand.specs.inner.Arrivals.{held_end, arrival_if, or_else, some_if, by_way, start_by_joints, start_by_ends, joined_start, start_at, nets_by, nets_of}
 use Rattle.gos_expand.specs.declared.arrivals.Origin.{Origin}
 use Rattle.gos_expand.specs.declared.arrivals.Origin.TheVariants.{Cells, Other}
@@ -36,42 +36,42 @@ same_turned (ResultEnd h) (ImportEnd j g) = refl
 same_turned (ResultEnd h) (ResultEnd g) = even h g
 
 -- the origin by joints is that of the seat
-abbrev Tells : Keep → Plan → Option Origin → Option Seat → Type 0
-Tells keep p None None = Unit {0}
-Tells keep p None (Some s) = ⊥
-Tells keep p (Some a) None = ⊥
-Tells keep p (Some a) (Some s) =
-    a ≡ by_way (keep s.joint s.way) (way_start keep p s.joint (slice_get p.joints s.joint) s.way) s.other
+abbrev Tells : Laying → Plan → Option Origin → Option Seat → Type 0
+Tells lay p None None = Unit {0}
+Tells lay p None (Some s) = ⊥
+Tells lay p (Some a) None = ⊥
+Tells lay p (Some a) (Some s) =
+    a ≡ by_way (lay.keep s.joint s.way) (way_start lay p s.joint (slice_get p.joints s.joint) s.way) s.other
 
-joints_tell : (keep : Keep) (p : Plan) (x n : ℕ) (js : List Joint) (e : End) → ((i : ℕ) → slice_get p.joints (x + i) ≡ slice_get js i)
-    → n ≡ joint_start keep p x → Tells keep p (start_by_joints keep p x n js e) (seat_among x js e)
-joints_tell keep p x n [] e same at = tt
-joints_tell keep p x n (j ∷ js) e same at =
+joints_tell : (lay : Laying) (p : Plan) (x n : ℕ) (js : List Joint) (e : End) → ((i : ℕ) → slice_get p.joints (x + i) ≡ slice_get js i)
+    → n ≡ joint_start lay p x → Tells lay p (start_by_joints lay p x n js e) (seat_among x js e)
+joints_tell lay p x n [] e same at = tt
+joints_tell lay p x n (j ∷ js) e same at =
     let here : x + 0 ≡ x = omega arith in
     let there : slice_get p.joints x ≡ Some j = ap (slice_get p.joints) (sym here) ∙ same 0 in
-    let size = total_suc (joint_size keep p) 0 x p.joints j there in
+    let size = total_suc (joint_size lay p) 0 x p.joints j there in
     let none : 0 + x ≡ x = omega arith in
-    let same_size : joint_size keep p (0 + x) j ≡ joint_size keep p x j = ap (λ (y : ℕ). joint_size keep p y j) none in
-    let next : n + joint_size keep p x j ≡ joint_start keep p (suc x) = omega (arith, at, size, same_size) in
+    let same_size : joint_size lay p (0 + x) j ≡ joint_size lay p x j = ap (λ (y : ℕ). joint_size lay p y j) none in
+    let next : n + joint_size lay p x j ≡ joint_start lay p (suc x) = omega (arith, at, size, same_size) in
     by_tests (same_end e j.asking) (same_end e j.serving) _ _ there
-    (joints_tell keep p (suc x) (n + joint_size keep p x j) js e
+    (joints_tell lay p (suc x) (n + joint_size lay p x j) js e
     (λ i. ap (slice_get p.joints) (let shift : suc x + i ≡ x + suc i = omega arith in shift) ∙ same (suc i)) next)
   where
     first : Direction → ℕ
-    first Answer = n + way_size keep p x j Request
+    first Answer = n + way_size lay p x j Request
     first Request = n
 
-    begins : slice_get p.joints x ≡ Some j → (way : Direction) → first way ≡ way_start keep p x (slice_get p.joints x) way
-    begins there Answer = ap (λ (m : ℕ). m + way_size keep p x j Request) at ∙ ap (λ (o : Option Joint). way_start keep p x o Answer) (sym there)
-    begins there Request = at ∙ ap (λ (o : Option Joint). way_start keep p x o Request) (sym there)
+    begins : slice_get p.joints x ≡ Some j → (way : Direction) → first way ≡ way_start lay p x (slice_get p.joints x) way
+    begins there Answer = ap (λ (m : ℕ). m + way_size lay p x j Request) at ∙ ap (λ (o : Option Joint). way_start lay p x o Answer) (sym there)
+    begins there Request = at ∙ ap (λ (o : Option Joint). way_start lay p x o Request) (sym there)
 
-    by_tests : (a b : Bool) (rest : Option Origin) (seat : Option Seat) → slice_get p.joints x ≡ Some j → Tells keep p rest seat
-        → Tells keep p
-        (or_else (or_else (some_if a (by_way (keep x Answer) (n + way_size keep p x j Request) j.serving)) (some_if b (by_way (keep x Request) n j.asking))) rest)
+    by_tests : (a b : Bool) (rest : Option Origin) (seat : Option Seat) → slice_get p.joints x ≡ Some j → Tells lay p rest seat
+        → Tells lay p
+        (or_else (or_else (some_if a (by_way (lay.keep x Answer) (n + way_size lay p x j Request) j.serving)) (some_if b (by_way (lay.keep x Request) n j.asking))) rest)
         (if a then Some (record { joint = x; way = Answer; other = j.serving }) else (if b then Some (record { joint = x; way = Request; other = j.asking }) else seat))
     by_tests true b rest seat there tells =
-        λ i. by_way (keep x Answer) (begins there Answer i) j.serving
-    by_tests false true rest seat there tells = λ i. by_way (keep x Request) (begins there Request i) j.asking
+        λ i. by_way (lay.keep x Answer) (begins there Answer i) j.serving
+    by_tests false true rest seat there tells = λ i. by_way (lay.keep x Request) (begins there Request i) j.asking
     by_tests false false rest seat there tells = tells
 
 -- an end that is held is seen as it was
@@ -107,30 +107,30 @@ nets_by_ends p leaving w n last (d ∷ ds) e is =
     by_test true b same rest = rw (sym same) refl
     by_test false b same rest = rw (sym same) rest
 
-nets_told : (keep : Keep) (p : Plan) (e : End) (s : Option Origin) (seat : Option Seat) → Tells keep p s seat
-    → nets_by (leaves keep p) (parts_start keep p) (bits_taken (contact_at p e)) (or_else s (start_by_ends p (loose_ends_start keep p) (loose_ends p) e))
-    ≡ arrives_by keep p e seat
-nets_told keep p e None None tells =
-    nets_by_ends p (leaves keep p) (bits_taken (contact_at p e)) (loose_ends_start keep p) (parts_start keep p) (loose_ends p) e refl
-nets_told keep p e None (Some seat) tells = absurd tells
-nets_told keep p e (Some a) None tells = absurd tells
-nets_told keep p e (Some a) (Some s) tells =
+nets_told : (lay : Laying) (p : Plan) (e : End) (s : Option Origin) (seat : Option Seat) → Tells lay p s seat
+    → nets_by (leaves lay p) (parts_start lay p) (bits_taken (contact_at p e)) (or_else s (start_by_ends p (loose_ends_start lay p) (loose_ends p) e))
+    ≡ arrives_by lay p e seat
+nets_told lay p e None None tells =
+    nets_by_ends p (leaves lay p) (bits_taken (contact_at p e)) (loose_ends_start lay p) (parts_start lay p) (loose_ends p) e refl
+nets_told lay p e None (Some seat) tells = absurd tells
+nets_told lay p e (Some a) None tells = absurd tells
+nets_told lay p e (Some a) (Some s) tells =
     let w : ℕ = bits_taken (contact_at p e) in
-    ap (λ (b : Origin). nets_by (leaves keep p) (parts_start keep p) w (Some b)) tells
-    ∙ nets_by_way (leaves keep p) (parts_start keep p) w (keep s.joint s.way) (way_start keep p s.joint (slice_get p.joints s.joint) s.way) s.other
+    ap (λ (b : Origin). nets_by (leaves lay p) (parts_start lay p) w (Some b)) tells
+    ∙ nets_by_way (leaves lay p) (parts_start lay p) w (lay.keep s.joint s.way) (way_start lay p s.joint (slice_get p.joints s.joint) s.way) s.other
 
-nets_seated : (keep : Keep) (p : Plan) (e : End)
-    → nets_by (leaves keep p) (parts_start keep p) (bits_taken (contact_at p e)) (start_at keep p e) ≡ arrives keep p e
-nets_seated keep p e =
-    nets_told keep p e (joined_start keep p e) (seat_of p e)
-    (joints_tell keep p 0 (joints_start p) p.joints e (λ i. ap (slice_get p.joints) (let none : 0 + i ≡ i = omega arith in none))
+nets_seated : (lay : Laying) (p : Plan) (e : End)
+    → nets_by (leaves lay p) (parts_start lay p) (bits_taken (contact_at p e)) (start_at lay p e) ≡ arrives lay p e
+nets_seated lay p e =
+    nets_told lay p e (joined_start lay p e) (seat_of p e)
+    (joints_tell lay p 0 (joints_start p) p.joints e (λ i. ap (slice_get p.joints) (let none : 0 + i ≡ i = omega arith in none))
     (let none : joints_start p ≡ joints_start p + 0 = omega arith in none))
 
 -- an entry of the table tells the nets of what comes in
-pub arrives_told : (keep : Keep) (p : Plan) (e : End) (c : Contact) → contact_at p e ≡ Some c
-    → nets_of (leaves keep p) (parts_start keep p) (record { contact = held_contact c; origin = start_at keep p e }) ≡ arrives keep p e
-arrives_told keep p e c there =
-    ap (λ (o : Option Contact). nets_by (leaves keep p) (parts_start keep p) (bits_taken o) (start_at keep p e)) (sym there) ∙ nets_seated keep p e
+pub arrives_told : (lay : Laying) (p : Plan) (e : End) (c : Contact) → contact_at p e ≡ Some c
+    → nets_of (leaves lay p) (parts_start lay p) (record { contact = held_contact c; origin = start_at lay p e }) ≡ arrives lay p e
+arrives_told lay p e c there =
+    ap (λ (o : Option Contact). nets_by (leaves lay p) (parts_start lay p) (bits_taken o) (start_at lay p e)) (sym there) ∙ nets_seated lay p e
 
 -- Where cells begin, they begin no later than at net r; where another end is named, it is there.
 abbrev pub IsFound : Plan → ℕ → Option Origin → Type 0
@@ -142,19 +142,19 @@ found_way : (p : Plan) (r : ℕ) (kept : Bool) (n : ℕ) (other : End) → n ≤
 found_way p r true n other low there = low
 found_way p r false n other low there = subst (λ (e : End). IsSome (contact_at p e)) (sym (held_back other)) there
 
-joints_found : (keep : Keep) (p : Plan) (k n r : ℕ) (js : List Joint) (e : End) → ((x : ℕ) (j : Joint) → slice_get js x ≡ Some j → Fits p j)
-    → n + total (joint_size keep p) k js ≤ r → IsFound p r (start_by_joints keep p k n js e)
-joints_found keep p k n r [] e fits low = tt
-joints_found keep p k n r (j ∷ js) e fits low =
+joints_found : (lay : Laying) (p : Plan) (k n r : ℕ) (js : List Joint) (e : End) → ((x : ℕ) (j : Joint) → slice_get js x ≡ Some j → Fits p j)
+    → n + total (joint_size lay p) k js ≤ r → IsFound p r (start_by_joints lay p k n js e)
+joints_found lay p k n r [] e fits low = tt
+joints_found lay p k n r (j ∷ js) e fits low =
     by_tests (same_end e j.asking) (same_end e j.serving) _
-    (joints_found keep p (suc k) (n + joint_size keep p k j) r js e (λ x i there. fits (suc x) i there) (omega (arith, low)))
+    (joints_found lay p (suc k) (n + joint_size lay p k j) r js e (λ x i there. fits (suc x) i there) (omega (arith, low)))
   where
     by_tests : (a b : Bool) (rest : Option Origin) → IsFound p r rest
         → IsFound p r
-        (or_else (or_else (some_if a (by_way (keep k Answer) (n + way_size keep p k j Request) j.serving)) (some_if b (by_way (keep k Request) n j.asking))) rest)
+        (or_else (or_else (some_if a (by_way (lay.keep k Answer) (n + way_size lay p k j Request) j.serving)) (some_if b (by_way (lay.keep k Request) n j.asking))) rest)
     by_tests true b rest is =
-        found_way p r (keep k Answer) (n + way_size keep p k j Request) j.serving (omega (arith, low)) (serving_there p j (fits 0 j refl))
-    by_tests false true rest is = found_way p r (keep k Request) n j.asking (omega (arith, low)) (asking_there p j (fits 0 j refl))
+        found_way p r (lay.keep k Answer) (n + way_size lay p k j Request) j.serving (omega (arith, low)) (serving_there p j (fits 0 j refl))
+    by_tests false true rest is = found_way p r (lay.keep k Request) n j.asking (omega (arith, low)) (asking_there p j (fits 0 j refl))
     by_tests false false rest is = is
 
 ends_found : (p : Plan) (k n r : ℕ) (ds : List End) (e : End) → n + total (loose_size p) k ds ≤ r → IsFound p r (start_by_ends p n ds e)
@@ -170,11 +170,11 @@ either_found p r None b first second = second
 either_found p r (Some a) b first second = first
 
 -- so it is with what comes in at each end
-pub origin_found : (keep : Keep) (p : Plan) (e : End) → IsRight p → IsFound p (parts_start keep p) (start_at keep p e)
-origin_found keep p e right =
-    either_found p (parts_start keep p) (joined_start keep p e) _
-    (joints_found keep p 0 (joints_start p) (parts_start keep p) p.joints e (λ x j there. joint_fits p [] p.joints x j right there) (omega arith))
-    (ends_found p 0 (loose_ends_start keep p) (parts_start keep p) (loose_ends p) e (omega arith))
+pub origin_found : (lay : Laying) (p : Plan) (e : End) → IsRight p → IsFound p (parts_start lay p) (start_at lay p e)
+origin_found lay p e right =
+    either_found p (parts_start lay p) (joined_start lay p e) _
+    (joints_found lay p 0 (joints_start p) (parts_start lay p) p.joints e (λ x j there. joint_fits p [] p.joints x j right there) (omega arith))
+    (ends_found p 0 (loose_ends_start lay p) (parts_start lay p) (loose_ends p) e (omega arith))
 
 -- an entry that is there is that of a handshake
 pub entry_told : (s : Option Origin) (o : Option Contact) (a : Arrival) → Some a ≡ arrival_if s o
@@ -191,5 +191,5 @@ entry_holds s o a d is there =
     ap (λ (b : Arrival). b.contact) told.2 ∙ ap held_contact same
 
 -- the parts begin within the cells
-pub parts_within : (keep : Keep) (p : Plan) → parts_start keep p ≤ laid_size keep p
-parts_within keep p = omega arith
+pub parts_within : (lay : Laying) (p : Plan) → parts_start lay p ≤ laid_size lay p
+parts_within lay p = omega arith

@@ -31,7 +31,7 @@ use Rattle.gos_macro.specs.causal.Causal.{PartlyFired, ComeInRange, AreCausal}
 use Rattle.gos_macro.proofs.causal.CausalLemmas.{are_causal}
 use Rattle.gos_expand.specs.Gates.{layout, outs_of, late_of, pending_of, stands_of, passing_of}
 use Rattle.gos_expand.specs.Blocks.{Nets}
-use Rattle.gos_expand.specs.Starts.{Keep, bits_taken}
+use Rattle.gos_expand.specs.Starts.{Laying, bits_taken}
 use Rattle.gos_expand.specs.Laid.{nets_out}
 use Rattle.gos_expand.specs.Facts.{Places, source, target, width, bits_put, bits_in_at, incoming_at, PlanFacts, PassesOn, order_at}
 use Rattle.gos_expand.proofs.TallyLemmas.{due-append, value_due-append, no_value, outgoing_at}
@@ -118,60 +118,60 @@ due_narrow v nets h w ts pulse value none =
     let nothing : at v nets.number ≡ 0 = value ∙ no_value h ts (sym pulse ∙ none) in
     subst (λ (x : ℕ). x < 2 ^ w) (sym nothing) (pow_pos w)
 
-pub leaving_shows : (keep : Keep) (p : Plan) (n : Places) (rank : End → ℕ) (v : Numbers) (i h : ℕ) (k : Part) (c : Contact) (ts : List Token) → PlanFacts keep p n
-    → KeepLaws k (layout k) (outs_of k) (late_of k) (pending_of k) (stands_of k) (order_at rank i) → slice_get p.parts i ≡ Some k → contact_at p (PartEnd i h) ≡ Some c
-    → ((o : Outgoing) → slice_get (outs_of k (n.start i)) h ≡ Some o → NetsShow v o (due h ts) (value_due h ts))
+pub leaving_shows : (lay : Laying) (p : Plan) (n : Places) (rank : End → ℕ) (v : Numbers) (i h : ℕ) (k : Part) (c : Contact) (ts : List Token) → PlanFacts lay p n
+    → KeepLaws k (layout (lay.making i) k) (outs_of (lay.making i) k) (late_of (lay.making i) k) (pending_of (lay.making i) k) (stands_of (lay.making i) k) (order_at rank i) → slice_get p.parts i ≡ Some k → contact_at p (PartEnd i h) ≡ Some c
+    → ((o : Outgoing) → slice_get (outs_of (lay.making i) k (n.start i)) h ≡ Some o → NetsShow v o (due h ts) (value_due h ts))
     → (at v (n.leaves (PartEnd i h)).pulse ≡ due h ts) × (0 < bits_put (Some c) → at v (n.leaves (PartEnd i h)).number ≡ value_due h ts)
-leaving_shows keep p n rank v i h k c ts plan laws is there shows =
+leaving_shows lay p n rank v i h k c ts plan laws is there shows =
     subst (λ (x : Nets). (at v x.pulse ≡ due h ts) × (0 < bits_put (Some c) → at v x.number ≡ value_due h ts)) (sym leaving)
-    (net_shows v (n.start i) (layout k (n.start i) (incoming_at p n i)) c out.0 (due h ts) (value_due h ts) out.2 (shows out.0 out.1))
+    (net_shows v (n.start i) (layout (lay.making i) k (n.start i) (incoming_at p n i)) c out.0 (due h ts) (value_due h ts) out.2 (shows out.0 out.1))
   where
-    out : (y : Outgoing) × (slice_get (outs_of k (n.start i)) h ≡ Some y) × GoesOut (n.start i) (layout k (n.start i) (incoming_at p n i)) c y
+    out : (y : Outgoing) × (slice_get (outs_of (lay.making i) k (n.start i)) h ≡ Some y) × GoesOut (n.start i) (layout (lay.making i) k (n.start i) (incoming_at p n i)) c y
     out =
-        outgoing_at (n.start i) h (layout k (n.start i) (incoming_at p n i)) (part_contacts k) (outs_of k (n.start i)) c
+        outgoing_at (n.start i) h (layout (lay.making i) k (n.start i) (incoming_at p n i)) (part_contacts k) (outs_of (lay.making i) k (n.start i)) c
         (laws.fits.outgoing (n.start i) (incoming_at p n i)) (own_contact p i h k c is there)
 
     leaving : n.leaves (PartEnd i h) ≡ nets_out (Some out.0)
     leaving = plan.leaving i h k is ∙ ap nets_out out.1
 
 -- in an orderly list so far: what leaves an end of these bits was pending there, or was put there in the list
-pub record Shown (p : Plan) (n : Places) (v regs : Numbers) (puts : ℕ → List Token) (xs : List Element) (e : End) (w : ℕ) : Type 0 where
-  pub pulse : at v (n.leaves e).pulse ≡ pending_at p n regs e + put_at puts e xs
-  pub number : 0 < w → carried v (n.leaves e) ≡ pending_numbers p n regs e + sum_put puts e xs
+pub record Shown (lay : Laying) (p : Plan) (n : Places) (v regs : Numbers) (puts : ℕ → List Token) (xs : List Element) (e : End) (w : ℕ) : Type 0 where
+  pub pulse : at v (n.leaves e).pulse ≡ pending_at lay p n regs e + put_at puts e xs
+  pub number : 0 < w → carried v (n.leaves e) ≡ pending_numbers lay p n regs e + sum_put puts e xs
   pub narrow : 0 < w → at v (n.leaves e).pulse ≡ 0 → at v (n.leaves e).number < 2 ^ w
 
 -- where the nets show what was pending and what is put
-shown_by_part : (p : Plan) (n : Places) (v regs : Numbers) (puts : ℕ → List Token) (xs : List Element) (i h w : ℕ) (k : Part) → slice_get p.parts i ≡ Some k
-    → (at v (n.leaves (PartEnd i h)).pulse ≡ due h (pending_of k (n.start i) regs ++ puts i))
-    × (0 < w → at v (n.leaves (PartEnd i h)).number ≡ value_due h (pending_of k (n.start i) regs ++ puts i))
-    → Shown p n v regs puts xs (PartEnd i h) w
-shown_by_part p n v regs puts xs i h w k is nets =
+shown_by_part : (lay : Laying) → (p : Plan) (n : Places) (v regs : Numbers) (puts : ℕ → List Token) (xs : List Element) (i h w : ℕ) (k : Part) → slice_get p.parts i ≡ Some k
+    → (at v (n.leaves (PartEnd i h)).pulse ≡ due h (pending_of (lay.making i) k (n.start i) regs ++ puts i))
+    × (0 < w → at v (n.leaves (PartEnd i h)).number ≡ value_due h (pending_of (lay.making i) k (n.start i) regs ++ puts i))
+    → Shown lay p n v regs puts xs (PartEnd i h) w
+shown_by_part lay p n v regs puts xs i h w k is nets =
     let pulse = nets.0 in
-    let held : pending_at p n regs (PartEnd i h) ≡ due h (pending_of k (n.start i) regs) = ap (λ (f : Option Part). due h (pending_if f (n.start i) regs)) is in
-    let held_sum : pending_numbers p n regs (PartEnd i h) ≡ value_due h (pending_of k (n.start i) regs) =
-    ap (λ (f : Option Part). value_due h (pending_if f (n.start i) regs)) is in
-    let split = due-append h (pending_of k (n.start i) regs) (puts i) in
-    let sums = value_due-append h (pending_of k (n.start i) regs) (puts i) in
+    let held : pending_at lay p n regs (PartEnd i h) ≡ due h (pending_of (lay.making i) k (n.start i) regs) = ap (λ (f : Option Part). due h (pending_if (lay.making i) f (n.start i) regs)) is in
+    let held_sum : pending_numbers lay p n regs (PartEnd i h) ≡ value_due h (pending_of (lay.making i) k (n.start i) regs) =
+    ap (λ (f : Option Part). value_due h (pending_if (lay.making i) f (n.start i) regs)) is in
+    let split = due-append h (pending_of (lay.making i) k (n.start i) regs) (puts i) in
+    let sums = value_due-append h (pending_of (lay.making i) k (n.start i) regs) (puts i) in
     record {
       pulse = omega (arith, pulse, held, split);
       number = λ some.
-          let value = due_carried v (n.leaves (PartEnd i h)) h (pending_of k (n.start i) regs ++ puts i) pulse (nets.1 some) in
+          let value = due_carried v (n.leaves (PartEnd i h)) h (pending_of (lay.making i) k (n.start i) regs ++ puts i) pulse (nets.1 some) in
           omega (arith, value, held_sum, sums);
-      narrow = λ some none. due_narrow v (n.leaves (PartEnd i h)) h w (pending_of k (n.start i) regs ++ puts i) pulse (nets.1 some) none;
+      narrow = λ some none. due_narrow v (n.leaves (PartEnd i h)) h w (pending_of (lay.making i) k (n.start i) regs ++ puts i) pulse (nets.1 some) none;
     }
 
-pub shown_by_port : (keep : Keep) (p : Plan) (net : Netlist) (n : Places) (rank : End → ℕ) (v regs after : Numbers) (o : Open) (s : Tokens) (puts : ℕ → List Token) (fs : List PartFiring) (e : End) (c : Contact)
-    → Now keep p net n rank v regs after o s → IsPortEnd e → contact_at p e ≡ Some c → Shown p n v regs puts (listing p n v fs) e (bits_put (Some c))
-shown_by_port keep p net n rank v regs after o s puts fs e c now port there =
+pub shown_by_port : (lay : Laying) (p : Plan) (net : Netlist) (n : Places) (rank : End → ℕ) (v regs after : Numbers) (o : Open) (s : Tokens) (puts : ℕ → List Token) (fs : List PartFiring) (e : End) (c : Contact)
+    → Now lay p net n rank v regs after o s → IsPortEnd e → contact_at p e ≡ Some c → Shown lay p n v regs puts (listing p n v fs) e (bits_put (Some c))
+shown_by_port lay p net n rank v regs after o s puts fs e c now port there =
     record {
       pulse =
-          let d = (nothing_at_port p n regs e port).0 in
+          let d = (nothing_at_port lay p n regs e port).0 in
           let f = (put_at_port puts (listing p n v fs) e port).0 in
           let g = counted.0 in
           let m = flag_is v (n.leaves e) given.0 in
           omega (arith, d, f, g, m);
       number = λ some.
-          let d = (nothing_at_port p n regs e port).1 in
+          let d = (nothing_at_port lay p n regs e port).1 in
           let f = (put_at_port puts (listing p n v fs) e port).1 in
           let g = counted.1 in
           let m : number_if v (bits_in_at p e) (n.leaves e) ≡ carried v (n.leaves e) =
@@ -188,54 +188,54 @@ shown_by_port keep p net n rank v regs after o s puts fs e c now port there =
     counted = ins_listed p n v e fs (now.plan_facts.once e c port there)
 
 -- The list of a cycle up to the early firings of ranks below r.
-pub record Below (p : Plan) (n : Places) (rank : End → ℕ) (v : Numbers) (o : Open) (s : Tokens) (r : ℕ) : Type 0 where
+pub record Below (lay : Laying) (p : Plan) (n : Places) (rank : End → ℕ) (v : Numbers) (o : Open) (s : Tokens) (r : ℕ) : Type 0 where
   pub open_then : Open
   pub state_then : Tokens
-  pub list : OrderlyFrom p (listing p n v (early_made p n rank v r)) o s open_then state_then
-  pub takes : (i : ℕ) → TakesValues p i (values p n v i) (listing p n v (early_made p n rank v r)) s
-  pub comes : AllComeIn p n v (below_rank rank r)
+  pub list : OrderlyFrom p (listing p n v (early_made lay p n rank v r)) o s open_then state_then
+  pub takes : (i : ℕ) → TakesValues p i (values p n v i) (listing p n v (early_made lay p n rank v r)) s
+  pub comes : AllComeIn p n v (below_rank lay rank r)
 
 -- a part's nets show it, where all that passes on to them has such a rank
-part_shows : (keep : Keep) (p : Plan) (net : Netlist) (n : Places) (rank : End → ℕ) (v regs after : Numbers) (o : Open) (s : Tokens) (r : ℕ) (b : Below p n rank v o s r)
+part_shows : (lay : Laying) (p : Plan) (net : Netlist) (n : Places) (rank : End → ℕ) (v regs after : Numbers) (o : Open) (s : Tokens) (r : ℕ) (b : Below lay p n rank v o s r)
     (puts : ℕ → List Token) (i h : ℕ) (k : Part) (c : Contact)
-    → Now keep p net n rank v regs after o s
-    → PartsPut p (values p n v) puts (listing p n v (early_made p n rank v r)) o s b.open_then b.state_then
+    → Now lay p net n rank v regs after o s
+    → PartsPut p (values p n v) puts (listing p n v (early_made lay p n rank v r)) o s b.open_then b.state_then
     → slice_get p.parts i ≡ Some k → contact_at p (PartEnd i h) ≡ Some c
-    → ((from : ℕ) → from < length (part_contacts k) → passing_of k from h ≡ true → below_rank rank r i k from ≡ true)
-    → pending_at p n regs (PartEnd i h) + due h (puts i) ≤ 1
-    → Shown p n v regs puts (listing p n v (early_made p n rank v r)) (PartEnd i h) (bits_put (Some c))
-part_shows keep p net n rank v regs after o s r b puts i h k c now fires is there within one =
-    shown_by_part p n v regs puts (listing p n v (early_made p n rank v r)) i h (bits_put (Some c)) k is
-    (leaving_shows keep p n rank v i h k c (pending_of k (n.start i) regs ++ puts i) now.plan_facts (now.part_facts.gates i k is) is there
+    → ((from : ℕ) → from < length (part_contacts k) → passing_of (lay.making i) k from h ≡ true → below_rank lay rank r i k from ≡ true)
+    → pending_at lay p n regs (PartEnd i h) + due h (puts i) ≤ 1
+    → Shown lay p n v regs puts (listing p n v (early_made lay p n rank v r)) (PartEnd i h) (bits_put (Some c))
+part_shows lay p net n rank v regs after o s r b puts i h k c now fires is there within one =
+    shown_by_part lay p n v regs puts (listing p n v (early_made lay p n rank v r)) i h (bits_put (Some c)) k is
+    (leaving_shows lay p n rank v i h k c (pending_of (lay.making i) k (n.start i) regs ++ puts i) now.plan_facts (now.part_facts.gates i k is) is there
     (λ y out.
-    causal.partly (n.start i) regs (s.state i) (now.standing.parts i k is) (incoming_at p n i) v after (below_rank rank r i k) (b.state_then.state i) (puts i)
+    causal.partly (n.start i) regs (s.state i) (now.standing.parts i k is) (incoming_at p n i) v after (below_rank lay rank r i k) (b.state_then.state i) (puts i)
     (now.facts.parts i k is) in_range partly h within y out alone))
   where
-    alone : due h (pending_of k (n.start i) regs ++ puts i) ≤ 1
+    alone : due h (pending_of (lay.making i) k (n.start i) regs ++ puts i) ≤ 1
     alone =
-        let held : pending_at p n regs (PartEnd i h) ≡ due h (pending_of k (n.start i) regs) = ap (λ (f : Option Part). due h (pending_if f (n.start i) regs)) is in
-        let split = due-append h (pending_of k (n.start i) regs) (puts i) in
+        let held : pending_at lay p n regs (PartEnd i h) ≡ due h (pending_of (lay.making i) k (n.start i) regs) = ap (λ (f : Option Part). due h (pending_if (lay.making i) f (n.start i) regs)) is in
+        let split = due-append h (pending_of (lay.making i) k (n.start i) regs) (puts i) in
         omega (arith, one, held, split)
 
-    causal : AreCausal k (layout k) (outs_of k) (late_of k) (pending_of k) (stands_of k) (order_at rank i) (passing_of k)
+    causal : AreCausal k (layout (lay.making i) k) (outs_of (lay.making i) k) (late_of (lay.making i) k) (pending_of (lay.making i) k) (stands_of (lay.making i) k) (order_at rank i) (passing_of (lay.making i) k)
     causal =
-        are_causal k (layout k) (outs_of k) (late_of k) (pending_of k) (stands_of k) (order_at rank i) (passing_of k) (now.part_facts.gates i k is)
+        are_causal k (layout (lay.making i) k) (outs_of (lay.making i) k) (late_of (lay.making i) k) (pending_of (lay.making i) k) (stands_of (lay.making i) k) (order_at rank i) (passing_of (lay.making i) k) (now.part_facts.gates i k is)
         (now.part_facts.paths i k is)
 
-    in_range : ComeInRange k (late_of k) v (incoming_at p n i) (below_rank rank r i k)
+    in_range : ComeInRange k (late_of (lay.making i) k) v (incoming_at p n i) (below_rank lay rank r i k)
     in_range g lt inside early = (
-      pulses_small p n v (below_rank rank r) i k b.comes is g lt inside,
-      values_small p n v (below_rank rank r) i k b.comes is g inside,
+      pulses_small p n v (below_rank lay rank r) i k b.comes is g lt inside,
+      values_small p n v (below_rank lay rank r) i k b.comes is g inside,
     )
 
     pulse : ℕ → ℕ
     pulse = pulse_in v (incoming_at p n i)
 
     slots : List Slot
-    slots = pulsed pulse (firings_of i (fires_of (early_below p rank r)))
+    slots = pulsed pulse (firings_of i (fires_of (early_below lay p rank r)))
 
-    listed : firings_of i (listing p n v (early_made p n rank v r)) ≡ slots
-    listed = firings_listed p n v i (early_made p n rank v r) ∙ firings_pulsed p n v i (early_below p rank r)
+    listed : firings_of i (listing p n v (early_made lay p n rank v r)) ≡ slots
+    listed = firings_listed p n v i (early_made lay p n rank v r) ∙ firings_pulsed p n v i (early_below lay p rank r)
 
     taken : values p n v i ≡ (λ g. value_in k v (incoming_at p n i) g)
     taken = λ l g. values_if (is l) v (incoming_at p n i) g
@@ -245,12 +245,12 @@ part_shows keep p net n rank v regs after o s r b puts i h k c now fires is ther
         subst (λ (x : ℕ → ℕ). Fires k x (asked_by i o) (s.state i) slots (asked_by i b.open_then) (b.state_then.state i) (puts i)) taken
         (subst (λ (l : List Slot). Fires k (values p n v i) (asked_by i o) (s.state i) l (asked_by i b.open_then) (b.state_then.state i) (puts i)) listed (fires i k is))
 
-    in_order_too : slots ≡ pulsed (λ g. if below_rank rank r i k g then pulse g else 0) (early_in_order k (late_of k) (order_at rank i) (top p rank + r))
+    in_order_too : slots ≡ pulsed (λ g. if below_rank lay rank r i k g then pulse g else 0) (early_in_order k (late_of (lay.making i) k) (order_at rank i) (top p rank + r))
     in_order_too =
-        ap (pulsed pulse) (early_listed p rank r i k is)
-        ∙ sym (cut_order pulse (order_at rank i) (is_early k) (part_contacts k) r (top p rank) (top p rank + r) refl)
+        ap (pulsed pulse) (early_listed lay p rank r i k is)
+        ∙ sym (cut_order pulse (order_at rank i) (is_early (lay.making i) k) (part_contacts k) r (top p rank) (top p rank + r) refl)
 
-    partly : PartlyFired k (late_of k) (order_at rank i) v (incoming_at p n i) (below_rank rank r i k) (s.state i) (b.state_then.state i) (puts i)
+    partly : PartlyFired k (late_of (lay.making i) k) (order_at rank i) v (incoming_at p n i) (below_rank lay rank r i k) (s.state i) (b.state_then.state i) (puts i)
     partly =
         record {
           before = asked_by i o;
@@ -263,22 +263,22 @@ part_shows keep p net n rank v regs after o s r b puts i h k c now fires is ther
         }
 
 -- what leaves an end, where all that passes on to it has such a rank
-end_shows : (keep : Keep) (p : Plan) (net : Netlist) (n : Places) (rank : End → ℕ) (v regs after : Numbers) (o : Open) (s : Tokens) (r : ℕ) (b : Below p n rank v o s r)
+end_shows : (lay : Laying) (p : Plan) (net : Netlist) (n : Places) (rank : End → ℕ) (v regs after : Numbers) (o : Open) (s : Tokens) (r : ℕ) (b : Below lay p n rank v o s r)
     (puts : ℕ → List Token) (e : End) (c : Contact)
-    → Now keep p net n rank v regs after o s
-    → PartsPut p (values p n v) puts (listing p n v (early_made p n rank v r)) o s b.open_then b.state_then → contact_at p e ≡ Some c
+    → Now lay p net n rank v regs after o s
+    → PartsPut p (values p n v) puts (listing p n v (early_made lay p n rank v r)) o s b.open_then b.state_then → contact_at p e ≡ Some c
     → ((i h from : ℕ) (k : Part) → e ≡ PartEnd i h → slice_get p.parts i ≡ Some k → h < length (part_contacts k) → from < length (part_contacts k)
-    → passing_of k from h ≡ true → below_rank rank r i k from ≡ true)
-    → pending_at p n regs e + put_at puts e (listing p n v (early_made p n rank v r)) ≤ 1
-    → Shown p n v regs puts (listing p n v (early_made p n rank v r)) e (bits_put (Some c))
-end_shows keep p net n rank v regs after o s r b puts (PartEnd i h) c now fires there within one =
+    → passing_of (lay.making i) k from h ≡ true → below_rank lay rank r i k from ≡ true)
+    → pending_at lay p n regs e + put_at puts e (listing p n v (early_made lay p n rank v r)) ≤ 1
+    → Shown lay p n v regs puts (listing p n v (early_made lay p n rank v r)) e (bits_put (Some c))
+end_shows lay p net n rank v regs after o s r b puts (PartEnd i h) c now fires there within one =
     let k = part_there p i h c there in
-    part_shows keep p net n rank v regs after o s r b puts i h k.0 c now fires k.1 there
+    part_shows lay p net n rank v regs after o s r b puts i h k.0 c now fires k.1 there
     (λ from lt passes. within i h from k.0 refl k.1 (slice_get_within (part_contacts k.0) h c (own_contact p i h k.0 c k.1 there)) lt passes) one
-end_shows keep p net n rank v regs after o s r b puts (ImportEnd i h) c now fires there within one =
-    shown_by_port keep p net n rank v regs after o s puts (early_made p n rank v r) (ImportEnd i h) c now tt there
-end_shows keep p net n rank v regs after o s r b puts (ResultEnd h) c now fires there within one =
-    shown_by_port keep p net n rank v regs after o s puts (early_made p n rank v r) (ResultEnd h) c now tt there
+end_shows lay p net n rank v regs after o s r b puts (ImportEnd i h) c now fires there within one =
+    shown_by_port lay p net n rank v regs after o s puts (early_made lay p n rank v r) (ImportEnd i h) c now tt there
+end_shows lay p net n rank v regs after o s r b puts (ResultEnd h) c now fires there within one =
+    shown_by_port lay p net n rank v regs after o s puts (early_made lay p n rank v r) (ResultEnd h) c now tt there
 
 -- what arrives lies there
 pub record Landed (p : Plan) (n : Places) (v : Numbers) (t : Tokens) (e : End) (c : Contact) (g : Taking p e c) : Type 0 where
@@ -329,33 +329,33 @@ arrived_by p n v t i h k c g fit is there landed =
     by_bits (suc w) e = by_pulse w (at v (n.arrives (PartEnd i h)).pulse) e refl
 
 -- at an end of no lower rank nothing is taken
-pub untaken_below : (p : Plan) (n : Places) (rank : End → ℕ) (v : Numbers) (r i h : ℕ) (k : Part) (c : Contact) → slice_get p.parts i ≡ Some k
-    → contact_at p (PartEnd i h) ≡ Some c → below_rank rank r i k h ≡ false
-    → taken_at (way_taken c.role) (PartEnd i h) (listing p n v (early_made p n rank v r)) ≡ 0
-untaken_below p n rank v r i h k c is there later =
+pub untaken_below : (lay : Laying) → (p : Plan) (n : Places) (rank : End → ℕ) (v : Numbers) (r i h : ℕ) (k : Part) (c : Contact) → slice_get p.parts i ≡ Some k
+    → contact_at p (PartEnd i h) ≡ Some c → below_rank lay rank r i k h ≡ false
+    → taken_at (way_taken c.role) (PartEnd i h) (listing p n v (early_made lay p n rank v r)) ≡ 0
+untaken_below lay p n rank v r i h k c is there later =
     (λ l. times (slot_taken c.role h l) (listed l))
-    ∙ (times_pulsed (pulse_in v (incoming_at p n i)) (slot_in c.role h) (firings_of i (fires_of (early_below p rank r)))
+    ∙ (times_pulsed (pulse_in v (incoming_at p n i)) (slot_in c.role h) (firings_of i (fires_of (early_below lay p rank r)))
     ∙ by_test (nat_eq (pulse_in v (incoming_at p n i) (shake_of (slot_in c.role h))) 1) none)
   where
-    listed : firings_of i (listing p n v (early_made p n rank v r)) ≡ pulsed (pulse_in v (incoming_at p n i)) (firings_of i (fires_of (early_below p rank r)))
-    listed = firings_listed p n v i (early_made p n rank v r) ∙ firings_pulsed p n v i (early_below p rank r)
+    listed : firings_of i (listing p n v (early_made lay p n rank v r)) ≡ pulsed (pulse_in v (incoming_at p n i)) (firings_of i (fires_of (early_below lay p rank r)))
+    listed = firings_listed p n v i (early_made lay p n rank v r) ∙ firings_pulsed p n v i (early_below lay p rank r)
 
-    none : times (slot_in c.role h) (firings_of i (fires_of (early_below p rank r))) ≡ 0
+    none : times (slot_in c.role h) (firings_of i (fires_of (early_below lay p rank r))) ≡ 0
     none =
-        early_times p rank r i k (slot_in c.role h) is
-        ∙ (chosen_once (below_rank rank r i k) h (part_contacts k) c (own_contact p i h k c is there) ∙ rw later refl)
+        early_times lay p rank r i k (slot_in c.role h) is
+        ∙ (chosen_once (below_rank lay rank r i k) h (part_contacts k) c (own_contact p i h k c is there) ∙ rw later refl)
 
     by_test : {m : ℕ} (x : Bool) → m ≡ 0 → (if x then m else 0) ≡ 0
     by_test true z = z
     by_test false z = refl
 
 -- What arrives at an end of a part of no lower rank, where all that passes on to it has one.
-pub arrival : (keep : Keep) (p : Plan) (net : Netlist) (n : Places) (rank : End → ℕ) (v regs after : Numbers) (o : Open) (s : Tokens) (r : ℕ) (b : Below p n rank v o s r)
+pub arrival : (lay : Laying) (p : Plan) (net : Netlist) (n : Places) (rank : End → ℕ) (v regs after : Numbers) (o : Open) (s : Tokens) (r : ℕ) (b : Below lay p n rank v o s r)
     (i h : ℕ) (k : Part) (c : Contact)
-    → Now keep p net n rank v regs after o s → slice_get p.parts i ≡ Some k → contact_at p (PartEnd i h) ≡ Some c → below_rank rank r i k h ≡ false
-    → ((j from : ℕ) (l : Part) → slice_get p.parts j ≡ Some l → PassesOn keep p j from (PartEnd i h) → below_rank rank r j l from ≡ true)
+    → Now lay p net n rank v regs after o s → slice_get p.parts i ≡ Some k → contact_at p (PartEnd i h) ≡ Some c → below_rank lay rank r i k h ≡ false
+    → ((j from : ℕ) (l : Part) → slice_get p.parts j ≡ Some l → PassesOn lay p j from (PartEnd i h) → below_rank lay rank r j l from ≡ true)
     → Arrived p n v b.state_then i h c
-arrival keep p net n rank v regs after o s r b i h k c now is there later within = by_place (places_of p (PartEnd i h)) refl
+arrival lay p net n rank v regs after o s r b i h k c now is there later within = by_place (places_of p (PartEnd i h)) refl
   where
     e : End
     e = PartEnd i h
@@ -364,7 +364,7 @@ arrival keep p net n rank v regs after o s r b i h k c now is there later within
     way = way_taken c.role
 
     xs : List Element
-    xs = listing p n v (early_made p n rank v r)
+    xs = listing p n v (early_made lay p n rank v r)
 
     t : Tokens
     t = b.state_then
@@ -377,15 +377,15 @@ arrival keep p net n rank v regs after o s r b i h k c now is there later within
     law = filled p n v o b.open_then s t xs now.right now.led b.list b.takes
 
     untaken : taken_at way e xs ≡ 0
-    untaken = untaken_below p n rank v r i h k c is there later
+    untaken = untaken_below lay p n rank v r i h k c is there later
 
     by_joint : (g : Taking p e c) → Landed p n v t e c g
-    by_joint g = by_keep (keep g.index way) refl
+    by_joint g = by_keep (lay.keep g.index way) refl
       where
         j : Joint
         j = g.joint
 
-        lies : Lies keep p n regs s g.index j way
+        lies : Lies lay p n regs s g.index j way
         lies = now.standing.joints g.index j way g.there
 
         sums : AddsUp (values p n v) law.0 xs s t way j.asking (source j way) (target j way)
@@ -415,29 +415,29 @@ arrival keep p net n rank v regs after o s r b i h k c now is there later within
         bits : 0 < bits_taken (Some c) → 0 < width p j way
         bits some = subst (λ (w : ℕ). 0 < w) (sym g.bits) some
 
-        kept : keep g.index way ≡ true → Landed p n v t e c g
+        kept : lay.keep g.index way ≡ true → Landed p n v t e c g
         kept keeps =
             let delays = now.facts.joints g.index j way g.there keeps in
             let pulse = delays.pulse in
             let adds = sums.counts in
-            let held : count (s.in_place way j.asking) ≡ at regs (n.arrives (target j way)).pulse + (pending_at p n regs (source j way) + shown_at n regs (target j way)) =
-            lies.counts ∙ ap (λ (x : Bool). held_pulse x regs (n.arrives (target j way)) + (pending_at p n regs (source j way) + shown_at n regs (target j way))) keeps in
+            let held : count (s.in_place way j.asking) ≡ at regs (n.arrives (target j way)).pulse + (pending_at lay p n regs (source j way) + shown_at n regs (target j way)) =
+            lies.counts ∙ ap (λ (x : Bool). held_pulse x regs (n.arrives (target j way)) + (pending_at lay p n regs (source j way) + shown_at n regs (target j way))) keeps in
             record {
               small = omega (arith, here, pulse, adds, held, no_taken, small);
               one = λ is_one. omega (arith, here, pulse, adds, held, no_taken, small, is_one);
               number = λ some is_one.
-                  let not_pending : pending_at p n regs (source j way) ≡ 0 = omega (arith, here, pulse, adds, held, no_taken, small, is_one) in
+                  let not_pending : pending_at lay p n regs (source j way) ≡ 0 = omega (arith, here, pulse, adds, held, no_taken, small, is_one) in
                   let not_put : put_at law.0 (source j way) xs ≡ 0 = omega (arith, here, pulse, adds, held, no_taken, small, is_one) in
-                  let no_pending = nothing_pending_there p n regs (source j way) not_pending in
+                  let no_pending = nothing_pending_there lay p n regs (source j way) not_pending in
                   let no_put = nothing_put law.0 xs (source j way) not_put in
                   let arrived = delays.number (bits some) in
                   let whole : carried regs (n.arrives (target j way)) ≡ at regs (n.arrives (target j way)).number =
                   carried_one regs (n.arrives (target j way)) (sym pulse ∙ (sym here ∙ is_one)) in
                   let all = sums.sums in
                   let numbers : number (s.in_place way j.asking)
-                  ≡ carried regs (n.arrives (target j way)) + (pending_numbers p n regs (source j way) + shown_numbers n regs (target j way)) =
+                  ≡ carried regs (n.arrives (target j way)) + (pending_numbers lay p n regs (source j way) + shown_numbers n regs (target j way)) =
                   lies.numbers (bits some)
-                  ∙ ap (λ (x : Bool). held_number x regs (n.arrives (target j way)) + (pending_numbers p n regs (source j way) + shown_numbers n regs (target j way))) keeps in
+                  ∙ ap (λ (x : Bool). held_number x regs (n.arrives (target j way)) + (pending_numbers lay p n regs (source j way) + shown_numbers n regs (target j way))) keeps in
                   omega (arith, number_here, arrived, whole, all, numbers, no_sum, no_shown_number, no_pending, no_put);
               narrow = λ some none.
                   subst (λ (x : ℕ). x < 2 ^ bits_taken (Some c)) (sym (number_here ∙ delays.number (bits some)))
@@ -445,13 +445,13 @@ arrival keep p net n rank v regs after o s r b i h k c now is there later within
                   (lies.narrow keeps (bits some) (sym pulse ∙ (sym here ∙ none))));
             }
 
-        straight : keep g.index way ≡ false → Landed p n v t e c g
+        straight : lay.keep g.index way ≡ false → Landed p n v t e c g
         straight passes =
             let pulse : at v (n.arrives (target j way)).pulse ≡ at v (n.leaves (source j way)).pulse = ap (λ (m : Nets). at v m.pulse) nets in
             let arrived : at v (n.arrives (target j way)).number ≡ at v (n.leaves (source j way)).number = ap (λ (m : Nets). at v m.number) nets in
             let adds = sums.counts in
-            let held : count (s.in_place way j.asking) ≡ 0 + (pending_at p n regs (source j way) + shown_at n regs (target j way)) =
-            lies.counts ∙ ap (λ (x : Bool). held_pulse x regs (n.arrives (target j way)) + (pending_at p n regs (source j way) + shown_at n regs (target j way))) passes in
+            let held : count (s.in_place way j.asking) ≡ 0 + (pending_at lay p n regs (source j way) + shown_at n regs (target j way)) =
+            lies.counts ∙ ap (λ (x : Bool). held_pulse x regs (n.arrives (target j way)) + (pending_at lay p n regs (source j way) + shown_at n regs (target j way))) passes in
             let leaves = shows.pulse in
             record {
               small = omega (arith, here, pulse, adds, held, no_taken, no_shown, leaves, small);
@@ -461,9 +461,9 @@ arrival keep p net n rank v regs after o s r b i h k c now is there later within
                   let leaves_number = shows.number (bits some) in
                   let whole : carried v (n.leaves (source j way)) ≡ at v (n.leaves (source j way)).number =
                   carried_one v (n.leaves (source j way)) (sym pulse ∙ (sym here ∙ is_one)) in
-                  let numbers : number (s.in_place way j.asking) ≡ 0 + (pending_numbers p n regs (source j way) + shown_numbers n regs (target j way)) =
+                  let numbers : number (s.in_place way j.asking) ≡ 0 + (pending_numbers lay p n regs (source j way) + shown_numbers n regs (target j way)) =
                   lies.numbers (bits some)
-                  ∙ ap (λ (x : Bool). held_number x regs (n.arrives (target j way)) + (pending_numbers p n regs (source j way) + shown_numbers n regs (target j way))) passes in
+                  ∙ ap (λ (x : Bool). held_number x regs (n.arrives (target j way)) + (pending_numbers lay p n regs (source j way) + shown_numbers n regs (target j way))) passes in
                   omega (arith, number_here, arrived, whole, all, numbers, no_sum, no_shown_number, leaves_number);
               narrow = λ some none.
                   subst (λ (x : ℕ). x < 2 ^ bits_taken (Some c)) (sym (number_here ∙ arrived))
@@ -478,17 +478,17 @@ arrival keep p net n rank v regs after o s r b i h k c now is there later within
             ends = ends_of p j way (fits p [] p.joints j now.right (is_in_at g.index p.joints j g.there))
 
             -- nothing is taken at the other end so far, so what is pending and what was put lies there, and that is one token at most
-            alone : pending_at p n regs (source j way) + put_at law.0 (source j way) xs ≤ 1
+            alone : pending_at lay p n regs (source j way) + put_at law.0 (source j way) xs ≤ 1
             alone =
                 let adds = sums.counts in
-                let held : count (s.in_place way j.asking) ≡ 0 + (pending_at p n regs (source j way) + shown_at n regs (target j way)) =
-                lies.counts ∙ ap (λ (x : Bool). held_pulse x regs (n.arrives (target j way)) + (pending_at p n regs (source j way) + shown_at n regs (target j way))) passes in
+                let held : count (s.in_place way j.asking) ≡ 0 + (pending_at lay p n regs (source j way) + shown_at n regs (target j way)) =
+                lies.counts ∙ ap (λ (x : Bool). held_pulse x regs (n.arrives (target j way)) + (pending_at lay p n regs (source j way) + shown_at n regs (target j way))) passes in
                 omega (arith, adds, held, no_taken, no_shown, small)
 
-            shows : Shown p n v regs law.0 xs (source j way) (width p j way)
+            shows : Shown lay p n v regs law.0 xs (source j way) (width p j way)
             shows =
-                subst (λ (w : ℕ). Shown p n v regs law.0 xs (source j way) w) ends.from_bits
-                (end_shows keep p net n rank v regs after o s r b law.0 (source j way) ends.from now law.1 ends.from_there
+                subst (λ (w : ℕ). Shown lay p n v regs law.0 xs (source j way) w) ends.from_bits
+                (end_shows lay p net n rank v regs after o s r b law.0 (source j way) ends.from now law.1 ends.from_there
                 (λ l out from m is_source stands out_there from_there passed.
                 within l from m stands
                 (record {
@@ -508,7 +508,7 @@ arrival keep p net n rank v regs after o s r b i h k c now is there later within
                 }))
                 alone)
 
-        by_keep : (x : Bool) → keep g.index way ≡ x → Landed p n v t e c g
+        by_keep : (x : Bool) → lay.keep g.index way ≡ x → Landed p n v t e c g
         by_keep true keeps = kept keeps
         by_keep false passes = straight passes
 

@@ -13,8 +13,8 @@ use Rattle.gos_macro.specs.Fit.{AllGoOut}
 use Rattle.gos_macro.specs.Wires.{HoldNets}
 use Rattle.gos_expand.specs.declared.tokens.Nets as nets
 use Rattle.gos_expand.specs.Blocks.{Nets, total}
-use Rattle.gos_expand.specs.Gates.{outs_of, part_size}
-use Rattle.gos_expand.specs.Starts.{Keep, parts_start}
+use Rattle.gos_expand.specs.Gates.{ForEach, outs_of, part_size}
+use Rattle.gos_expand.specs.Starts.{Keep, plain, parts_start}
 use Rattle.gos_expand.specs.Laid.{nets_out, outs_if, leaves}
 use Rattle.gos_expand.specs.inner.Tokens.{held_nets}
 use Rattle.gos_expand.specs.inner.Departures.{nets_of_wire, nets_of_wires, nets_of_outs, part_departures, departures_from, nets_in}
@@ -78,17 +78,17 @@ wires_added i cs ws c w before n within wired so_far is =
 
 -- one part more
 departures_suc : (m n i : ℕ) (ks : List Part) (k : Part) → slice_get ks i ≡ Some k
-    → departures_from n (take (suc i) ks) ≡ departures_from n (take i ks) ++ part_departures k (n + total (λ _ k. part_size k) m (take i ks)) ∷ []
+    → departures_from n (take (suc i) ks) ≡ departures_from n (take i ks) ++ part_departures k (n + total (λ _ k. part_size ForEach k) m (take i ks)) ∷ []
 departures_suc m n i [] k there = absurd (cc there)
 departures_suc m n zero (l ∷ ks) k there = let is : l ≡ k = cc there in rw (is, here n) refl
 departures_suc m n (suc i) (l ∷ ks) k there =
-    let sum : n + part_size l + total (λ _ k. part_size k) (suc m) (take i ks) ≡ n + (part_size l + total (λ _ k. part_size k) (suc m) (take i ks)) = omega arith in
+    let sum : n + part_size ForEach l + total (λ _ k. part_size ForEach k) (suc m) (take i ks) ≡ n + (part_size ForEach l + total (λ _ k. part_size ForEach k) (suc m) (take i ks)) = omega arith in
     ap (λ (ns : List (List Nets)). part_departures l n ∷ ns)
-    (departures_suc (suc m) (n + part_size l) i ks k there
-    ∙ ap (λ (s : ℕ). departures_from (n + part_size l) (take i ks) ++ part_departures k s ∷ []) sum)
+    (departures_suc (suc m) (n + part_size ForEach l) i ks k there
+    ∙ ap (λ (s : ℕ). departures_from (n + part_size ForEach l) (take i ks) ++ part_departures k s ∷ []) sum)
 
 pub departures_more : (n i : ℕ) (ks : List Part) (k : Part) → slice_get ks i ≡ Some k
-    → departures_from n (take (i + 1) ks) ≡ departures_from n (take i ks) ++ part_departures k (n + total (λ _ k. part_size k) 0 (take i ks)) ∷ []
+    → departures_from n (take (i + 1) ks) ≡ departures_from n (take i ks) ++ part_departures k (n + total (λ _ k. part_size ForEach k) 0 (take i ks)) ∷ []
 departures_more n i ks k there = ap (λ (m : ℕ). departures_from n (take m ks)) (up i) ∙ departures_suc 0 n i ks k there
 
 -- what goes out at a handshake that there is
@@ -100,15 +100,15 @@ outs_there (c ∷ cs) (o ∷ os) zero some = refl
 outs_there (c ∷ cs) (o ∷ os) (suc h) some = outs_there cs os h some
 
 departs_at : (m n i h : ℕ) (ks : List Part) → IsSome (slice_get (contacts_of_part (slice_get ks i)) h)
-    → nets_in (slice_get (departures_from n ks) i) h ≡ Some (nets_out (slice_get (outs_if (slice_get ks i) (n + total (λ _ k. part_size k) m (take i ks))) h))
+    → nets_in (slice_get (departures_from n ks) i) h ≡ Some (nets_out (slice_get (outs_if ForEach (slice_get ks i) (n + total (λ _ k. part_size ForEach k) m (take i ks))) h))
 departs_at m n i h [] some = absurd (cc some)
-departs_at m n zero h (k ∷ ks) some = rw (here n) (outs_there (part_contacts k) (outs_of k n) h some)
+departs_at m n zero h (k ∷ ks) some = rw (here n) (outs_there (part_contacts k) (outs_of ForEach k n) h some)
 departs_at m n (suc i) h (k ∷ ks) some =
-    let sum : n + part_size k + total (λ _ k. part_size k) (suc m) (take i ks) ≡ n + (part_size k + total (λ _ k. part_size k) (suc m) (take i ks)) = omega arith in
-    departs_at (suc m) (n + part_size k) i h ks some ∙ ap (λ (b : ℕ). Some (nets_out (slice_get (outs_if (slice_get ks i) b) h))) sum
+    let sum : n + part_size ForEach k + total (λ _ k. part_size ForEach k) (suc m) (take i ks) ≡ n + (part_size ForEach k + total (λ _ k. part_size ForEach k) (suc m) (take i ks)) = omega arith in
+    departs_at (suc m) (n + part_size ForEach k) i h ks some ∙ ap (λ (b : ℕ). Some (nets_out (slice_get (outs_if ForEach (slice_get ks i) b) h))) sum
 
 -- the table has what leaves at an end of a part
-pub departs : (keep : Keep) (p : Plan) (table : List (List Nets)) (i h : ℕ) → table ≡ departures_from (parts_start keep p) p.parts → IsSome (contact_at p (PartEnd i h))
-    → nets_in (slice_get table i) h ≡ Some (leaves keep p (PartEnd i h))
+pub departs : (keep : Keep) (p : Plan) (table : List (List Nets)) (i h : ℕ) → table ≡ departures_from (parts_start (plain keep) p) p.parts → IsSome (contact_at p (PartEnd i h))
+    → nets_in (slice_get table i) h ≡ Some (leaves (plain keep) p (PartEnd i h))
 departs keep p table i h is some =
-    ap (λ (t : List (List Nets)). nets_in (slice_get t i) h) is ∙ departs_at 0 (parts_start keep p) i h p.parts some
+    ap (λ (t : List (List Nets)). nets_in (slice_get t i) h) is ∙ departs_at 0 (parts_start (plain keep) p) i h p.parts some

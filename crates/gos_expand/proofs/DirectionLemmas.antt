@@ -5,8 +5,8 @@ use Rattle.std.proofs.Common.{◌≡◌, ◌+◌, ◌<◌, ◌⊎◌, ◌↔◌,
 use Rattle.std.proofs.lemmas.Option.{same_Some, slice_get_within}
 use Rattle.gos_types.specs.Events.{Direction, Request, Answer}
 use Rattle.gos_plan.specs.Plans.{PartEnd, Joint, Plan}
-use Rattle.gos_expand.specs.Gates.{passing_of}
-use Rattle.gos_expand.specs.Starts.{Keep, place_of}
+use Rattle.gos_expand.specs.Gates.{ForEach, passing_of}
+use Rattle.gos_expand.specs.Starts.{plain, Keep, place_of}
 use Rattle.gos_expand.specs.Facts.{PassesOn, source, target}
 use Rattle.gos_expand.specs.Rings.{Shake, PassesBy, HasRing}
 use Rattle.gos_expand.specs.inner.Directions.{directions, IsDirection, ArrivesAt, PassesThrough, IsInner, IsLink}
@@ -66,7 +66,7 @@ from_leaving keep p d b (inr link) = (let is = link.1 in omega (arith, is), link
 passes_on : (keep : Keep) (p : Plan) (a d : ℕ) (s t : Shake) → PassesThrough p a d → IsLink keep p (directions p + d) d
     → ArrivesAt p a (PartEnd s.part s.number)
     → ArrivesAt p d (PartEnd t.part t.number)
-    → PassesOn keep p s.part s.number (PartEnd t.part t.number)
+    → PassesOn (plain keep) p s.part s.number (PartEnd t.part t.number)
 passes_on keep p a d s t x link here there =
     let begin = same_end_of_part x.part s.part x.from s.number
     (sym x.arrives.1 ∙ (same_target p a x.arrives.0 here.0 ∙ here.1)) in
@@ -83,13 +83,13 @@ passes_on keep p a d s t x link here there =
       there = ap (slice_get p.parts) (sym begin.0) ∙ x.there;
       from_there = let low = x.from_there in let same = begin.1 in omega (arith, low, same);
       out_there = x.to_there;
-      passes = ap (λ (h : ℕ). passing_of x.kind h x.to) (sym begin.1) ∙ x.passes;
+      passes = ap (λ (h : ℕ). passing_of ForEach x.kind h x.to) (sym begin.1) ∙ x.passes;
       arrives = same_target p d link.0 there.0 ∙ there.1;
     }
 
 -- what is known of a way from where a direction arrives to handshake t
 abbrev Passed : Keep → Plan → ℕ → Shake → Type 0
-Passed keep p a t = (s : Shake) × ArrivesAt p a (PartEnd s.part s.number) × ((cs : List Shake) × PassesBy keep p s cs t)
+Passed keep p a t = (s : Shake) × ArrivesAt p a (PartEnd s.part s.number) × ((cs : List Shake) × PassesBy (plain keep) p s cs t)
 
 -- through a part, along a direction, and on
 passes_then : (keep : Keep) (p : Plan) (a m c : ℕ) (t : Shake) → (inner : IsInner p a m) → IsInner p m c ⊎ IsLink keep p m c
@@ -141,45 +141,45 @@ first_inner keep p edges are a b low (further _ m _ edge rest) =
     let inner = from_arrival keep p a m low ((are a m).0 edge) in
     (record { part = inner.2.part; number = inner.2.from }, inner.2.arrives)
 
-ring_at : (keep : Keep) (p : Plan) (edges : List Edge) → AreEdges keep p edges → (a : ℕ) → a < directions p → Leads edges a a → HasRing keep p
+ring_at : (keep : Keep) (p : Plan) (edges : List Edge) → AreEdges keep p edges → (a : ℕ) → a < directions p → Leads edges a a → HasRing (plain keep) p
 ring_at keep p edges are a low round =
     let first = first_inner keep p edges are a a low round in
     let passed = passes_along keep p edges are a a low low first.0 first.1 round in
     let same = same_end_of_part passed.0.part first.0.part passed.0.number first.0.number
     (sym passed.1.1 ∙ (same_target p a passed.1.0 first.1.0 ∙ first.1.1)) in
-    (first.0, passed.2.0, subst (λ (s : Shake). PassesBy keep p s passed.2.0 first.0) (same_shake passed.0 first.0 same.0 same.1) passed.2.1)
+    (first.0, passed.2.0, subst (λ (s : Shake). PassesBy (plain keep) p s passed.2.0 first.0) (same_shake passed.0 first.0 same.0 same.1) passed.2.1)
   where
     same_shake : (s t : Shake) → s.part ≡ t.part → s.number ≡ t.number → s ≡ t
     same_shake s t e f = grind (arith, e, f)
 
 -- a ring of the graph is one of handshakes
-pub circle_is_ring : (keep : Keep) (p : Plan) (edges : List Edge) → AreEdges keep p edges → graph.HasRing edges → HasRing keep p
+pub circle_is_ring : (keep : Keep) (p : Plan) (edges : List Edge) → AreEdges keep p edges → graph.HasRing edges → HasRing (plain keep) p
 circle_is_ring keep p edges are (a, along _ _ edge) = by_edge ((are a a).0 edge)
   where
-    by_edge : IsInner p a a ⊎ IsLink keep p a a → HasRing keep p
+    by_edge : IsInner p a a ⊎ IsLink keep p a a → HasRing (plain keep) p
     by_edge (inl inner) =
         absurd (let is = inner.1 in let low = direction_low p a inner.2.arrives.0 in omega (arith, is, low))
     by_edge (inr link) = absurd (let is = link.1 in let low = direction_low p a link.0 in omega (arith, is, low))
 circle_is_ring keep p edges are (a, further _ m _ edge rest) = by_edge ((are a m).0 edge)
   where
-    by_edge : IsInner p a m ⊎ IsLink keep p a m → HasRing keep p
+    by_edge : IsInner p a m ⊎ IsLink keep p a m → HasRing (plain keep) p
     by_edge (inl inner) = ring_at keep p edges are a (direction_low p a inner.2.arrives.0) (further a m a edge rest)
     by_edge (inr link) = ring_at keep p edges are m (direction_low p m link.0) (leads_further edges m a m rest edge)
 
 -- The other way. A handshake that passes on to another does so along a direction.
-abbrev pub direction_of : (keep : Keep) (p : Plan) (s t : Shake) → PassesOn keep p s.part s.number (PartEnd t.part t.number) → ℕ
+abbrev pub direction_of : (keep : Keep) (p : Plan) (s t : Shake) → PassesOn (plain keep) p s.part s.number (PartEnd t.part t.number) → ℕ
 direction_of keep p s t x = place_of x.joint x.way
 
-abbrev is_direction : (keep : Keep) (p : Plan) (s t : Shake) (x : PassesOn keep p s.part s.number (PartEnd t.part t.number))
+abbrev is_direction : (keep : Keep) (p : Plan) (s t : Shake) (x : PassesOn (plain keep) p s.part s.number (PartEnd t.part t.number))
     → IsDirection p (direction_of keep p s t x)
 is_direction keep p s t x = record { joint = x.joint; way = x.way; number = refl; passed = x.passed; stands = x.stands }
 
-arrives_there : (keep : Keep) (p : Plan) (s t : Shake) (x : PassesOn keep p s.part s.number (PartEnd t.part t.number))
+arrives_there : (keep : Keep) (p : Plan) (s t : Shake) (x : PassesOn (plain keep) p s.part s.number (PartEnd t.part t.number))
     → ArrivesAt p (direction_of keep p s t x) (PartEnd t.part t.number)
 arrives_there keep p s t x = (is_direction keep p s t x, x.arrives)
 
 leads_there : (keep : Keep) (p : Plan) (edges : List Edge) → AreEdges keep p edges → (s t : Shake)
-    → (x : PassesOn keep p s.part s.number (PartEnd t.part t.number))
+    → (x : PassesOn (plain keep) p s.part s.number (PartEnd t.part t.number))
     → (a : ℕ) → ArrivesAt p a (PartEnd s.part s.number) → Leads edges a (direction_of keep p s t x)
 leads_there keep p edges are s t x a here =
     let d : ℕ = direction_of keep p s t x in
@@ -201,11 +201,11 @@ leads_there keep p edges are s t x a here =
     further a (directions p + d) d first (along (directions p + d) d second)
 
 -- the last direction of several handshakes that pass on
-abbrev last_of : (keep : Keep) (p : Plan) (s : Shake) (cs : List Shake) (t : Shake) → PassesBy keep p s cs t → ℕ
+abbrev last_of : (keep : Keep) (p : Plan) (s : Shake) (cs : List Shake) (t : Shake) → PassesBy (plain keep) p s cs t → ℕ
 last_of keep p s [] t x = direction_of keep p s t x
 last_of keep p s (c ∷ cs) t (x, xs) = last_of keep p c cs t xs
 
-arrives_last : (keep : Keep) (p : Plan) (s : Shake) (cs : List Shake) (t : Shake) (x : PassesBy keep p s cs t)
+arrives_last : (keep : Keep) (p : Plan) (s : Shake) (cs : List Shake) (t : Shake) (x : PassesBy (plain keep) p s cs t)
     → ArrivesAt p (last_of keep p s cs t x) (PartEnd t.part t.number)
 arrives_last keep p s [] t x = arrives_there keep p s t x
 arrives_last keep p s (c ∷ cs) t (x, xs) = arrives_last keep p c cs t xs
@@ -214,7 +214,7 @@ leads_behind : (edges : List Edge) (a b c : ℕ) → Leads edges a b → Leads e
 leads_behind edges a b c (along _ _ first) second = further a b c first second
 leads_behind edges a b c (further _ m _ first rest) second = further a m c first (leads_behind edges m b c rest second)
 
-leads_last : (keep : Keep) (p : Plan) (edges : List Edge) → AreEdges keep p edges → (s : Shake) (cs : List Shake) (t : Shake) (x : PassesBy keep p s cs t)
+leads_last : (keep : Keep) (p : Plan) (edges : List Edge) → AreEdges keep p edges → (s : Shake) (cs : List Shake) (t : Shake) (x : PassesBy (plain keep) p s cs t)
     → (a : ℕ) → ArrivesAt p a (PartEnd s.part s.number) → Leads edges a (last_of keep p s cs t x)
 leads_last keep p edges are s [] t x a here = leads_there keep p edges are s t x a here
 leads_last keep p edges are s (c ∷ cs) t (x, xs) a here =
@@ -222,6 +222,6 @@ leads_last keep p edges are s (c ∷ cs) t (x, xs) a here =
     (leads_last keep p edges are c cs t xs (direction_of keep p s c x) (arrives_there keep p s c x))
 
 -- a ring of handshakes is one of the graph
-pub ring_is_circle : (keep : Keep) (p : Plan) (edges : List Edge) → AreEdges keep p edges → HasRing keep p → graph.HasRing edges
+pub ring_is_circle : (keep : Keep) (p : Plan) (edges : List Edge) → AreEdges keep p edges → HasRing (plain keep) p → graph.HasRing edges
 ring_is_circle keep p edges are (s, cs, x) =
     (last_of keep p s cs s x, leads_last keep p edges are s cs s x (last_of keep p s cs s x) (arrives_last keep p s cs s x))

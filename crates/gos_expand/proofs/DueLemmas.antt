@@ -13,7 +13,7 @@ use Rattle.gos_plan.specs.TokenBits.{AllFit}
 use Rattle.gos_plan.specs.Orderly.{Open, OrderlyFrom}
 use Rattle.gos_macro.specs.Gates.{pulse_in}
 use Rattle.gos_plan.specs.Projection.{TakesValues}
-use Rattle.gos_expand.specs.Starts.{Keep, bits_taken}
+use Rattle.gos_expand.specs.Starts.{Laying, bits_taken}
 use Rattle.gos_expand.specs.Laid.{known}
 use Rattle.gos_expand.specs.Facts.{Places, number_by, source, target, width, incoming_at}
 use Rattle.gos_plan.specs.Accounts.{count, number, ins_at, ins_sum, outs_at, outs_sum, put_at, sum_put, taken_at, sum_taken}
@@ -42,10 +42,10 @@ nothing_put puts xs (PartEnd i h) none = no_value h (puts i) none
 nothing_put puts xs (ImportEnd i h) none = (none_add (ImportEnd i h) xs).1 none
 nothing_put puts xs (ResultEnd h) none = (none_add (ResultEnd h) xs).1 none
 
-pub nothing_pending_there : (p : Plan) (n : Places) (regs : Numbers) (e : End) → pending_at p n regs e ≡ 0 → pending_numbers p n regs e ≡ 0
-nothing_pending_there p n regs (PartEnd i h) none = no_value h (pending_if (slice_get p.parts i) (n.start i) regs) none
-nothing_pending_there p n regs (ImportEnd i h) none = refl
-nothing_pending_there p n regs (ResultEnd h) none = refl
+pub nothing_pending_there : (lay : Laying) → (p : Plan) (n : Places) (regs : Numbers) (e : End) → pending_at lay p n regs e ≡ 0 → pending_numbers lay p n regs e ≡ 0
+nothing_pending_there lay p n regs (PartEnd i h) none = no_value h (pending_if (lay.making i) (slice_get p.parts i) (n.start i) regs) none
+nothing_pending_there lay p n regs (ImportEnd i h) none = refl
+nothing_pending_there lay p n regs (ResultEnd h) none = refl
 
 -- a token that is not taken stays, and no other comes to it
 pub still_there : (p : Plan) (n : Places) (v : Numbers) (o u : Open) (s t : Tokens) (xs : List Element) (x : ℕ) (j : Joint) (way : Direction)
@@ -98,10 +98,10 @@ shown_port n regs (ImportEnd i h) port = (refl, refl)
 shown_port n regs (ResultEnd h) port = (refl, refl)
 
 -- at a port nothing is pending, and what is put and taken there are inputs and outputs
-pub nothing_at_port : (p : Plan) (n : Places) (regs : Numbers) (e : End) → IsPortEnd e → (pending_at p n regs e ≡ 0) × (pending_numbers p n regs e ≡ 0)
-nothing_at_port p n regs (PartEnd i h) port = absurd port
-nothing_at_port p n regs (ImportEnd i h) port = (refl, refl)
-nothing_at_port p n regs (ResultEnd h) port = (refl, refl)
+pub nothing_at_port : (lay : Laying) → (p : Plan) (n : Places) (regs : Numbers) (e : End) → IsPortEnd e → (pending_at lay p n regs e ≡ 0) × (pending_numbers lay p n regs e ≡ 0)
+nothing_at_port lay p n regs (PartEnd i h) port = absurd port
+nothing_at_port lay p n regs (ImportEnd i h) port = (refl, refl)
+nothing_at_port lay p n regs (ResultEnd h) port = (refl, refl)
 
 pub put_at_port : (puts : ℕ → List Token) (xs : List Element) (e : End) → IsPortEnd e → (put_at puts e xs ≡ ins_at e xs) × (sum_put puts e xs ≡ ins_sum e xs)
 put_at_port puts xs (PartEnd i h) port = absurd port
@@ -113,17 +113,17 @@ sum_taken_port x xs way (PartEnd i h) port = absurd port
 sum_taken_port x xs way (ImportEnd i h) port = refl
 sum_taken_port x xs way (ResultEnd h) port = refl
 
-pub due_at_port : (keep : Keep) (p : Plan) (net : Netlist) (n : Places) (rank : End → ℕ) (v regs after : Numbers) (o : Open) (s : Tokens) (e : End) (c : Contact)
-    → Now keep p net n rank v regs after o s → IsPortEnd e → contact_at p e ≡ Some c → at v (n.shows e).pulse ≡ 1
+pub due_at_port : (lay : Laying) (p : Plan) (net : Netlist) (n : Places) (rank : End → ℕ) (v regs after : Numbers) (o : Open) (s : Tokens) (e : End) (c : Contact)
+    → Now lay p net n rank v regs after o s → IsPortEnd e → contact_at p e ≡ Some c → at v (n.shows e).pulse ≡ 1
     → Due p s e c (number_by v (bits_taken (Some c)) (n.shows e))
-due_at_port keep p net n rank v regs after o s e c now port there pulse = by_place (places_of p e) refl
+due_at_port lay p net n rank v regs after o s e c now port there pulse = by_place (places_of p e) refl
   where
     held : at regs (n.shows e).pulse ≡ 1
     held = sym (now.facts.ports e c port there).pulse ∙ pulse
 
     by_bits : (w : ℕ) → bits_taken (Some c) ≡ w → (t : Taking p e c) → count (s.in_place (way_taken c.role) t.joint.asking) ≡ 1
-        → pending_numbers p n regs (source t.joint (way_taken c.role)) ≡ 0
-        → held_pulse (keep t.index (way_taken c.role)) regs (n.arrives (target t.joint (way_taken c.role))) ≡ 0
+        → pending_numbers lay p n regs (source t.joint (way_taken c.role)) ≡ 0
+        → held_pulse (lay.keep t.index (way_taken c.role)) regs (n.arrives (target t.joint (way_taken c.role))) ≡ 0
         → number (s.in_place (way_taken c.role) t.joint.asking) ≡ number_by v w (n.shows e)
     by_bits zero is t one no_pending not_here = bare p s e c t now.standing.fit there one is
     by_bits (suc w) is t one no_pending not_here =
@@ -131,7 +131,7 @@ due_at_port keep p net n rank v regs after o s e c now port there pulse = by_pla
         let some : 0 < bits_taken (Some c) = subst (λ (b : ℕ). 0 < b) (sym is) (omega arith) in
         let lies = now.standing.joints t.index t.joint (way_taken c.role) t.there in
         let numbers = lies.numbers bits in
-        let none_held = nothing_held (keep t.index (way_taken c.role)) regs (n.arrives (target t.joint (way_taken c.role))) not_here in
+        let none_held = nothing_held (lay.keep t.index (way_taken c.role)) regs (n.arrives (target t.joint (way_taken c.role))) not_here in
         let shown = (now.facts.ports e c port there).number some in
         let here : shown_numbers n regs (target t.joint (way_taken c.role)) ≡ at regs (n.shows e).number =
         sym (ap (shown_numbers n regs) t.is_target) ∙ ((shown_port n regs e port).1 ∙ carried_one regs (n.shows e) held) in
@@ -140,14 +140,14 @@ due_at_port keep p net n rank v regs after o s e c now port there pulse = by_pla
     by_joint : (t : Taking p e c) → Due p s e c (number_by v (bits_taken (Some c)) (n.shows e))
     by_joint t =
         let way : Direction = way_taken c.role in
-        let lies : Lies keep p n regs s t.index t.joint way = now.standing.joints t.index t.joint way t.there in
+        let lies : Lies lay p n regs s t.index t.joint way = now.standing.joints t.index t.joint way t.there in
         let shows : shown_at n regs (target t.joint way) ≡ 1 = sym (ap (shown_at n regs) t.is_target) ∙ ((shown_port n regs e port).0 ∙ held) in
         let counts = lies.counts in
         let small = small_count (s.in_place way t.joint.asking) in
         let one : count (s.in_place way t.joint.asking) ≡ 1 = omega (arith, counts, small, shows) in
-        let not_pending : pending_at p n regs (source t.joint way) ≡ 0 = omega (arith, counts, small, shows) in
-        let not_here : held_pulse (keep t.index way) regs (n.arrives (target t.joint way)) ≡ 0 = omega (arith, counts, small, shows) in
-        let no_pending = nothing_pending_there p n regs (source t.joint way) not_pending in
+        let not_pending : pending_at lay p n regs (source t.joint way) ≡ 0 = omega (arith, counts, small, shows) in
+        let not_here : held_pulse (lay.keep t.index way) regs (n.arrives (target t.joint way)) ≡ 0 = omega (arith, counts, small, shows) in
+        let no_pending = nothing_pending_there lay p n regs (source t.joint way) not_pending in
         record { at_end = t; one = one; is = by_bits (bits_taken (Some c)) refl t one no_pending not_here }
 
     by_place : (f : Option End) → places_of p e ≡ f → Due p s e c (number_by v (bits_taken (Some c)) (n.shows e))

@@ -13,7 +13,7 @@ use Rattle.gos_plan.specs.Seen.{import_of}
 use Rattle.gos_expand.specs.Gates.{part_size}
 use Rattle.gos_expand.specs.Laid.{request_start, answer_nets, leaves, laid_port, taken}
 use Rattle.gos_expand.specs.Blocks.{nets_from, token_size, total}
-use Rattle.gos_expand.specs.Starts.{Keep, bits_if, ports_of, port_size, port_start, part_start}
+use Rattle.gos_expand.specs.Starts.{Laying, bits_if, ports_of, port_size, port_start, part_start}
 use Rattle.gos_expand.specs.inner.Numbering.{starts, laid_size}
 use Rattle.gos_expand.proofs.BlockLemmas.{start_of, total_within, take_one}
 use Rattle.gos_expand.proofs.PortLemmas.{taken_port, port_there}
@@ -31,8 +31,11 @@ import_known (x ∷ xs) zero h some = let found = is_there (slice_get (contacts_
 import_known (x ∷ xs) (suc i) h some = import_known xs i h some
 
 -- where a part ends
-pub part_ends_within : (keep : Keep) (p : Plan) (i : ℕ) (k : Part) → slice_get p.parts i ≡ Some k → part_start keep p i + part_size k ≤ laid_size keep p
-part_ends_within keep p i k there = let within = total_within (λ _ k. part_size k) 0 i p.parts k there in omega (arith, within)
+pub part_ends_within : (lay : Laying) (p : Plan) (i : ℕ) (k : Part) → slice_get p.parts i ≡ Some k → part_start lay p i + part_size (lay.making i) k ≤ laid_size lay p
+part_ends_within lay p i k there =
+    let within = total_within (λ n k. part_size (lay.making n) k) 0 i p.parts k there in
+    let at : part_size (lay.making (0 + i)) k ≡ part_size (lay.making i) k = ap (λ (n : ℕ). part_size (lay.making n) k) (omega arith) in
+    omega (arith, within, at)
 
 -- where the import begins
 pub import_begins : (p : Plan) (items : List ℕ) (i : ℕ) (x : Imported) → items ≡ starts port_size 0 0 (ports_of p) → slice_get p.imports i ≡ Some x
@@ -42,8 +45,8 @@ import_begins p items i x is there =
     ap (λ (ns : List ℕ). slice_get ns (i + 1)) is
     ∙ (start_of port_size 0 0 (i + 1) (ports_of p) (taken_port i x) (port_there p i x there) ∙ ap (λ (n : ℕ). Some n) none)
 
-pub import_ends_within : (keep : Keep) (p : Plan) (i : ℕ) (x : Imported) → slice_get p.imports i ≡ Some x → port_start p (i + 1) + port_size 0 (taken_port i x) ≤ laid_size keep p
-import_ends_within keep p i x there =
+pub import_ends_within : (lay : Laying) (p : Plan) (i : ℕ) (x : Imported) → slice_get p.imports i ≡ Some x → port_start p (i + 1) + port_size 0 (taken_port i x) ≤ laid_size lay p
+import_ends_within lay p i x there =
     let within = total_within port_size 0 (i + 1) (ports_of p) (taken_port i x) (port_there p i x there) in
     omega (arith, within)
 
@@ -64,10 +67,10 @@ import_here ps items i h x same some is =
     )
 
 -- what leaves there
-pub import_leaves_here : (keep : Keep) (p : Plan) (i h start request size answer ask : ℕ) (x : Imported) (c : Contact) → slice_get p.imports i ≡ Some x → slice_get (contacts_of x.ty) h ≡ Some c
+pub import_leaves_here : (lay : Laying) (p : Plan) (i h start request size answer ask : ℕ) (x : Imported) (c : Contact) → slice_get p.imports i ≡ Some x → slice_get (contacts_of x.ty) h ≡ Some c
     → answer ≡ c.answer_bits → ask ≡ c.ask_bits → start ≡ port_start p (i + 1) → request ≡ request_start start (contacts_of x.ty) h → size ≡ token_size ask
-    → nets_from answer (request + size) ≡ leaves keep p (ImportEnd i h)
-import_leaves_here keep p i h start request size answer ask x c there shake answers asks at is sized =
+    → nets_from answer (request + size) ≡ leaves lay p (ImportEnd i h)
+import_leaves_here lay p i h start request size answer ask x c there shake answers asks at is sized =
     let up : i + 1 ≡ suc i = omega arith in
     let first : start ≡ port_start p (suc i) = at ∙ ap (port_start p) up in
     let begins : request ≡ request_start (port_start p (suc i)) (contacts_of x.ty) h = is ∙ ap (λ (n : ℕ). request_start n (contacts_of x.ty) h) first in

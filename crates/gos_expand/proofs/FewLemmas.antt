@@ -2,7 +2,7 @@
 --
 -- Read first: Size of gos_plan; Starts. A port has two handshakes at most. A token has two cells at most, and so has
 -- an end without a joint; the gates of a part are few for its handshakes.
-use Rattle.std.proofs.Common.{◌≡◌, ◌+◌, ◌*◌, ◌≤◌, ℕ, zero, suc, Bool, true, false, List, [], ◌∷◌, ◌++◌, length, slice_get, Some, filter, if◌then◌else◌, refl, ap, length-append, arith}
+use Rattle.std.proofs.Common.{◌≡◌, ◌+◌, ◌*◌, ◌≤◌, ℕ, zero, suc, Bool, true, false, List, [], ◌∷◌, ◌++◌, length, slice_get, Some, filter, if◌then◌else◌, refl, ap, length-append, arith, subst}
 use Rattle.std.specs.List.{AllByRecursion}
 use Rattle.gos_types.specs.Types.{Type', Com, Exp, Var, Pair, Fun, IsGround}
 use Rattle.gos_types.specs.Events.{Request, Answer}
@@ -13,46 +13,50 @@ use Rattle.gos_plan.specs.Seen.{plan_of}
 use Rattle.gos_plan.specs.Size.{shakes_of, numbers_in, numbers_of, plan_size}
 use Rattle.gos_data.proofs.ArrayLemmas.{array_length}
 use Rattle.gos_expand.specs.Blocks.{token_size, total}
-use Rattle.gos_expand.specs.Gates.{part_size}
-use Rattle.gos_expand.specs.Kept.{AreFew}
-use Rattle.gos_expand.specs.Starts.{Keep, Outer, ports_of, taken_ports, shake_size, port_size, bits_taken, kept_size, way_size, joint_size, loose_size, ends_at, port_ends, part_ends, loose_ends}
-use Rattle.gos_expand.specs.Laid.{laid_cells}
-use Rattle.gos_expand.specs.Acceptance.{LaidIsSmall}
+use Rattle.gos_expand.specs.Gates.{ForOrder, ForEach, Making, part_size}
+use Rattle.gos_expand.specs.Kept.{AreFew, IsWhole}
+use Rattle.gos_expand.specs.Starts.{plain, Laying, Outer, ports_of, taken_ports, shake_size, port_size, bits_taken, kept_size, way_size, joint_size, loose_size, ends_at, port_ends, part_ends, loose_ends}
+use Rattle.gos_expand.specs.Laid.{circuit_cells}
+use Rattle.gos_expand.specs.Acceptance.{AreWhole, CircuitIsSmall, LaidIsSmall}
 use Rattle.gos_expand.proofs.GroupLemmas.{layout_length, port_group, joint_group, loose_group, part_group, ports_long, joints_long, loose_long, parts_long}
-use Rattle.gos_expand.proofs.ShareLemmas.{share_few}
+use Rattle.gos_expand.proofs.ShareLemmas.{share_few, fast_few}
 use Rattle.gos_expand.proofs.FlowLemmas.{IsSound, done_ground}
 use Rattle.gos_expand.proofs.AcceptLemmas.{sound}
 
 -- the gates of a part are few
-pub part_few : (k : Part) → part_size k ≤ 24 * (length (part_contacts k) + 1) + 8 * numbers_in k
-part_few Skip = omega arith
-part_few (Lit w k) = omega arith
-part_few (Seq zero) = omega arith
-part_few (Seq (suc v)) = omega arith
-part_few Par = omega arith
-part_few (If zero) = omega arith
-part_few (If (suc v)) = omega arith
-part_few While = omega arith
-part_few (Op op w) = omega arith
-part_few (Not w) = omega arith
-part_few (Assign w) = omega arith
-part_few (Deref w) = omega arith
-part_few (Local w zero) = omega arith
-part_few (Local w (suc v)) = omega arith
-part_few (Array w n zero) =
-    let size : part_size (Array w n zero) ≡ 19 + 7 * n = array_length w n zero 0 (record { pulse = λ h. 0; value = λ h. 0 }) in omega (arith, size)
-part_few (Array w n (suc v)) =
-    let size : part_size (Array w n (suc v)) ≡ 20 + 7 * n = array_length w n (suc v) 0 (record { pulse = λ h. 0; value = λ h. 0 }) in omega (arith, size)
-part_few (Share t) = let few = share_few t in omega (arith, few)
+pub part_few : (m : Making) (k : Part) → IsWhole m k → part_size m k ≤ 24 * (length (part_contacts k) + 1) + 8 * numbers_in k
+part_few m Skip whole = omega arith
+part_few m (Lit w k) whole = omega arith
+part_few m (Seq zero) whole = omega arith
+part_few m (Seq (suc v)) whole = omega arith
+part_few m Par whole = omega arith
+part_few m (If zero) whole = omega arith
+part_few m (If (suc v)) whole = omega arith
+part_few m While whole = omega arith
+part_few m (Op op w) whole = omega arith
+part_few m (Not w) whole = omega arith
+part_few m (Assign w) whole = omega arith
+part_few m (Deref w) whole = omega arith
+part_few m (Local w zero) whole = omega arith
+part_few m (Local w (suc v)) whole = omega arith
+part_few m (Array w n zero) whole =
+    let size : part_size m (Array w n zero) ≡ 19 + 7 * n = array_length w n zero 0 (record { pulse = λ h. 0; value = λ h. 0 }) in omega (arith, size)
+part_few m (Array w n (suc v)) whole =
+    let size : part_size m (Array w n (suc v)) ≡ 20 + 7 * n = array_length w n (suc v) 0 (record { pulse = λ h. 0; value = λ h. 0 }) in omega (arith, size)
+part_few ForEach (Share t) whole = let few = share_few t in omega (arith, few)
+part_few (ForOrder order) (Share t) whole = let few = fast_few t order whole in omega (arith, few)
 
 pub gates_few : AreFew
-gates_few k b i = let size = layout_length k b i in let few = part_few k in omega (arith, size, few)
+gates_few m k b i whole = let size = layout_length m k b i in let few = part_few m k whole in omega (arith, size, few)
 
-parts_few : (n : ℕ) (ks : List Part) → total (λ _ k. part_size k) n ks ≤ 24 * (shakes_of ks + length ks) + 8 * numbers_of ks
-parts_few n [] = omega arith
-parts_few n (k ∷ ks) =
-    let one = part_few k in
-    let rest = parts_few (suc n) ks in
+parts_few : (making : ℕ → Making) (n : ℕ) (ks : List Part) → ((i : ℕ) (k : Part) → slice_get ks i ≡ Some k → IsWhole (making (n + i)) k)
+    → total (λ i k. part_size (making i) k) n ks ≤ 24 * (shakes_of ks + length ks) + 8 * numbers_of ks
+parts_few making n [] whole = omega arith
+parts_few making n (k ∷ ks) whole =
+    let one = part_few (making n) k (subst (λ (m : ℕ). IsWhole (making m) k) (omega arith) (whole 0 k refl)) in
+    let behind : (i : ℕ) (l : Part) → slice_get ks i ≡ Some l → IsWhole (making (suc n + i)) l =
+    λ i l there. subst (λ (m : ℕ). IsWhole (making m) l) (omega arith) (whole (suc i) l there) in
+    let rest = parts_few making (suc n) ks behind in
     omega (arith, one, rest)
 
 -- tokens
@@ -65,12 +69,12 @@ kept_few : (kept : Bool) (w : ℕ) → kept_size kept w ≤ 2
 kept_few true w = token_few w
 kept_few false w = omega arith
 
-joints_few : (keep : Keep) (p : Plan) (x : ℕ) (js : List Joint) → total (joint_size keep p) x js ≤ 4 * length js
-joints_few keep p x [] = omega arith
-joints_few keep p x (j ∷ js) =
-    let request : way_size keep p x j Request ≤ 2 = kept_few (keep x Request) _ in
-    let answer : way_size keep p x j Answer ≤ 2 = kept_few (keep x Answer) _ in
-    let rest = joints_few keep p (suc x) js in
+joints_few : (lay : Laying) (p : Plan) (x : ℕ) (js : List Joint) → total (joint_size lay p) x js ≤ 4 * length js
+joints_few lay p x [] = omega arith
+joints_few lay p x (j ∷ js) =
+    let request : way_size lay p x j Request ≤ 2 = kept_few (lay.keep x Request) _ in
+    let answer : way_size lay p x j Answer ≤ 2 = kept_few (lay.keep x Answer) _ in
+    let rest = joints_few lay p (suc x) js in
     omega (arith, request, answer, rest)
 
 shakes_few : (h : ℕ) (cs : List Contact) → total shake_size h cs ≤ 4 * length cs
@@ -105,8 +109,8 @@ short_imports : (n : ℕ) (ts : List Imported) → ((i : ℕ) (t : Imported) →
 short_imports n [] grounds = tt
 short_imports n (t ∷ ts) grounds = (contacts_few t.ty (grounds 0 t refl), short_imports (suc n) ts (λ i u is. grounds (suc i) u is))
 
-short_ports : (p : Plan) → IsSound p → AllByRecursion IsShort (ports_of p)
-short_ports p sound = (contacts_few p.outcome (done_ground p.outcome sound.done), short_imports 0 p.imports sound.grounds)
+short_ports : (lay : Laying) → (p : Plan) → IsSound lay p → AllByRecursion IsShort (ports_of p)
+short_ports lay p sound = (contacts_few p.outcome (done_ground p.outcome sound.done), short_imports 0 p.imports sound.grounds)
 
 ports_few : (k : ℕ) (os : List Outer) → AllByRecursion IsShort os → total port_size k os ≤ 8 * length os
 ports_few k [] short = omega arith
@@ -151,39 +155,43 @@ port_ends_few (o ∷ os) short =
     let rest = port_ends_few os short.1 in
     omega (arith, first, both, one, rest)
 
-loose_ends_few : (p : Plan) → IsSound p → length (loose_ends p) ≤ 2 * length (ports_of p) + shakes_of p.parts
-loose_ends_few p sound =
+loose_ends_few : (lay : Laying) → (p : Plan) → IsSound lay p → length (loose_ends p) ≤ 2 * length (ports_of p) + shakes_of p.parts
+loose_ends_few lay p sound =
     let ends : List End = port_ends (ports_of p) ++ part_ends 0 p.parts in
     let few = filter_few (λ e. is_free e p.joints) ends in
     let both = length-append (port_ends (ports_of p)) (part_ends 0 p.parts) in
-    let ports = port_ends_few (ports_of p) (short_ports p sound) in
+    let ports = port_ends_few (ports_of p) (short_ports lay p sound) in
     let parts = part_ends_long 0 p.parts in
     omega (arith, few, both, ports, parts)
 
 -- all cells
 
-laid_long : (keep : Keep) (p : Plan)
-    → length (laid_cells keep p) ≡ length (port_group keep p) + (length (joint_group keep p) + (length (loose_group p) + length (part_group keep p)))
-laid_long keep p =
-    let first = length-append (port_group keep p) (joint_group keep p ++ (loose_group p ++ part_group keep p)) in
-    let second = length-append (joint_group keep p) (loose_group p ++ part_group keep p) in
-    let third = length-append (loose_group p) (part_group keep p) in
+laid_long : (lay : Laying) (p : Plan)
+    → length (circuit_cells lay p) ≡ length (port_group lay p) + (length (joint_group lay p) + (length (loose_group p) + length (part_group lay p)))
+laid_long lay p =
+    let first = length-append (port_group lay p) (joint_group lay p ++ (loose_group p ++ part_group lay p)) in
+    let second = length-append (joint_group lay p) (loose_group p ++ part_group lay p) in
+    let third = length-append (loose_group p) (part_group lay p) in
     omega (arith, first, second, third)
 
-few_cells : (keep : Keep) (p : Plan) → IsSound p → length (laid_cells keep p) ≤ plan_size p
-few_cells keep p sound =
-    let whole = laid_long keep p in
-    let ports_are = ports_long keep p in
-    let joints_are = joints_long keep p in
+few_cells : (lay : Laying) (p : Plan) → IsSound lay p → AreWhole lay p → length (circuit_cells lay p) ≤ plan_size p
+few_cells lay p sound whole =
+    let long = laid_long lay p in
+    let ports_are = ports_long lay p in
+    let joints_are = joints_long lay p in
     let loose_are = loose_long p in
-    let parts_are = parts_long keep p in
-    let ports = ports_few 0 (ports_of p) (short_ports p sound) in
-    let joints = joints_few keep p 0 p.joints in
+    let parts_are = parts_long lay p in
+    let ports = ports_few 0 (ports_of p) (short_ports lay p sound) in
+    let joints = joints_few lay p 0 p.joints in
     let loose = loose_few p 0 (loose_ends p) in
-    let ends = loose_ends_few p sound in
-    let parts = parts_few 0 p.parts in
+    let ends = loose_ends_few lay p sound in
+    let parts = parts_few lay.making 0 p.parts (λ i k there. subst (λ (m : ℕ). IsWhole (lay.making m) k) (omega arith) (whole i k there)) in
     let count : length (ports_of p) ≡ suc (length p.imports) = ap suc (imports_long 0 p.imports) in
-    omega (arith, whole, ports_are, joints_are, loose_are, parts_are, ports, joints, loose, ends, parts, count)
+    omega (arith, long, ports_are, joints_are, loose_are, parts_are, ports, joints, loose, ends, parts, count)
 
+pub circuit_small : CircuitIsSmall
+circuit_small lay p root can whole = few_cells lay (plan_of p) (sound lay p root can) whole
+
+-- gates that are made for no order are few
 pub laid_small : LaidIsSmall
-laid_small keep p root can = few_cells keep (plan_of p) (sound p root can)
+laid_small keep p root can = circuit_small (plain keep) p root can (λ i k there. tt)

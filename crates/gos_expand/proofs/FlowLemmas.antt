@@ -19,8 +19,8 @@ use Rattle.gos_types.specs.Widths.{HasWidths}
 use Rattle.gos_macro.specs.Fit.{IsOwn, GoesOut, AllGoOut, GatesFit}
 use Rattle.gos_expand.specs.Blocks.{Nets, nets_from, token_size, inputs, registers}
 use Rattle.gos_expand.specs.Gates.{layout, outs_of}
-use Rattle.gos_expand.specs.Starts.{Keep, keep_all, Outer, ports_of, taken_ports, shake_size, bits_if, bits_taken, port_start, part_start, loose_start}
-use Rattle.gos_expand.specs.Laid.{Seat, seat_of, request_start, nets_out, outs_if, leaves, way_start, arrives_by, arrives, shake_cells, incoming, laid_cells}
+use Rattle.gos_expand.specs.Starts.{plain, Laying, keep_all, Outer, ports_of, taken_ports, shake_size, bits_if, bits_taken, port_start, part_start, loose_start}
+use Rattle.gos_expand.specs.Laid.{Seat, seat_of, request_start, nets_out, outs_if, leaves, way_start, arrives_by, arrives, shake_cells, incoming, circuit_cells}
 use Rattle.gos_expand.specs.Facts.{source, target, width}
 use Rattle.gos_expand.proofs.StandLemmas.{StandAt, each_left, each_right, each_block}
 use Rattle.gos_expand.proofs.GroupLemmas.{stands, token_length, shakes_length, port_stands, way_stands, part_stands}
@@ -28,8 +28,8 @@ use Rattle.gos_expand.proofs.NetLemmas.{IsNet, IsCut, IsAny, HasNets, token_nets
 use Rattle.gos_expand.proofs.SeatLemmas.{joint_fits, IsSide, seat_found, loose_stands}
 
 -- what is asked of a plan, in its own words
-pub record IsSound (p : Plan) : Type 0 where
-  pub gates : (i : ℕ) (k : Part) → slice_get p.parts i ≡ Some k → GatesFit k (layout k) (outs_of k)
+pub record IsSound (lay : Laying) (p : Plan) : Type 0 where
+  pub gates : (i : ℕ) (k : Part) → slice_get p.parts i ≡ Some k → GatesFit k (layout (lay.making i) k) (outs_of (lay.making i) k)
   pub narrow : (e : End) (c : Contact) → contact_at p e ≡ Some c → (c.ask_bits ≤ GREATEST_WIDTH) × (c.answer_bits ≤ GREATEST_WIDTH)
   pub right : IsRight p
   pub done : IsDone p.outcome
@@ -38,8 +38,8 @@ pub record IsSound (p : Plan) : Type 0 where
   pub ground_widths : (i : ℕ) (t : Imported) → slice_get p.imports i ≡ Some t → HasWidths t.ty
 
 -- the cells of a plan
-abbrev pub cells_of : Keep → Plan → List Cell
-cells_of keep p = laid_cells keep p
+abbrev pub cells_of : Laying → Plan → List Cell
+cells_of lay p = circuit_cells lay p
 
 moved_nets : (all : List Cell) (G : Function → Type 0) (w v m n : ℕ) → w ≡ v → m ≡ n → HasNets all G w (nets_from w m)
     → HasNets all G v (nets_from v n)
@@ -75,17 +75,17 @@ put_bits : (r : Role) (c : Contact) → bits_out r c ≡ bits_of c (way_put r)
 put_bits Serve c = refl
 put_bits Ask c = refl
 
-part_leaves : (keep : Keep) (p : Plan) → IsSound p → (i h : ℕ) (c : Contact) (o : Option Part) → slice_get p.parts i ≡ o
+part_leaves : (lay : Laying) (p : Plan) → IsSound lay p → (i h : ℕ) (c : Contact) (o : Option Part) → slice_get p.parts i ≡ o
     → slice_get (contacts_of_part o) h ≡ Some c
-    → HasNets (cells_of keep p) IsAny (bits_of c (way_put c.role)) (nets_out (slice_get (outs_if o (part_start keep p i)) h))
-part_leaves keep p sound i h c None at is = absurd (none-some c is)
-part_leaves keep p sound i h c (Some k) at is =
-    let b : ℕ = part_start keep p i in
-    let cells : List Cell = layout k b (incoming keep p i) in
-    let (o, found, out) = out_at b cells (part_contacts k) (outs_of k b) h c ((sound.gates i k at).outgoing b (incoming keep p i)) is in
-    let here = out_nets (cells_of keep p) b cells c o (part_stands keep p i k at) out in
-    let bits = subst (λ (w : ℕ). HasNets (cells_of keep p) IsAny w (nets_out (Some o))) (put_bits c.role c) here in
-    subst (λ (x : Option Outgoing). HasNets (cells_of keep p) IsAny (bits_of c (way_put c.role)) (nets_out x)) (sym found) bits
+    → HasNets (cells_of lay p) IsAny (bits_of c (way_put c.role)) (nets_out (slice_get (outs_if (lay.making i) o (part_start lay p i)) h))
+part_leaves lay p sound i h c None at is = absurd (none-some c is)
+part_leaves lay p sound i h c (Some k) at is =
+    let b : ℕ = part_start lay p i in
+    let cells : List Cell = layout (lay.making i) k b (incoming lay p i) in
+    let (o, found, out) = out_at b cells (part_contacts k) (outs_of (lay.making i) k b) h c ((sound.gates i k at).outgoing b (incoming lay p i)) is in
+    let here = out_nets (cells_of lay p) b cells c o (part_stands lay p i k at) out in
+    let bits = subst (λ (w : ℕ). HasNets (cells_of lay p) IsAny w (nets_out (Some o))) (put_bits c.role c) here in
+    subst (λ (x : Option Outgoing). HasNets (cells_of lay p) IsAny (bits_of c (way_put c.role)) (nets_out x)) (sym found) bits
 
 -- of a port: a ground type serves at each handshake
 
@@ -108,11 +108,11 @@ done_ground (Pair a b) d = absurd d
 done_ground (Fun a b) d = absurd d
 
 -- the cells of a handshake of a port
-pub shake_stands : (keep : Keep) (p : Plan) (k : ℕ) (o : Outer) (h : ℕ) (c : Contact) → slice_get (ports_of p) k ≡ Some o
+pub shake_stands : (lay : Laying) (p : Plan) (k : ℕ) (o : Outer) (h : ℕ) (c : Contact) → slice_get (ports_of p) k ≡ Some o
     → slice_get o.contacts h ≡ Some c
-    → StandAt (cells_of keep p) (request_start (port_start p k) o.contacts h) (shake_cells keep p o (0 + h) c)
-shake_stands keep p k o h c at is =
-    each_block (stands keep p) (shake_cells keep p o) shake_size (shakes_length keep p o) (port_start p k) 0 o.contacts h c is (port_stands keep p k o at)
+    → StandAt (cells_of lay p) (request_start (port_start p k) o.contacts h) (shake_cells lay p o (0 + h) c)
+shake_stands lay p k o h c at is =
+    each_block (stands lay p) (shake_cells lay p o) shake_size (shakes_length lay p o) (port_start p k) 0 o.contacts h c is (port_stands lay p k o at)
 
 abbrev pub result_port : Plan → Outer
 result_port p = record { side = Give; contacts = contacts_of p.outcome; end_at = ResultEnd }
@@ -132,66 +132,66 @@ taken_at n (u ∷ ts) (suc i) t is =
 pub import_at : (p : Plan) (i : ℕ) (t : Imported) → slice_get p.imports i ≡ Some t → slice_get (ports_of p) (suc i) ≡ Some (import_port i t)
 import_at p i t is = taken_at 0 p.imports i t is ∙ ap (λ (m : ℕ). Some (import_port m t)) (zero-add i)
 
-result_leaves : (keep : Keep) (p : Plan) → IsSound p → (h : ℕ) (c : Contact) (o : Option Contact) → slice_get (contacts_of p.outcome) h ≡ o
+result_leaves : (lay : Laying) (p : Plan) → IsSound lay p → (h : ℕ) (c : Contact) (o : Option Contact) → slice_get (contacts_of p.outcome) h ≡ o
     → turned_if o ≡ Some c
-    → HasNets (cells_of keep p) IsAny (bits_of c (way_put c.role)) (nets_from (bits_if o Request) (request_start (port_start p 0) (contacts_of p.outcome) h))
-result_leaves keep p sound h c None at is = absurd (none-some c is)
-result_leaves keep p sound h c (Some d) at is =
+    → HasNets (cells_of lay p) IsAny (bits_of c (way_put c.role)) (nets_from (bits_if o Request) (request_start (port_start p 0) (contacts_of p.outcome) h))
+result_leaves lay p sound h c None at is = absurd (none-some c is)
+result_leaves lay p sound h c (Some d) at is =
     let n : ℕ = request_start (port_start p 0) (contacts_of p.outcome) h in
     let o : Outer = result_port p in
-    let whole = shake_stands keep p 0 o h d refl at in
-    let request = each_left (stands keep p) n (inputs d.ask_bits) (registers d.answer_bits (arrives keep p (ResultEnd (0 + h)))) whole in
-    let here = token_nets (cells_of keep p) IsAny d.ask_bits n _ _ request tt tt in
+    let whole = shake_stands lay p 0 o h d refl at in
+    let request = each_left (stands lay p) n (inputs d.ask_bits) (registers d.answer_bits (arrives lay p (ResultEnd (0 + h)))) whole in
+    let here = token_nets (cells_of lay p) IsAny d.ask_bits n _ _ request tt tt in
     let role = ground_serves p.outcome h d (done_ground p.outcome sound.done) at in
     let same : turned_contact d ≡ c = same_Some (turned_contact d) c is in
     let bits : d.ask_bits ≡ bits_of c (way_put c.role) =
     bits_turned d role ∙ ap (λ (x : Contact). bits_of x (way_put x.role)) same in
-    subst (λ (w : ℕ). HasNets (cells_of keep p) IsAny w (nets_from d.ask_bits n)) bits here
+    subst (λ (w : ℕ). HasNets (cells_of lay p) IsAny w (nets_from d.ask_bits n)) bits here
   where
     bits_turned : (d : Contact) → d.role ≡ Serve → d.ask_bits ≡ bits_of (turned_contact d) (way_put (turned_contact d).role)
     bits_turned d role = sym (ap (λ (r : Role). bits_of (turned_contact (record d { role = r })) (way_put (turned_contact (record d { role = r })).role)) role)
 
-import_leaves : (keep : Keep) (p : Plan) → IsSound p → (i h : ℕ) (c : Contact) (o : Option Imported) → slice_get p.imports i ≡ o
+import_leaves : (lay : Laying) (p : Plan) → IsSound lay p → (i h : ℕ) (c : Contact) (o : Option Imported) → slice_get p.imports i ≡ o
     → slice_get (contacts_of_import o) h ≡ Some c
-    → HasNets (cells_of keep p) IsAny (bits_of c (way_put c.role))
+    → HasNets (cells_of lay p) IsAny (bits_of c (way_put c.role))
     (nets_from (bits_if (slice_get (contacts_of_import o) h) Answer)
     (request_start (port_start p (suc i)) (contacts_of_import o) h + token_size (bits_if (slice_get (contacts_of_import o) h) Request)))
-import_leaves keep p sound i h c None at is = absurd (none-some c is)
-import_leaves keep p sound i h c (Some t) at is =
+import_leaves lay p sound i h c None at is = absurd (none-some c is)
+import_leaves lay p sound i h c (Some t) at is =
     let n : ℕ = request_start (port_start p (suc i)) (contacts_of t.ty) h in
     let o : Outer = import_port i t in
-    let whole = shake_stands keep p (suc i) o h c (import_at p i t at) is in
-    let request : List Cell = registers c.ask_bits (arrives keep p (ImportEnd i (0 + h))) in
-    let answer = each_right (stands keep p) n request (inputs c.answer_bits) whole in
-    let here = token_nets (cells_of keep p) IsAny c.answer_bits (n + length request) _ _ answer tt tt in
+    let whole = shake_stands lay p (suc i) o h c (import_at p i t at) is in
+    let request : List Cell = registers c.ask_bits (arrives lay p (ImportEnd i (0 + h))) in
+    let answer = each_right (stands lay p) n request (inputs c.answer_bits) whole in
+    let here = token_nets (cells_of lay p) IsAny c.answer_bits (n + length request) _ _ answer tt tt in
     let role = ground_serves t.ty h c (sound.grounds i t at) is in
     let bits : c.answer_bits ≡ bits_of c (way_put c.role) = sym (ap (λ (r : Role). bits_of c (way_put r)) role) in
     let long : length request ≡ token_size c.ask_bits = token_length c.ask_bits _ _ in
-    let moved = subst (λ (m : ℕ). HasNets (cells_of keep p) IsAny c.answer_bits (nets_from c.answer_bits (n + m))) long here in
-    let width = subst (λ (w : ℕ). HasNets (cells_of keep p) IsAny w (nets_from c.answer_bits (n + token_size c.ask_bits))) bits moved in
-    subst (λ (x : Option Contact). HasNets (cells_of keep p) IsAny (bits_of c (way_put c.role)) (nets_from (bits_if x Answer) (n + token_size (bits_if x Request))))
+    let moved = subst (λ (m : ℕ). HasNets (cells_of lay p) IsAny c.answer_bits (nets_from c.answer_bits (n + m))) long here in
+    let width = subst (λ (w : ℕ). HasNets (cells_of lay p) IsAny w (nets_from c.answer_bits (n + token_size c.ask_bits))) bits moved in
+    subst (λ (x : Option Contact). HasNets (cells_of lay p) IsAny (bits_of c (way_put c.role)) (nets_from (bits_if x Answer) (n + token_size (bits_if x Request))))
     (sym is) width
 
 -- what goes into the circuit at an end
-pub leaves_nets : (keep : Keep) (p : Plan) → IsSound p → (e : End) (c : Contact) → contact_at p e ≡ Some c
-    → HasNets (cells_of keep p) IsAny (bits_of c (way_put c.role)) (leaves keep p e)
-leaves_nets keep p sound (PartEnd i h) c is = part_leaves keep p sound i h c (slice_get p.parts i) refl is
-leaves_nets keep p sound (ImportEnd i h) c is = import_leaves keep p sound i h c (slice_get p.imports i) refl is
-leaves_nets keep p sound (ResultEnd h) c is = result_leaves keep p sound h c (slice_get (contacts_of p.outcome) h) refl is
+pub leaves_nets : (lay : Laying) (p : Plan) → IsSound lay p → (e : End) (c : Contact) → contact_at p e ≡ Some c
+    → HasNets (cells_of lay p) IsAny (bits_of c (way_put c.role)) (leaves lay p e)
+leaves_nets lay p sound (PartEnd i h) c is = part_leaves lay p sound i h c (slice_get p.parts i) refl is
+leaves_nets lay p sound (ImportEnd i h) c is = import_leaves lay p sound i h c (slice_get p.imports i) refl is
+leaves_nets lay p sound (ResultEnd h) c is = result_leaves lay p sound h c (slice_get (contacts_of p.outcome) h) refl is
 
 -- what comes in at an end
 
 -- What is known of the cells of what comes in: of registers and of constants, and of all cells where a direction of a joint
 -- keeps no registers.
-pub record Arriving (keep : Keep) (G : Function → Type 0) : Type 0 where
+pub record Arriving (lay : Laying) (G : Function → Type 0) : Type 0 where
   pub cut : (f : Function) → IsCut f → G f
-  pub passed : (x : ℕ) (way : Direction) → keep x way ≡ false → (f : Function) → G f
+  pub passed : (x : ℕ) (way : Direction) → lay.keep x way ≡ false → (f : Function) → G f
 
 -- nothing is known of them, or that they are cut where all directions keep registers
-pub any_arriving : (keep : Keep) → Arriving keep IsAny
-any_arriving keep = record { cut = λ f is. tt; passed = λ x way none f. tt }
+pub any_arriving : (lay : Laying) → Arriving lay IsAny
+any_arriving lay = record { cut = λ f is. tt; passed = λ x way none f. tt }
 
-pub cut_arriving : Arriving keep_all IsCut
+pub cut_arriving : Arriving (plain keep_all) IsCut
 cut_arriving = record { cut = λ f is. is; passed = λ x way none. absurd (cc none) }
 
 -- a seat tells the joint, the end that takes there, and the bits of what comes in: those of what goes in at the other end
@@ -241,40 +241,40 @@ seat_tells p right e s seat =
     seat_of_side p e s seated.at_joint fits.0 fits.1 at fits.2 fits.3 seated.side
 
 -- what comes in at an end is what goes in at the other end of its joint
-pub record Straight (keep : Keep) (p : Plan) (e : End) : Type 0 where
+pub record Straight (lay : Laying) (p : Plan) (e : End) : Type 0 where
   pub joint : ℕ
   pub passed : Joint
   pub way : Direction
   pub stands_there : slice_get p.joints joint ≡ Some passed
-  pub straight : keep joint way ≡ false
+  pub straight : lay.keep joint way ≡ false
   pub here : target passed way ≡ e
-  pub nets : arrives keep p e ≡ leaves keep p (source passed way)
+  pub nets : arrives lay p e ≡ leaves lay p (source passed way)
   pub contact : Contact
   pub contact_is : contact_at p (source passed way) ≡ Some contact
   pub bits : bits_of contact (way_put contact.role) ≡ bits_taken (contact_at p e)
 
 -- what comes in at an end is cut, or straight
-pub comes_in : (keep : Keep) (p : Plan) → IsRight p → (e : End) (c : Contact) → contact_at p e ≡ Some c
-    → HasNets (cells_of keep p) IsCut (bits_taken (contact_at p e)) (arrives keep p e) ⊎ Straight keep p e
-comes_in keep p right e c is = by_seat (seat_of p e) refl
+pub comes_in : (lay : Laying) (p : Plan) → IsRight p → (e : End) (c : Contact) → contact_at p e ≡ Some c
+    → HasNets (cells_of lay p) IsCut (bits_taken (contact_at p e)) (arrives lay p e) ⊎ Straight lay p e
+comes_in lay p right e c is = by_seat (seat_of p e) refl
   where
     all : List Cell
-    all = cells_of keep p
+    all = cells_of lay p
 
     w : ℕ
     w = bits_taken (contact_at p e)
 
     registers_at : Seat → ℕ
-    registers_at s = way_start keep p s.joint (slice_get p.joints s.joint) s.way
+    registers_at s = way_start lay p s.joint (slice_get p.joints s.joint) s.way
 
-    by_kept : (s : Seat) → seat_of p e ≡ Some s → (known : AtSeat p e s) (b : Bool) → keep s.joint s.way ≡ b
-        → HasNets all IsCut w (if b then nets_from w (registers_at s) else leaves keep p s.other) ⊎ Straight keep p e
+    by_kept : (s : Seat) → seat_of p e ≡ Some s → (known : AtSeat p e s) (b : Bool) → lay.keep s.joint s.way ≡ b
+        → HasNets all IsCut w (if b then nets_from w (registers_at s) else leaves lay p s.other) ⊎ Straight lay p e
     by_kept s seat known true kept =
         let j : Joint = known.joint in
-        let start : way_start keep p s.joint (Some j) s.way ≡ registers_at s =
-        ap (λ (o : Option Joint). way_start keep p s.joint o s.way) (sym known.stands_there) in
-        let nets = token_nets all IsCut (width p j s.way) (way_start keep p s.joint (Some j) s.way) _ _
-        (way_stands keep p s.joint j s.way known.stands_there kept) (inl (_, refl)) (inl (_, refl)) in
+        let start : way_start lay p s.joint (Some j) s.way ≡ registers_at s =
+        ap (λ (o : Option Joint). way_start lay p s.joint o s.way) (sym known.stands_there) in
+        let nets = token_nets all IsCut (width p j s.way) (way_start lay p s.joint (Some j) s.way) _ _
+        (way_stands lay p s.joint j s.way known.stands_there kept) (inl (_, refl)) (inl (_, refl)) in
         inl (moved_nets all IsCut _ _ _ _ known.width_is start nets)
     by_kept s seat known false none =
         inr
@@ -286,17 +286,17 @@ comes_in keep p right e c is = by_seat (seat_of p e) refl
           straight = none;
           here = known.here;
           nets =
-              ap (arrives_by keep p e) seat
-              ∙ (ap (λ (b : Bool). if b then nets_from w (registers_at s) else leaves keep p s.other) none ∙ ap (leaves keep p) known.other);
+              ap (arrives_by lay p e) seat
+              ∙ (ap (λ (b : Bool). if b then nets_from w (registers_at s) else leaves lay p s.other) none ∙ ap (leaves lay p) known.other);
           contact = known.contact;
           contact_is = known.contact_is;
           bits = known.bits;
         })
 
-    by_seat : (o : Option Seat) → seat_of p e ≡ o → HasNets all IsCut w (arrives_by keep p e o) ⊎ Straight keep p e
+    by_seat : (o : Option Seat) → seat_of p e ≡ o → HasNets all IsCut w (arrives_by lay p e o) ⊎ Straight lay p e
     by_seat None none =
-        inl (token_nets all IsCut w (loose_start keep p e) (Const 0) (Const 0) (loose_stands keep p e c is none) (inr refl) (inr refl))
-    by_seat (Some s) seat = by_kept s seat (seat_tells p right e s seat) (keep s.joint s.way) refl
+        inl (token_nets all IsCut w (loose_start lay p e) (Const 0) (Const 0) (loose_stands lay p e c is none) (inr refl) (inr refl))
+    by_seat (Some s) seat = by_kept s seat (seat_tells p right e s seat) (lay.keep s.joint s.way) refl
 
 -- so it has the bits of its handshake, and what is known of its cells
 nets_known : (all : List Cell) (F G : Function → Type 0) (w : ℕ) (n : Nets) → ((f : Function) → F f → G f) → HasNets all F w n → HasNets all G w n
@@ -306,16 +306,16 @@ nets_known all F G w n each has =
     known : (net v : ℕ) → IsNet all F net v → IsNet all G net v
     known net v (c, at, bits, is) = (c, at, bits, each c.gate is)
 
-pub arrives_nets : (keep : Keep) (p : Plan) (G : Function → Type 0) → Arriving keep G → IsSound p → (e : End) (c : Contact) → contact_at p e ≡ Some c
-    → HasNets (cells_of keep p) G (bits_of c (way_taken c.role)) (arrives keep p e)
-arrives_nets keep p G arriving sound e c is =
-    subst (λ (v : ℕ). HasNets (cells_of keep p) G v (arrives keep p e)) (ap bits_taken is) (of_coming (comes_in keep p sound.right e c is))
+pub arrives_nets : (lay : Laying) (p : Plan) (G : Function → Type 0) → Arriving lay G → IsSound lay p → (e : End) (c : Contact) → contact_at p e ≡ Some c
+    → HasNets (cells_of lay p) G (bits_of c (way_taken c.role)) (arrives lay p e)
+arrives_nets lay p G arriving sound e c is =
+    subst (λ (v : ℕ). HasNets (cells_of lay p) G v (arrives lay p e)) (ap bits_taken is) (of_coming (comes_in lay p sound.right e c is))
   where
-    of_coming : HasNets (cells_of keep p) IsCut (bits_taken (contact_at p e)) (arrives keep p e) ⊎ Straight keep p e
-        → HasNets (cells_of keep p) G (bits_taken (contact_at p e)) (arrives keep p e)
-    of_coming (inl cut) = nets_known (cells_of keep p) IsCut G (bits_taken (contact_at p e)) (arrives keep p e) arriving.cut cut
+    of_coming : HasNets (cells_of lay p) IsCut (bits_taken (contact_at p e)) (arrives lay p e) ⊎ Straight lay p e
+        → HasNets (cells_of lay p) G (bits_taken (contact_at p e)) (arrives lay p e)
+    of_coming (inl cut) = nets_known (cells_of lay p) IsCut G (bits_taken (contact_at p e)) (arrives lay p e) arriving.cut cut
     of_coming (inr s) =
-        nets_known (cells_of keep p) IsAny G (bits_taken (contact_at p e)) (arrives keep p e) (λ f is. arriving.passed s.joint s.way s.straight f)
-        (subst (λ (n : Nets). HasNets (cells_of keep p) IsAny (bits_taken (contact_at p e)) n) (sym s.nets)
-        (subst (λ (v : ℕ). HasNets (cells_of keep p) IsAny v (leaves keep p (source s.passed s.way))) s.bits
-        (leaves_nets keep p sound (source s.passed s.way) s.contact s.contact_is)))
+        nets_known (cells_of lay p) IsAny G (bits_taken (contact_at p e)) (arrives lay p e) (λ f is. arriving.passed s.joint s.way s.straight f)
+        (subst (λ (n : Nets). HasNets (cells_of lay p) IsAny (bits_taken (contact_at p e)) n) (sym s.nets)
+        (subst (λ (v : ℕ). HasNets (cells_of lay p) IsAny v (leaves lay p (source s.passed s.way))) s.bits
+        (leaves_nets lay p sound (source s.passed s.way) s.contact s.contact_is)))

@@ -19,8 +19,8 @@ use Rattle.gos_plan.specs.Tokens.{bits_of, way_taken}
 use Rattle.gos_macro.specs.Gates.{Incoming, bits_in, incoming_bits}
 use Rattle.gos_macro.specs.Fit.{IsKnown, reach_of, NameEarlier, BitsComeIn, HaveBits, GatesFit}
 use Rattle.gos_expand.specs.Blocks.{Nets, inputs, registers, nothing}
-use Rattle.gos_expand.specs.Gates.{layout, outs_of}
-use Rattle.gos_expand.specs.Starts.{Keep, Outer, ports_of, taken_ports, shake_size, bits_if, bits_taken, port_start, joint_start, part_start}
+use Rattle.gos_expand.specs.Gates.{Making, layout, outs_of}
+use Rattle.gos_expand.specs.Starts.{Laying, Outer, ports_of, taken_ports, shake_size, bits_if, bits_taken, port_start, joint_start, part_start}
 use Rattle.gos_expand.specs.Laid.{arrives, leaves, registers_if, side_cells, shake_cells, port_cells, way_cells, joint_cells, loose_cells, part_cells, known, incoming}
 use Rattle.gos_expand.proofs.StandLemmas.{Each, StandAt, each_none, each_both, each_of_blocks}
 use Rattle.gos_expand.proofs.GroupLemmas.{shakes_length, each_laid, part_stands}
@@ -84,32 +84,32 @@ good_side G all Take c n b small has =
     (good_inputs G all c.answer_bits (b + length (registers c.ask_bits n)) small.1)
 
 -- each handshake of a port has what comes in, and few bits
-abbrev pub ShakesFit : (Function → Type 0) → Keep → Plan → Outer → Type 0
-ShakesFit G keep p o =
+abbrev pub ShakesFit : (Function → Type 0) → Laying → Plan → Outer → Type 0
+ShakesFit G lay p o =
     (h : ℕ) (c : Contact) → slice_get o.contacts h ≡ Some c
-    → ((c.ask_bits ≤ GREATEST_WIDTH) × (c.answer_bits ≤ GREATEST_WIDTH)) × HasNets (cells_of keep p) G (bits_shown o.side c) (arrives keep p (o.end_at h))
+    → ((c.ask_bits ≤ GREATEST_WIDTH) × (c.answer_bits ≤ GREATEST_WIDTH)) × HasNets (cells_of lay p) G (bits_shown o.side c) (arrives lay p (o.end_at h))
 
-result_fits : (G : Function → Type 0) (keep : Keep) (p : Plan) → Arriving keep G → IsSound p → ShakesFit G keep p (result_port p)
-result_fits G keep p arriving sound h c is =
+result_fits : (G : Function → Type 0) (lay : Laying) (p : Plan) → Arriving lay G → IsSound lay p → ShakesFit G lay p (result_port p)
+result_fits G lay p arriving sound h c is =
     let at : contact_at p (ResultEnd h) ≡ Some (turned_contact c) = ap turned_if is in
     let role = ground_serves p.outcome h c (done_ground p.outcome sound.done) is in (
       sound.narrow (ResultEnd h) (turned_contact c) at,
-      subst (λ (w : ℕ). HasNets (cells_of keep p) G w (arrives keep p (ResultEnd h))) (bits_turned c role)
-          (arrives_nets keep p G arriving sound (ResultEnd h) (turned_contact c) at),
+      subst (λ (w : ℕ). HasNets (cells_of lay p) G w (arrives lay p (ResultEnd h))) (bits_turned c role)
+          (arrives_nets lay p G arriving sound (ResultEnd h) (turned_contact c) at),
     )
   where
     bits_turned : (d : Contact) → d.role ≡ Serve → bits_of (turned_contact d) (way_taken (turned_contact d).role) ≡ d.answer_bits
     bits_turned d role = ap (λ (r : Role). bits_of (turned_contact (record d { role = r })) (way_taken (turned_contact (record d { role = r })).role)) role
 
-import_fits : (G : Function → Type 0) (keep : Keep) (p : Plan) → Arriving keep G → IsSound p → (i : ℕ) (t : Imported)
-    → slice_get p.imports i ≡ Some t → ShakesFit G keep p (import_port i t)
-import_fits G keep p arriving sound i t there h c is =
+import_fits : (G : Function → Type 0) (lay : Laying) (p : Plan) → Arriving lay G → IsSound lay p → (i : ℕ) (t : Imported)
+    → slice_get p.imports i ≡ Some t → ShakesFit G lay p (import_port i t)
+import_fits G lay p arriving sound i t there h c is =
     let at : contact_at p (ImportEnd i h) ≡ Some c = ap (λ (o : Option Imported). slice_get (contacts_of_import o) h) there ∙ is in
     let role = ground_serves t.ty h c (sound.grounds i t there) is in
     let bits : bits_of c (way_taken c.role) ≡ c.ask_bits = ap (λ (r : Role). bits_of c (way_taken r)) role in (
       sound.narrow (ImportEnd i h) c at,
-      subst (λ (w : ℕ). HasNets (cells_of keep p) G w (arrives keep p (ImportEnd i h))) bits
-          (arrives_nets keep p G arriving sound (ImportEnd i h) c at),
+      subst (λ (w : ℕ). HasNets (cells_of lay p) G w (arrives lay p (ImportEnd i h))) bits
+          (arrives_nets lay p G arriving sound (ImportEnd i h) c at),
     )
 
 taken_found : (n : ℕ) (ts : List Imported) (i : ℕ) (o : Outer) → slice_get (taken_ports n ts) i ≡ Some o
@@ -122,23 +122,23 @@ taken_found n (u ∷ ts) (suc i) o is =
     let (t, found, same) = taken_found (suc n) ts i o is in
     (t, found, same ∙ ap (λ (m : ℕ). import_port m t) e)
 
-port_fits : (G : Function → Type 0) (keep : Keep) (p : Plan) → Arriving keep G → IsSound p → (k : ℕ) (o : Outer)
-    → slice_get (ports_of p) k ≡ Some o → ShakesFit G keep p o
-port_fits G keep p arriving sound zero o is = subst (ShakesFit G keep p) (same_Some (result_port p) o is) (result_fits G keep p arriving sound)
-port_fits G keep p arriving sound (suc i) o is =
+port_fits : (G : Function → Type 0) (lay : Laying) (p : Plan) → Arriving lay G → IsSound lay p → (k : ℕ) (o : Outer)
+    → slice_get (ports_of p) k ≡ Some o → ShakesFit G lay p o
+port_fits G lay p arriving sound zero o is = subst (ShakesFit G lay p) (same_Some (result_port p) o is) (result_fits G lay p arriving sound)
+port_fits G lay p arriving sound (suc i) o is =
     let (t, found, same) = taken_found 0 p.imports i o is in
     let same' : o ≡ import_port i t = same ∙ ap (λ (m : ℕ). import_port m t) (zero-add i) in
-    subst (ShakesFit G keep p) (sym same') (import_fits G keep p arriving sound i t found)
+    subst (ShakesFit G lay p) (sym same') (import_fits G lay p arriving sound i t found)
 
-good_port : (G : Function → Type 0) (keep : Keep) (p : Plan) → Arriving keep G → IsSound p → (k : ℕ) (o : Outer) → slice_get (ports_of p) k ≡ Some o
-    → Each (IsGood G (cells_of keep p)) (port_start p k) (port_cells keep p k o)
-good_port G keep p arriving sound k o is =
-    let fits = port_fits G keep p arriving sound k o is in
-    each_of_blocks (IsGood G (cells_of keep p)) (shake_cells keep p o) shake_size (shakes_length keep p o) (port_start p k) 0 o.contacts
+good_port : (G : Function → Type 0) (lay : Laying) (p : Plan) → Arriving lay G → IsSound lay p → (k : ℕ) (o : Outer) → slice_get (ports_of p) k ≡ Some o
+    → Each (IsGood G (cells_of lay p)) (port_start p k) (port_cells lay p k o)
+good_port G lay p arriving sound k o is =
+    let fits = port_fits G lay p arriving sound k o is in
+    each_of_blocks (IsGood G (cells_of lay p)) (shake_cells lay p o) shake_size (shakes_length lay p o) (port_start p k) 0 o.contacts
     (λ h c there.
     let at : slice_get o.contacts (0 + h) ≡ Some c = ap (slice_get o.contacts) (zero-add h) ∙ there in
     let (small, has) = fits (0 + h) c at in
-    good_side G (cells_of keep p) o.side c (arrives keep p (o.end_at (0 + h))) _ small (any_nets (cells_of keep p) G _ _ has))
+    good_side G (cells_of lay p) o.side c (arrives lay p (o.end_at (0 + h))) _ small (any_nets (cells_of lay p) G _ _ has))
 
 -- joints
 
@@ -147,34 +147,34 @@ good_way : (G : Function → Type 0) (all : List Cell) (kept : Bool) (w b : ℕ)
 good_way G all true w b n small has = good_registers G all w b n small has
 good_way G all false w b n small has = each_none (IsGood G all) b
 
-good_joint : (G : Function → Type 0) (keep : Keep) (p : Plan) → IsSound p → (x : ℕ) (j : Joint) → slice_get p.joints x ≡ Some j
-    → Each (IsGood G (cells_of keep p)) (joint_start keep p x) (joint_cells keep p x j)
-good_joint G keep p sound x j is =
+good_joint : (G : Function → Type 0) (lay : Laying) (p : Plan) → IsSound lay p → (x : ℕ) (j : Joint) → slice_get p.joints x ≡ Some j
+    → Each (IsGood G (cells_of lay p)) (joint_start lay p x) (joint_cells lay p x j)
+good_joint G lay p sound x j is =
     let fits = joint_fits p [] p.joints x j sound.right is in
-    each_both (IsGood G (cells_of keep p)) (joint_start keep p x) (way_cells keep p x j Request j.asking) (way_cells keep p x j Answer j.serving)
+    each_both (IsGood G (cells_of lay p)) (joint_start lay p x) (way_cells lay p x j Request j.asking) (way_cells lay p x j Answer j.serving)
     (requests (fits.0) (fits.1) _ fits.2)
     (answers (fits.0) (fits.1) _ fits.2 fits.3)
   where
     requests : (q a b : ℕ) → contact_at p j.asking ≡ Some (asks q a)
-        → Each (IsGood G (cells_of keep p)) b (way_cells keep p x j Request j.asking)
+        → Each (IsGood G (cells_of lay p)) b (way_cells lay p x j Request j.asking)
     requests q a b asking =
-        let here = good_way G (cells_of keep p) (keep x Request) q b (leaves keep p j.asking) (sound.narrow j.asking (asks q a) asking).0
-        (leaves_nets keep p sound j.asking (asks q a) asking) in
+        let here = good_way G (cells_of lay p) (lay.keep x Request) q b (leaves lay p j.asking) (sound.narrow j.asking (asks q a) asking).0
+        (leaves_nets lay p sound j.asking (asks q a) asking) in
         let same = ap (λ (o : Option Contact). bits_if o Request) asking in
-        subst (λ (w : ℕ). Each (IsGood G (cells_of keep p)) b (registers_if (keep x Request) w (leaves keep p j.asking))) (sym same) here
+        subst (λ (w : ℕ). Each (IsGood G (cells_of lay p)) b (registers_if (lay.keep x Request) w (leaves lay p j.asking))) (sym same) here
 
     answers : (q a b : ℕ) → contact_at p j.asking ≡ Some (asks q a) → contact_at p j.serving ≡ Some (serves q a)
-        → Each (IsGood G (cells_of keep p)) b (way_cells keep p x j Answer j.serving)
+        → Each (IsGood G (cells_of lay p)) b (way_cells lay p x j Answer j.serving)
     answers q a b asking serving =
-        let here = good_way G (cells_of keep p) (keep x Answer) a b (leaves keep p j.serving) (sound.narrow j.serving (serves q a) serving).1
-        (leaves_nets keep p sound j.serving (serves q a) serving) in
+        let here = good_way G (cells_of lay p) (lay.keep x Answer) a b (leaves lay p j.serving) (sound.narrow j.serving (serves q a) serving).1
+        (leaves_nets lay p sound j.serving (serves q a) serving) in
         let same = ap (λ (o : Option Contact). bits_if o Answer) asking in
-        subst (λ (w : ℕ). Each (IsGood G (cells_of keep p)) b (registers_if (keep x Answer) w (leaves keep p j.serving))) (sym same) here
+        subst (λ (w : ℕ). Each (IsGood G (cells_of lay p)) b (registers_if (lay.keep x Answer) w (leaves lay p j.serving))) (sym same) here
 
 -- ends without a joint
 
-good_loose : (G : Function → Type 0) (keep : Keep) (p : Plan) → IsSound p → (b n : ℕ) (e : End) → Each (IsGood G (cells_of keep p)) b (loose_cells p n e)
-good_loose G keep p sound b n e = good_nothing G (cells_of keep p) (bits_taken (contact_at p e)) b (small (contact_at p e) refl)
+good_loose : (G : Function → Type 0) (lay : Laying) (p : Plan) → IsSound lay p → (b n : ℕ) (e : End) → Each (IsGood G (cells_of lay p)) b (loose_cells p n e)
+good_loose G lay p sound b n e = good_nothing G (cells_of lay p) (bits_taken (contact_at p e)) b (small (contact_at p e) refl)
   where
     few : (r : Role) (c : Contact) → (c.ask_bits ≤ GREATEST_WIDTH) × (c.answer_bits ≤ GREATEST_WIDTH) → bits_of c (way_taken r) ≤ GREATEST_WIDTH
     few Serve c h = h.0
@@ -205,20 +205,20 @@ in_bits (d ∷ cs) zero c is = ap (λ (x : Contact). bits_in x.role x) (same_Som
     by_role Ask c = refl
 in_bits (d ∷ cs) (suc h) c is = in_bits cs h c is
 
-all_come : (G : Function → Type 0) (keep : Keep) (p : Plan) → Arriving keep G → IsSound p → (i : ℕ) (k : Part) → slice_get p.parts i ≡ Some k
-    → AllComeIn G (cells_of keep p) (part_contacts k) (incoming keep p i)
-all_come G keep p arriving sound i k there h l =
+all_come : (G : Function → Type 0) (lay : Laying) (p : Plan) → Arriving lay G → IsSound lay p → (i : ℕ) (k : Part) → slice_get p.parts i ≡ Some k
+    → AllComeIn G (cells_of lay p) (part_contacts k) (incoming lay p i)
+all_come G lay p arriving sound i k there h l =
     let (c, is) = is_there (part_contacts k) h l in
     let e : End = PartEnd i h in
     let at : contact_at p e ≡ Some c = ap (λ (o : Option Part). slice_get (contacts_of_part o) h) there ∙ is in
     let bits : ℕ = bits_of c (way_taken c.role) in
-    let nets : Nets = arrives keep p e in
-    let has = arrives_nets keep p G arriving sound e c at in
-    let pulse = subst (λ (o : Option Contact). IsNet (cells_of keep p) G (known o nets.pulse) 1) (sym at) has.of_pulse in
-    let number : 0 < bits → IsNet (cells_of keep p) G (known (contact_at p e) nets.number) bits =
-    subst (λ (o : Option Contact). 0 < bits → IsNet (cells_of keep p) G (known o nets.number) bits) (sym at) has.of_number in
+    let nets : Nets = arrives lay p e in
+    let has = arrives_nets lay p G arriving sound e c at in
+    let pulse = subst (λ (o : Option Contact). IsNet (cells_of lay p) G (known o nets.pulse) 1) (sym at) has.of_pulse in
+    let number : 0 < bits → IsNet (cells_of lay p) G (known (contact_at p e) nets.number) bits =
+    subst (λ (o : Option Contact). 0 < bits → IsNet (cells_of lay p) G (known o nets.number) bits) (sym at) has.of_number in
     let same = in_bits (part_contacts k) h c is in
-    (pulse, subst (λ (w : ℕ). 0 < w → IsNet (cells_of keep p) G (known (contact_at p e) nets.number) w) (sym same) number)
+    (pulse, subst (λ (w : ℕ). 0 < w → IsNet (cells_of lay p) G (known (contact_at p e) nets.number) w) (sym same) number)
 
 bits_come : (G : Function → Type 0) (all : List Cell) (cs : List Contact) (i : Incoming) → AllComeIn G all cs i → BitsComeIn cs i (widths_of all)
 bits_come G all cs i come h l =
@@ -286,10 +286,10 @@ register_or (Less a b) = inr (λ n size. refl)
 register_or (Gate s a) = inr (λ n size. refl)
 
 good_gates : (G : Function → Type 0) → ((f : Function) → IsCut f → G f)
-    → (all : List Cell) (k : Part) (b : ℕ) (i : Incoming) → GatesFit k (layout k) (outs_of k) → AllComeIn G all (part_contacts k) i
-    → StandAt all b (layout k b i) → Each (IsGood G all) b (layout k b i)
-good_gates G cut all k b i fits come stand n c is =
-    let cells : List Cell = layout k b i in
+    → (all : List Cell) (m : Making) (k : Part) (b : ℕ) (i : Incoming) → GatesFit k (layout m k) (outs_of m k) → AllComeIn G all (part_contacts k) i
+    → StandAt all b (layout m k b i) → Each (IsGood G all) b (layout m k b i)
+good_gates G cut all m k b i fits come stand n c is =
+    let cells : List Cell = layout m k b i in
     let cs : List Contact = part_contacts k in
     let e : b ≡ b + 0 = omega arith in
     let bits = have_bits all b 0 cells (subst (λ (m : ℕ). StandAt all m cells) e stand) in
@@ -312,13 +312,13 @@ good_gates G cut all k b i fits come stand n c is =
           ];
     }
 
-good_part : (G : Function → Type 0) (keep : Keep) (p : Plan) → Arriving keep G → IsSound p → (i : ℕ) (k : Part) → slice_get p.parts i ≡ Some k
-    → Each (IsGood G (cells_of keep p)) (part_start keep p i) (part_cells keep p i k)
-good_part G keep p arriving sound i k is =
-    good_gates G arriving.cut (cells_of keep p) k (part_start keep p i) (incoming keep p i)
-    (sound.gates i k is) (all_come G keep p arriving sound i k is) (part_stands keep p i k is)
+good_part : (G : Function → Type 0) (lay : Laying) (p : Plan) → Arriving lay G → IsSound lay p → (i : ℕ) (k : Part) → slice_get p.parts i ≡ Some k
+    → Each (IsGood G (cells_of lay p)) (part_start lay p i) (part_cells lay p i k)
+good_part G lay p arriving sound i k is =
+    good_gates G arriving.cut (cells_of lay p) (lay.making i) k (part_start lay p i) (incoming lay p i)
+    (sound.gates i k is) (all_come G lay p arriving sound i k is) (part_stands lay p i k is)
 
 -- all cells, by what is known of what comes in
-pub all_good : (G : Function → Type 0) (keep : Keep) (p : Plan) → Arriving keep G → IsSound p → Each (IsGood G (cells_of keep p)) 0 (cells_of keep p)
-all_good G keep p arriving sound =
-    each_laid keep (IsGood G (cells_of keep p)) p (good_port G keep p arriving sound) (good_joint G keep p sound) (good_loose G keep p sound) (good_part G keep p arriving sound)
+pub all_good : (G : Function → Type 0) (lay : Laying) (p : Plan) → Arriving lay G → IsSound lay p → Each (IsGood G (cells_of lay p)) 0 (cells_of lay p)
+all_good G lay p arriving sound =
+    each_laid lay (IsGood G (cells_of lay p)) p (good_port G lay p arriving sound) (good_joint G lay p sound) (good_loose G lay p sound) (good_part G lay p arriving sound)

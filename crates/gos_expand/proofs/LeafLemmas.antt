@@ -7,7 +7,8 @@ use Rattle.gos_plan.specs.Kinds.{Part, part_contacts}
 use Rattle.gos_macro.specs.Gates.{Incoming, Outgoing}
 use Rattle.gos_macro.specs.Fit.{AllGoOut}
 use Rattle.gos_plan.specs.Seen.{part_of}
-use Rattle.gos_expand.specs.Gates.{outs_of}
+use Rattle.gos_expand.specs.Laid.{laid}
+use Rattle.gos_expand.specs.Gates.{ForEach, outs_of}
 use Rattle.gos_expand.specs.inner.Dispatch.{gates_for, part_in, cells_in, outs_in, IsLaidOut, gates_keep}
 
 -- the part and the nets of its gates, whichever crate lays them out
@@ -15,12 +16,12 @@ pub part_for : (k : Kind) → part_in (gates_for k) ≡ part_of k
 part_for kinds.Skip = refl
 part_for k = refl
 
-pub outs_for : (k : Kind) → outs_in (gates_for k) ≡ outs_of (part_of k)
+pub outs_for : (k : Kind) → outs_in (gates_for k) ≡ outs_of ForEach (part_of k)
 outs_for kinds.Skip = refl
 outs_for k = refl
 
 -- they go out
-pub nets_go_out : (k : Kind) (b : ℕ) → IsLaidOut (gates_for k) → (i : Incoming) → AllGoOut b (cells_in (gates_for k) b i) (part_contacts (part_of k)) (outs_of (part_of k) b)
+pub nets_go_out : (k : Kind) (b : ℕ) → IsLaidOut (gates_for k) → (i : Incoming) → AllGoOut b (cells_in (gates_for k) b i) (part_contacts (part_of k)) (outs_of ForEach (part_of k) b)
 nets_go_out k b laid i =
     subst (λ (os : ℕ → List Outgoing). AllGoOut b (cells_in (gates_for k) b i) (part_contacts (part_of k)) (os b)) (outs_for k)
     (subst (λ (p : Part). AllGoOut b (cells_in (gates_for k) b i) (part_contacts p) (outs_in (gates_for k) b)) (part_for k) ((gates_keep (gates_for k) laid (λ h. 0)).fits.outgoing b i))

@@ -13,7 +13,7 @@ use Rattle.gos_macro.specs.Law.{early_in_order, FiredInOrder, pulsed, late_slots
 use Rattle.gos_plan.specs.Firings.{Asked, Fires}
 use Rattle.gos_plan.specs.Projection.{firings_of, asked_by}
 use Rattle.gos_expand.specs.Gates.{outs_of, late_of, pending_of, stands_of}
-use Rattle.gos_expand.specs.Starts.{Keep}
+use Rattle.gos_expand.specs.Starts.{Laying}
 use Rattle.gos_expand.specs.Facts.{Places, incoming_at, order_at}
 use Rattle.gos_plan.specs.Accounts.{PartsPut}
 use Rattle.gos_expand.proofs.TallyLemmas.{Split, fires_split}
@@ -24,26 +24,26 @@ use Rattle.gos_expand.proofs.CauseLemmas.{pulses_small, values_small}
 use Rattle.gos_expand.proofs.RankLemmas.{Whole}
 
 -- the slots by which part i fires early in the cycle
-abbrev pub early_of : Plan → Places → (End → ℕ) → Numbers → ℕ → Part → List Slot
-early_of p n rank v i k = pulsed (pulse_in v (incoming_at p n i)) (early_in_order k (late_of k) (order_at rank i) (top p rank))
+abbrev pub early_of : Laying → Plan → Places → (End → ℕ) → Numbers → ℕ → Part → List Slot
+early_of lay p n rank v i k = pulsed (pulse_in v (incoming_at p n i)) (early_in_order k (late_of (lay.making i) k) (order_at rank i) (top p rank))
 
 -- What part i shows, holds back and stands for, where it puts these tokens in the cycle: first those that it puts early.
-pub record PartStep (p : Plan) (n : Places) (rank : End → ℕ) (v regs after : Numbers) (o : Open) (s t : Tokens) (i : ℕ) (k : Part) (ts : List Token) : Type 0 where
+pub record PartStep (lay : Laying) (p : Plan) (n : Places) (rank : End → ℕ) (v regs after : Numbers) (o : Open) (s t : Tokens) (i : ℕ) (k : Part) (ts : List Token) : Type 0 where
   pub first : List Token
   pub second : List Token
   pub puts : ts ≡ first ++ second
   pub between : Asked
   pub state : State
-  pub sooner : Fires k (value_in k v (incoming_at p n i)) (asked_by i o) (s.state i) (early_of p n rank v i k) between state first
-  pub shows : ShowOne v (outs_of k (n.start i)) (pending_of k (n.start i) regs ++ first)
-  pub same : SameTokens (pending_of k (n.start i) after) second
-  pub stands : stands_of k (n.start i) after (t.state i)
+  pub sooner : Fires k (value_in k v (incoming_at p n i)) (asked_by i o) (s.state i) (early_of lay p n rank v i k) between state first
+  pub shows : ShowOne v (outs_of (lay.making i) k (n.start i)) (pending_of (lay.making i) k (n.start i) regs ++ first)
+  pub same : SameTokens (pending_of (lay.making i) k (n.start i) after) second
+  pub stands : stands_of (lay.making i) k (n.start i) after (t.state i)
 
-pub part_step : (keep : Keep) (p : Plan) (net : Netlist) (n : Places) (rank : End → ℕ) (v regs after : Numbers) (o : Open) (s : Tokens) (w : Whole p n rank v o s)
+pub part_step : (lay : Laying) (p : Plan) (net : Netlist) (n : Places) (rank : End → ℕ) (v regs after : Numbers) (o : Open) (s : Tokens) (w : Whole lay p n rank v o s)
     (puts : ℕ → List Token) (i : ℕ) (k : Part)
-    → Now keep p net n rank v regs after o s → PartsPut p (values p n v) puts (listing p n v (made_firings p n rank v)) o s w.open_then w.state_then → slice_get p.parts i ≡ Some k
-    → PartStep p n rank v regs after o s w.state_then i k (puts i)
-part_step keep p net n rank v regs after o s w puts i k now fires is =
+    → Now lay p net n rank v regs after o s → PartsPut p (values p n v) puts (listing p n v (made_firings lay p n rank v)) o s w.open_then w.state_then → slice_get p.parts i ≡ Some k
+    → PartStep lay p n rank v regs after o s w.state_then i k (puts i)
+part_step lay p net n rank v regs after o s w puts i k now fires is =
     record {
       first = split.first;
       second = split.second;
@@ -57,16 +57,16 @@ part_step keep p net n rank v regs after o s w puts i k now fires is =
     }
   where
     early : List Slot
-    early = early_of p n rank v i k
+    early = early_of lay p n rank v i k
 
     late : List Slot
-    late = pulsed (pulse_in v (incoming_at p n i)) (late_slots k (late_of k))
+    late = pulsed (pulse_in v (incoming_at p n i)) (late_slots k (late_of (lay.making i) k))
 
-    listed : firings_of i (listing p n v (made_firings p n rank v)) ≡ early ++ late
+    listed : firings_of i (listing p n v (made_firings lay p n rank v)) ≡ early ++ late
     listed =
-        firings_listed p n v i (made_firings p n rank v)
-        ∙ (slots_made p n rank v i k is
-        ∙ ap (λ (l : List Slot). pulsed (pulse_in v (incoming_at p n i)) l ++ late) (early_listed p rank (top p rank) i k is))
+        firings_listed p n v i (made_firings lay p n rank v)
+        ∙ (slots_made lay p n rank v i k is
+        ∙ ap (λ (l : List Slot). pulsed (pulse_in v (incoming_at p n i)) l ++ late) (early_listed lay p rank (top p rank) i k is))
 
     taken : values p n v i ≡ (λ h. value_in k v (incoming_at p n i) h)
     taken = λ l h. values_if (is l) v (incoming_at p n i) h
@@ -82,7 +82,7 @@ part_step keep p net n rank v regs after o s w puts i k now fires is =
     small : (g : ℕ) → g < length (part_contacts k) → pulse_in v (incoming_at p n i) g ≤ 1
     small g lt = pulses_small p n v (λ i k h. true) i k w.comes is g lt refl
 
-    fired : FiredInOrder k (late_of k) (order_at rank i) v (incoming_at p n i) (s.state i) (w.state_then.state i) split.first split.second
+    fired : FiredInOrder k (late_of (lay.making i) k) (order_at rank i) v (incoming_at p n i) (s.state i) (w.state_then.state i) split.first split.second
     fired =
         record {
           before = asked_by i o;
@@ -95,8 +95,8 @@ part_step keep p net n rank v regs after o s w puts i k now fires is =
           later = split.two;
         }
 
-    law : ShowOne v (outs_of k (n.start i)) (pending_of k (n.start i) regs ++ split.first) × SameTokens (pending_of k (n.start i) after) split.second
-        × stands_of k (n.start i) after (w.state_then.state i)
+    law : ShowOne v (outs_of (lay.making i) k (n.start i)) (pending_of (lay.making i) k (n.start i) regs ++ split.first) × SameTokens (pending_of (lay.making i) k (n.start i) after) split.second
+        × stands_of (lay.making i) k (n.start i) after (w.state_then.state i)
     law =
         (now.part_facts.gates i k is).law (n.start i) (incoming_at p n i) v regs after (s.state i) (w.state_then.state i) split.first split.second
         (now.facts.parts i k is) small (λ h. values_small p n v (λ i k h. true) i k w.comes is h refl) (now.standing.parts i k is) fired

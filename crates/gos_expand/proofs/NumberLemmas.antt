@@ -13,10 +13,10 @@ use Rattle.gos_macro.specs.Gates.{Incoming}
 use Rattle.gos_expand.specs.declared.arrivals.Origin.{Origin}
 use Rattle.gos_expand.specs.declared.arrivals.Origin.TheVariants.{Cells}
 use Rattle.gos_expand.specs.declared.arrivals.Arrivals.{Arrivals}
-use Rattle.gos_expand.specs.Gates.{layout, part_size}
+use Rattle.gos_expand.specs.Gates.{ForEach, layout, part_size}
 use Rattle.gos_expand.specs.inner.Dispatch.{gates_for, cells_in}
 use Rattle.gos_expand.specs.Blocks.{total}
-use Rattle.gos_expand.specs.Starts.{Keep, way_size, joint_size, loose_size}
+use Rattle.gos_expand.specs.Starts.{Laying, way_size, joint_size, loose_size}
 use Rattle.gos_expand.proofs.BlockLemmas.{take_one}
 use Rattle.gos_expand.proofs.PlaceLemmas.{length_first}
 use Rattle.gos_expand.specs.inner.Arrivals.{arrival_if, AreAt, or_else, some_if, filled_if, Fills, by_way, start_by, start_by_joints, start_by_ends}
@@ -45,10 +45,10 @@ table_filled p f e n before after are fills d =
     fills d ∙ (ap (filled_if (same_end d e) n) (are d) ∙ filled_more (same_end d e) n (f d) (contact_at p d))
 
 -- a joint's
-pub table_joined : (keep : Keep) (p : Plan) (x : ℕ) (f : End → Option Origin) (j : Joint) (n : ℕ) (asks serves : Origin) (first second third : Arrivals)
-    → AreAt p f first → asks ≡ by_way (keep x Answer) (n + way_size keep p x j Request) j.serving → serves ≡ by_way (keep x Request) n j.asking
-    → Fills j.asking asks first second → Fills j.serving serves second third → AreAt p (λ e. or_else (f e) (start_by keep p x n j e)) third
-table_joined keep p x f j n asks serves first second third are asks_is serves_is fills_asks fills_serves e =
+pub table_joined : (lay : Laying) (p : Plan) (x : ℕ) (f : End → Option Origin) (j : Joint) (n : ℕ) (asks serves : Origin) (first second third : Arrivals)
+    → AreAt p f first → asks ≡ by_way (lay.keep x Answer) (n + way_size lay p x j Request) j.serving → serves ≡ by_way (lay.keep x Request) n j.asking
+    → Fills j.asking asks first second → Fills j.serving serves second third → AreAt p (λ e. or_else (f e) (start_by lay p x n j e)) third
+table_joined lay p x f j n asks serves first second third are asks_is serves_is fills_asks fills_serves e =
     table_filled p (λ d. or_else (f d) (some_if (same_end d j.asking) asks)) j.serving serves second third
     (table_filled p f j.asking asks first second are fills_asks) fills_serves e
     ∙ (ap (λ (s : Option Origin). arrival_if s (contact_at p e)) (or_else_assoc (f e) (some_if (same_end e j.asking) asks) (some_if (same_end e j.serving) serves))
@@ -56,20 +56,20 @@ table_joined keep p x f j n asks serves first second third are asks_is serves_is
     arrival_if (or_else (f e) (or_else (some_if (same_end e j.asking) (asks_is i)) (some_if (same_end e j.serving) (serves_is i)))) (contact_at p e)))
 
 -- the joints with one more
-pub joints_more : (keep : Keep) (p : Plan) (k n : ℕ) (js : List Joint) (j : Joint) (e : End)
-    → start_by_joints keep p k n (js ++ j ∷ []) e
-    ≡ or_else (start_by_joints keep p k n js e) (start_by keep p (k + length js) (n + total (joint_size keep p) k js) j e)
-joints_more keep p k n [] j e =
+pub joints_more : (lay : Laying) (p : Plan) (k n : ℕ) (js : List Joint) (j : Joint) (e : End)
+    → start_by_joints lay p k n (js ++ j ∷ []) e
+    ≡ or_else (start_by_joints lay p k n js e) (start_by lay p (k + length js) (n + total (joint_size lay p) k js) j e)
+joints_more lay p k n [] j e =
     let here : n + 0 ≡ n = omega arith in
     let first : k + 0 ≡ k = omega arith in
-    rw (here, first) (or_else_none (start_by keep p k n j e))
-joints_more keep p k n (x ∷ xs) j e =
-    let sum : n + joint_size keep p k x + total (joint_size keep p) (suc k) xs ≡ n + (joint_size keep p k x + total (joint_size keep p) (suc k) xs) = omega arith in
+    rw (here, first) (or_else_none (start_by lay p k n j e))
+joints_more lay p k n (x ∷ xs) j e =
+    let sum : n + joint_size lay p k x + total (joint_size lay p) (suc k) xs ≡ n + (joint_size lay p k x + total (joint_size lay p) (suc k) xs) = omega arith in
     let shift : suc k + length xs ≡ k + suc (length xs) = omega arith in
-    let rest : Option Origin = start_by_joints keep p (suc k) (n + joint_size keep p k x) xs e in
-    ap (or_else (start_by keep p k n x e)) (joints_more keep p (suc k) (n + joint_size keep p k x) xs j e)
-    ∙ (sym (or_else_assoc (start_by keep p k n x e) rest _)
-    ∙ (λ i. or_else (or_else (start_by keep p k n x e) rest) (start_by keep p (shift i) (sum i) j e)))
+    let rest : Option Origin = start_by_joints lay p (suc k) (n + joint_size lay p k x) xs e in
+    ap (or_else (start_by lay p k n x e)) (joints_more lay p (suc k) (n + joint_size lay p k x) xs j e)
+    ∙ (sym (or_else_assoc (start_by lay p k n x e) rest _)
+    ∙ (λ i. or_else (or_else (start_by lay p k n x e) rest) (start_by lay p (shift i) (sum i) j e)))
 
 -- the ends with one more
 pub ends_more : (p : Plan) (k n : ℕ) (ds : List End) (d e : End)
@@ -82,28 +82,28 @@ ends_more p k n (x ∷ xs) d e =
     ∙ ap (λ (m : ℕ). or_else (or_else (some_if (same_end e x) (Cells n)) (start_by_ends p (n + loose_size p 0 x) xs e)) (some_if (same_end e d) (Cells m))) sum)
 
 -- the cells of a part, whichever crate lays it out
-pub cells_for : (k : Kind) → cells_in (gates_for k) ≡ layout (part_of k)
+pub cells_for : (k : Kind) → cells_in (gates_for k) ≡ layout ForEach (part_of k)
 cells_for kinds.Skip = refl
 cells_for k = refl
 
-pub size_for : (k : Kind) (n : ℕ) → ((b : ℕ) (i : Incoming) → length (cells_in (gates_for k) b i) ≡ n) → n ≡ part_size (part_of k)
+pub size_for : (k : Kind) (n : ℕ) → ((b : ℕ) (i : Incoming) → length (cells_in (gates_for k) b i) ≡ n) → n ≡ part_size ForEach (part_of k)
 size_for k n each =
     let nothing : Incoming = record { pulse = λ h. 0; value = λ h. 0 } in
     sym (each 0 nothing) ∙ ap (λ (f : ℕ → Incoming → List Cell). length (f 0 nothing)) (cells_for k)
 
 -- the origins by the first joints, with one more
-pub joints_step : (keep : Keep) (p : Plan) (n i : ℕ) (js : List Joint) (j : Joint) (table : Arrivals) → slice_get js i ≡ Some j
-    → AreAt p (λ e. or_else (start_by_joints keep p 0 n (take i js) e) (start_by keep p i (n + total (joint_size keep p) 0 (take i js)) j e)) table
-    → AreAt p (start_by_joints keep p 0 n (take (i + 1) js)) table
-joints_step keep p n i js j table there =
+pub joints_step : (lay : Laying) (p : Plan) (n i : ℕ) (js : List Joint) (j : Joint) (table : Arrivals) → slice_get js i ≡ Some j
+    → AreAt p (λ e. or_else (start_by_joints lay p 0 n (take i js) e) (start_by lay p i (n + total (joint_size lay p) 0 (take i js)) j e)) table
+    → AreAt p (start_by_joints lay p 0 n (take (i + 1) js)) table
+joints_step lay p n i js j table there =
     let first = length_first i js j there in
     let count : 0 + length (take i js) ≡ i = omega (arith, first) in
     same_table p _ _ table
     (λ e.
-    sym (ap (λ (ks : List Joint). start_by_joints keep p 0 n ks e) (take_one i js j there)
-    ∙ (joints_more keep p 0 n (take i js) j e
+    sym (ap (λ (ks : List Joint). start_by_joints lay p 0 n ks e) (take_one i js j there)
+    ∙ (joints_more lay p 0 n (take i js) j e
     ∙ ap
-    (λ (m : ℕ). or_else (start_by_joints keep p 0 n (take i js) e) (start_by keep p m (n + total (joint_size keep p) 0 (take i js)) j e))
+    (λ (m : ℕ). or_else (start_by_joints lay p 0 n (take i js) e) (start_by lay p m (n + total (joint_size lay p) 0 (take i js)) j e))
     count)))
 
 -- the origins by the first ends, with one more
@@ -137,10 +137,10 @@ shakes_within (suc i) [] = omega arith
 shakes_within (suc i) (k ∷ ks) = let rest = shakes_within i ks in omega (arith, rest)
 
 -- nothing begins by joints exactly where an end stands in none
-pub free_of_joints : (keep : Keep) (p : Plan) (x n : ℕ) (js : List Joint) (e : End) → is_none (start_by_joints keep p x n js e) ≡ is_free e js
-free_of_joints keep p x n [] e = refl
-free_of_joints keep p x n (j ∷ js) e =
-    by_tests (same_end e j.asking) (same_end e j.serving) _ _ _ _ (free_of_joints keep p (suc x) (n + joint_size keep p x j) js e)
+pub free_of_joints : (lay : Laying) (p : Plan) (x n : ℕ) (js : List Joint) (e : End) → is_none (start_by_joints lay p x n js e) ≡ is_free e js
+free_of_joints lay p x n [] e = refl
+free_of_joints lay p x n (j ∷ js) e =
+    by_tests (same_end e j.asking) (same_end e j.serving) _ _ _ _ (free_of_joints lay p (suc x) (n + joint_size lay p x j) js e)
   where
     by_tests : (a b : Bool) (m n : Origin) (rest : Option Origin) (free : Bool) → is_none rest ≡ free
         → is_none (or_else (or_else (some_if a m) (some_if b n)) rest) ≡ not (a || b) && free

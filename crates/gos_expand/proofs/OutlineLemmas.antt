@@ -18,8 +18,8 @@ use Rattle.gos_pace.specs.Cycles.{end_of_label, out_of, in_of, outs_of, ins_of}
 use Rattle.gos_pace.specs.AnyOrder.{NonePasses, EndsDiffer}
 use Rattle.gos_plan.proofs.JointLemmas.{same_is, same_itself}
 use Rattle.gos_expand.specs.Blocks.{Nets}
-use Rattle.gos_expand.specs.Starts.{Keep, ports_of, taken_ports, port_start, ends_at, port_ends, bits_taken}
-use Rattle.gos_expand.specs.Laid.{leaves, request_nets, answer_nets, laid_port, taken, laid}
+use Rattle.gos_expand.specs.Starts.{Laying, ports_of, taken_ports, port_start, ends_at, port_ends, bits_taken}
+use Rattle.gos_expand.specs.Laid.{leaves, request_nets, answer_nets, laid_port, taken, circuit}
 use Rattle.gos_expand.specs.Acceptance.{AreDifferent}
 use Rattle.gos_expand.specs.Facts.{bits_put, bits_out_at, bits_in_at, elements, occurs}
 use Rattle.gos_expand.proofs.FlowLemmas.{IsSound, ground_serves, done_ground}
@@ -46,12 +46,12 @@ taken_list p sort f make v bits nets n (t ∷ is) each =
     (ends_at (ImportEnd n) 0 (contacts_of t.ty)) (port_ends (taken_ports (suc n) is)) (each 0 n t (omega arith) refl)
     (taken_list p sort f make v bits nets (suc n) is (λ m j x e there. each (suc m) j x (omega (arith, e)) there))
 
-all_list : (keep : Keep) (p : Plan) (root : List ℕ) (sort : Label → Bool) (f : Label → Element) (make : End → ℕ → Element) (v : Numbers) (bits : End → ℕ) (nets : End → Nets)
+all_list : (lay : Laying) (p : Plan) (root : List ℕ) (sort : Label → Bool) (f : Label → Element) (make : End → ℕ → Element) (v : Numbers) (bits : End → ℕ) (nets : End → Nets)
     → map f (filter sort (port_pulses v (laid_port p 0 root Give p.outcome))) ≡ elements make v bits nets (ends_at ResultEnd 0 (contacts_of p.outcome))
     → ((m j : ℕ) (t : Imported) → j ≡ 0 + m → slice_get p.imports m ≡ Some t
     → map f (filter sort (port_pulses v (laid_port p (suc j) t.name Take t.ty))) ≡ elements make v bits nets (ends_at (ImportEnd j) 0 (contacts_of t.ty)))
-    → map f (filter sort (pulses (laid keep p root).ports v)) ≡ elements make v bits nets (port_ends (ports_of p))
-all_list keep p root sort f make v bits nets result each =
+    → map f (filter sort (pulses (circuit lay p root).ports v)) ≡ elements make v bits nets (port_ends (ports_of p))
+all_list lay p root sort f make v bits nets result each =
     two_lists sort f make v bits nets (port_pulses v (laid_port p 0 root Give p.outcome)) (pulses (taken p 1 p.imports) v)
     (ends_at ResultEnd 0 (contacts_of p.outcome)) (port_ends (taken_ports 0 p.imports)) result (taken_list p sort f make v bits nets 0 p.imports each)
 
@@ -60,17 +60,17 @@ not_not true = refl
 not_not false = refl
 
 -- bits and nets at the ends of ports
-pub result_bits : (p : Plan) → IsSound p → (h : ℕ) (c : Contact) → slice_get (contacts_of p.outcome) h ≡ Some c
+pub result_bits : (lay : Laying) → (p : Plan) → IsSound lay p → (h : ℕ) (c : Contact) → slice_get (contacts_of p.outcome) h ≡ Some c
     → (bits_out_at p (ResultEnd h) ≡ c.answer_bits) × (bits_in_at p (ResultEnd h) ≡ c.ask_bits)
-result_bits p sound h c is =
+result_bits lay p sound h c is =
     let role : c.role ≡ Serve = ground_serves p.outcome h c (done_ground p.outcome sound.done) is in (
       ap (λ (f : Option Contact). bits_taken (turned_if f)) is ∙ rw role refl,
       ap (λ (f : Option Contact). bits_put (turned_if f)) is ∙ rw role refl,
     )
 
-pub import_bits : (p : Plan) → IsSound p → (i h : ℕ) (t : Imported) (c : Contact) → slice_get p.imports i ≡ Some t → slice_get (contacts_of t.ty) h ≡ Some c
+pub import_bits : (lay : Laying) → (p : Plan) → IsSound lay p → (i h : ℕ) (t : Imported) (c : Contact) → slice_get p.imports i ≡ Some t → slice_get (contacts_of t.ty) h ≡ Some c
     → (bits_out_at p (ImportEnd i h) ≡ c.ask_bits) × (bits_in_at p (ImportEnd i h) ≡ c.answer_bits)
-import_bits p sound i h t c there is =
+import_bits lay p sound i h t c there is =
     let role : c.role ≡ Serve = ground_serves t.ty h c (sound.grounds i t there) is in
     let contact : contact_at p (ImportEnd i h) ≡ Some c = subst (λ (f : Option Imported). slice_get (contacts_of_import f) h ≡ Some c) (sym there) is in
     (ap bits_taken contact ∙ rw role refl, ap bits_put contact ∙ rw role refl)
@@ -78,31 +78,31 @@ import_bits p sound i h t c there is =
 at_place : (p : Plan) (m j : ℕ) (t : Imported) → j ≡ 0 + m → slice_get p.imports m ≡ Some t → slice_get p.imports j ≡ Some t
 at_place p m j t e there = let same : m ≡ j = omega (arith, e) in subst (λ (x : ℕ). slice_get p.imports x ≡ Some t) same there
 
-pub outs_are : (keep : Keep) (p : Plan) (root : List ℕ) (v : Numbers) → IsSound p → AreDifferent (root ∷ map (λ (x : Imported). x.name) p.imports)
-    → outs_of p (outputs (laid keep p root) v) ≡ elements Out v (bits_out_at p) (shows p) (port_ends (ports_of p))
-outs_are keep p root v sound differ =
-    all_list keep p root is_output (out_of p) Out v (bits_out_at p) (shows p)
+pub outs_are : (lay : Laying) (p : Plan) (root : List ℕ) (v : Numbers) → IsSound lay p → AreDifferent (root ∷ map (λ (x : Imported). x.name) p.imports)
+    → outs_of p (outputs (circuit lay p root) v) ≡ elements Out v (bits_out_at p) (shows p) (port_ends (ports_of p))
+outs_are lay p root v sound differ =
+    all_list lay p root is_output (out_of p) Out v (bits_out_at p) (shows p)
     (answers is_output (out_of p) Out Given ResultEnd v (bits_out_at p) (shows p) (port_start p 0) p.outcome
-    (record { kept = λ m x. refl; made = λ m x. refl }) (done_ground p.outcome sound.done) sound.done_widths (λ h c is. ((result_bits p sound h c is).0, refl)))
+    (record { kept = λ m x. refl; made = λ m x. refl }) (done_ground p.outcome sound.done) sound.done_widths (λ h c is. ((result_bits lay p sound h c is).0, refl)))
     (λ m j t e there.
     let here = at_place p m j t e there in
     requests is_output (out_of p) Out (Taken t.name) (ImportEnd j) v (bits_out_at p) (shows p) (port_start p (suc j)) t.ty
     (record { kept = λ a x. refl; made = λ a x. ap (λ (y : ℕ). Out (ImportEnd y (shake_of a)) x) (number_is root j p.imports t differ here) })
     (sound.grounds j t here) (sound.ground_widths j t here)
-    (λ h c is. ((import_bits p sound j h t c here is).0, ap (λ (f : Option Imported). request_nets (port_start p (suc j)) (contacts_of_import f) h) here)))
+    (λ h c is. ((import_bits lay p sound j h t c here is).0, ap (λ (f : Option Imported). request_nets (port_start p (suc j)) (contacts_of_import f) h) here)))
 
-pub ins_are : (keep : Keep) (p : Plan) (root : List ℕ) (v : Numbers) → IsSound p → AreDifferent (root ∷ map (λ (x : Imported). x.name) p.imports)
-    → ins_of p (inputs (laid keep p root) v) ≡ elements In v (bits_in_at p) (leaves keep p) (port_ends (ports_of p))
-ins_are keep p root v sound differ =
-    all_list keep p root (λ l. not (is_output l)) (in_of p) In v (bits_in_at p) (leaves keep p)
-    (requests (λ l. not (is_output l)) (in_of p) In Given ResultEnd v (bits_in_at p) (leaves keep p) (port_start p 0) p.outcome
-    (record { kept = λ m x. refl; made = λ m x. refl }) (done_ground p.outcome sound.done) sound.done_widths (λ h c is. ((result_bits p sound h c is).1, refl)))
+pub ins_are : (lay : Laying) (p : Plan) (root : List ℕ) (v : Numbers) → IsSound lay p → AreDifferent (root ∷ map (λ (x : Imported). x.name) p.imports)
+    → ins_of p (inputs (circuit lay p root) v) ≡ elements In v (bits_in_at p) (leaves lay p) (port_ends (ports_of p))
+ins_are lay p root v sound differ =
+    all_list lay p root (λ l. not (is_output l)) (in_of p) In v (bits_in_at p) (leaves lay p)
+    (requests (λ l. not (is_output l)) (in_of p) In Given ResultEnd v (bits_in_at p) (leaves lay p) (port_start p 0) p.outcome
+    (record { kept = λ m x. refl; made = λ m x. refl }) (done_ground p.outcome sound.done) sound.done_widths (λ h c is. ((result_bits lay p sound h c is).1, refl)))
     (λ m j t e there.
     let here = at_place p m j t e there in
-    answers (λ l. not (is_output l)) (in_of p) In (Taken t.name) (ImportEnd j) v (bits_in_at p) (leaves keep p) (port_start p (suc j)) t.ty
+    answers (λ l. not (is_output l)) (in_of p) In (Taken t.name) (ImportEnd j) v (bits_in_at p) (leaves lay p) (port_start p (suc j)) t.ty
     (record { kept = λ a x. not_not (is_answer a); made = λ a x. ap (λ (y : ℕ). In (ImportEnd y (shake_of a)) x) (number_is root j p.imports t differ here) })
     (sound.grounds j t here) (sound.ground_widths j t here)
-    (λ h c is. ((import_bits p sound j h t c here is).1, ap (λ (f : Option Imported). answer_nets (port_start p (suc j)) (contacts_of_import f) h) here)))
+    (λ h c is. ((import_bits lay p sound j h t c here is).1, ap (λ (f : Option Imported). answer_nets (port_start p (suc j)) (contacts_of_import f) h) here)))
 
 -- no two of them pass one end
 turned_apart : (d e : End) → same_end d e ≡ false → same_end e d ≡ false
@@ -164,14 +164,14 @@ few_shown out p v bits nets e =
     by_pulse true once is = omega (arith, once, is)
     by_pulse false once is = omega (arith, is)
 
-pub outs_are_apart : (keep : Keep) (p : Plan) (root : List ℕ) (v : Numbers) → IsSound p → AreDifferent (root ∷ map (λ (x : Imported). x.name) p.imports)
-    → EndsDiffer p (outputs (laid keep p root) v)
-outs_are_apart keep p root v sound differ =
-    outs_differ p (outputs (laid keep p root) v)
-    (λ e. subst (λ (l : List Element). outs_at e l ≤ 1) (sym (outs_are keep p root v sound differ)) (few_shown true p v (bits_out_at p) (shows p) e))
+pub outs_are_apart : (lay : Laying) (p : Plan) (root : List ℕ) (v : Numbers) → IsSound lay p → AreDifferent (root ∷ map (λ (x : Imported). x.name) p.imports)
+    → EndsDiffer p (outputs (circuit lay p root) v)
+outs_are_apart lay p root v sound differ =
+    outs_differ p (outputs (circuit lay p root) v)
+    (λ e. subst (λ (l : List Element). outs_at e l ≤ 1) (sym (outs_are lay p root v sound differ)) (few_shown true p v (bits_out_at p) (shows p) e))
 
-pub ins_are_apart : (keep : Keep) (p : Plan) (root : List ℕ) (v : Numbers) → IsSound p → AreDifferent (root ∷ map (λ (x : Imported). x.name) p.imports)
-    → EndsDiffer p (inputs (laid keep p root) v)
-ins_are_apart keep p root v sound differ =
-    ins_differ p (inputs (laid keep p root) v)
-    (λ e. subst (λ (l : List Element). ins_at e l ≤ 1) (sym (ins_are keep p root v sound differ)) (few_shown false p v (bits_in_at p) (leaves keep p) e))
+pub ins_are_apart : (lay : Laying) (p : Plan) (root : List ℕ) (v : Numbers) → IsSound lay p → AreDifferent (root ∷ map (λ (x : Imported). x.name) p.imports)
+    → EndsDiffer p (inputs (circuit lay p root) v)
+ins_are_apart lay p root v sound differ =
+    ins_differ p (inputs (circuit lay p root) v)
+    (λ e. subst (λ (l : List Element). ins_at e l ≤ 1) (sym (ins_are lay p root v sound differ)) (few_shown false p v (bits_in_at p) (leaves lay p) e))

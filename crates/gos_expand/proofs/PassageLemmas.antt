@@ -6,7 +6,7 @@ use Rattle.std.proofs.lemmas.Option.{same_Some}
 use Rattle.gos_plan.specs.Kinds.{Part, part_contacts}
 use Rattle.gos_plan.specs.Plans.{PartEnd}
 use Rattle.gos_expand.specs.declared.arrivals.Arrivals.{Arrivals}
-use Rattle.gos_expand.specs.Gates.{passing_of}
+use Rattle.gos_expand.specs.Gates.{ForEach, passing_of}
 use Rattle.gos_expand.specs.inner.Choosing.{Ways, ways_at, AreWithin, GoAcross, Adds, IsPassage, PassesTo, PassesFrom, PassesAt}
 use Rattle.gos_order.specs.Rings as graph
 use Rattle.gos_order.specs.Rings.{Edge, HasEdge, and_edge}
@@ -89,22 +89,22 @@ less_or_same (suc m) (suc n) low = elim (less_or_same m n (omega (arith, low))) 
 -- one handshake more, one from which it comes more, and one part more
 pub passes_to_more : (d : ℕ) (table : Arrivals) (k : Part) (part from n : ℕ) (before between after : List Edge)
     → Adds (PassesTo d table k part from n) before between
-    → Adds (λ a b. (passing_of k from n ≡ true) × IsPassage d table part from n a b) between after
+    → Adds (λ a b. (passing_of ForEach k from n ≡ true) × IsPassage d table part from n a b) between after
     → Adds (PassesTo d table k part from (n + 1)) before after
 passes_to_more d table k part from n before between after first second =
-    adds_then (PassesTo d table k part from n) (λ a b. (passing_of k from n ≡ true) × IsPassage d table part from n a b)
+    adds_then (PassesTo d table k part from n) (λ a b. (passing_of ForEach k from n ≡ true) × IsPassage d table part from n a b)
     (PassesTo d table k part from (n + 1)) before between after first second split join
   where
     split : (a b : ℕ) → PassesTo d table k part from (n + 1) a b
-        → PassesTo d table k part from n a b ⊎ ((passing_of k from n ≡ true) × IsPassage d table part from n a b)
+        → PassesTo d table k part from n a b ⊎ ((passing_of ForEach k from n ≡ true) × IsPassage d table part from n a b)
     split a b (to, low, passes, x) =
         elim (less_or_same to n low) [
           | inl less ↦ inl (to, less, passes, x)
           | inr same ↦ inr
-              (ap (λ (m : ℕ). passing_of k from m) (sym same) ∙ passes, subst (λ (m : ℕ). IsPassage d table part from m a b) same x)
+              (ap (λ (m : ℕ). passing_of ForEach k from m) (sym same) ∙ passes, subst (λ (m : ℕ). IsPassage d table part from m a b) same x)
         ]
 
-    join : (a b : ℕ) → PassesTo d table k part from n a b ⊎ ((passing_of k from n ≡ true) × IsPassage d table part from n a b)
+    join : (a b : ℕ) → PassesTo d table k part from n a b ⊎ ((passing_of ForEach k from n ≡ true) × IsPassage d table part from n a b)
         → PassesTo d table k part from (n + 1) a b
     join a b (inl (to, low, passes, x)) = (to, omega (arith, low), passes, x)
     join a b (inr (passes, x)) = (n, omega arith, passes, x)
@@ -152,18 +152,18 @@ passes_at_more d table parts n k there before between after first second =
     join a b (inr x) = (n, k, omega arith, there, x)
 
 -- the passages to one handshake more, where it is passed on there and where it isn't
-pub with_passage : (d : ℕ) (table : Arrivals) (k : Part) (part from n : ℕ) (before between after : List Edge) → passing_of k from n ≡ true
+pub with_passage : (d : ℕ) (table : Arrivals) (k : Part) (part from n : ℕ) (before between after : List Edge) → passing_of ForEach k from n ≡ true
     → Adds (PassesTo d table k part from n) before between
     → Adds (IsPassage d table part from n) between after
     → Adds (PassesTo d table k part from (n + 1)) before after
 with_passage d table k part from n before between after passes first second =
     passes_to_more d table k part from n before between after first
-    (adds_as (IsPassage d table part from n) (λ a b. (passing_of k from n ≡ true) × IsPassage d table part from n a b) between after second
+    (adds_as (IsPassage d table part from n) (λ a b. (passing_of ForEach k from n ≡ true) × IsPassage d table part from n a b) between after second
     (λ a b x. (passes, x)) (λ a b x. x.1))
 
-pub without_passage : (d : ℕ) (table : Arrivals) (k : Part) (part from n : ℕ) (before between : List Edge) → passing_of k from n ≡ false
+pub without_passage : (d : ℕ) (table : Arrivals) (k : Part) (part from n : ℕ) (before between : List Edge) → passing_of ForEach k from n ≡ false
     → Adds (PassesTo d table k part from n) before between
     → Adds (PassesTo d table k part from (n + 1)) before between
 without_passage d table k part from n before between none first =
     passes_to_more d table k part from n before between between first
-    (adds_none (λ a b. (passing_of k from n ≡ true) × IsPassage d table part from n a b) between (λ a b x. cc (none, x.0)))
+    (adds_none (λ a b. (passing_of ForEach k from n ≡ true) × IsPassage d table part from n a b) between (λ a b x. cc (none, x.0)))

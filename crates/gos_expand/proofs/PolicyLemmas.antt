@@ -10,7 +10,7 @@ use Rattle.gos_plan.specs.Plans.{Joint, Plan}
 use Rattle.gos_plan.specs.Seen.{SeenPlan, plan_of}
 use Rattle.gos_expand.specs.declared.whole.Policy.{Policy}
 use Rattle.gos_expand.specs.declared.whole.Policy.TheVariants as policies
-use Rattle.gos_expand.specs.Starts.{Keep, keep_all, chosen, place_of}
+use Rattle.gos_expand.specs.Starts.{plain, Keep, keep_all, chosen, place_of}
 use Rattle.gos_expand.specs.Laid.{laid}
 use Rattle.gos_expand.specs.Choices.{left_out_at, KeepsFew, IsLaidBy}
 use Rattle.gos_expand.specs.Acceptance.{CanBeLaid}
@@ -61,11 +61,11 @@ keeps_few : (p : SeenPlan) (root : List ℕ) → CanBeLaid p root → (keeps : L
 keeps_few p root can keeps few =
     record {
       kept = λ x j way stands is.
-          (rings_cycles all_paths (left_out_at (chosen keeps) (place_of x way)) p root can).1
+          (rings_cycles all_paths (plain (left_out_at (chosen keeps) (place_of x way))) p root can).1
           (few.kept (place_of x way) (found (plan_of p) keeps few.all x j way true stands is));
       left_out = λ x j way stands is cycle.
           few.left_out (place_of x way) (found (plan_of p) keeps few.all x j way false stands is)
-          ((rings_cycles all_paths (left_out_at (chosen keeps) (place_of x way)) p root can).0 cycle);
+          ((rings_cycles all_paths (plain (left_out_at (chosen keeps) (place_of x way))) p root can).0 cycle);
       beyond = λ x way none.
           let high = place_high x (length (plan_of p).joints) way (none_beyond (plan_of p).joints x none) in
           let long = few.all in
@@ -84,4 +84,4 @@ pub accepted_by : (policy : Policy) (p : SeenPlan) (root : List ℕ) → CanBeLa
 accepted_by policies.All p root can keeps all =
     subst (λ (keep : Keep). IsAccepted (laid keep (plan_of p) root)) (sym all) (laid_accepted keep_all p root can (all_cut p root can))
 accepted_by policies.Few p root can keeps few =
-    laid_accepted (chosen keeps) p root can (λ cycle. few.ringless ((rings_cycles all_paths (chosen keeps) p root can).0 cycle))
+    laid_accepted (chosen keeps) p root can (λ cycle. few.ringless ((rings_cycles all_paths (plain (chosen keeps)) p root can).0 cycle))

@@ -19,7 +19,7 @@ use Rattle.gos_plan.specs.Made.{PartFiring, fires_of}
 use Rattle.gos_plan.proofs.JointLemmas.{same_itself}
 use Rattle.gos_plan.proofs.DecidedLemmas.{order_is_decided, one_state, orderly_is_possible}
 use Rattle.gos_expand.specs.Blocks.{Nets}
-use Rattle.gos_expand.specs.Starts.{Keep, ports_of, port_ends, bits_taken}
+use Rattle.gos_expand.specs.Starts.{Laying, ports_of, port_ends, bits_taken}
 use Rattle.gos_expand.specs.Facts.{Places, number_by, target, elements, bits_put, bits_out_at, bits_in_at, shown_elements, given_elements, occurs, PlanFacts}
 use Rattle.gos_plan.specs.Accounts.{number, outs_at, taken_at, slot_at}
 use Rattle.gos_expand.proofs.TallyLemmas.{times-append, itself}
@@ -54,12 +54,12 @@ none_shown : (e : End) (v : Numbers) (bits : End → ℕ) (nets : End → Nets) 
 none_shown e v bits nets es none = shown_alone true e v bits nets es ∙ (ap (λ (m : ℕ). m * flag v (nets e)) none ∙ grind arith)
 
 -- an output that is shown, after the outputs of other ends
-out_step : (keep : Keep) (p : Plan) (net : Netlist) (n : Places) (rank : End → ℕ) (v regs after : Numbers) (o u : Open) (s t : Tokens) (xs : List Element) (e : End) (c : Contact)
-    → Now keep p net n rank v regs after o s → OrderlyFrom p xs o s u t → ((i : ℕ) → TakesValues p i (values p n v i) xs s) → IsPortEnd e → contact_at p e ≡ Some c
+out_step : (lay : Laying) (p : Plan) (net : Netlist) (n : Places) (rank : End → ℕ) (v regs after : Numbers) (o u : Open) (s t : Tokens) (xs : List Element) (e : End) (c : Contact)
+    → Now lay p net n rank v regs after o s → OrderlyFrom p xs o s u t → ((i : ℕ) → TakesValues p i (values p n v i) xs s) → IsPortEnd e → contact_at p e ≡ Some c
     → at v (n.shows e).pulse ≡ 1 → outs_at e xs ≡ 0
     → (m : Open) × (w : Tokens) × OrderlyFrom p (Out e (number_by v (bits_out_at p e) (n.shows e)) ∷ []) u t m w
-out_step keep p net n rank v regs after o u s t xs e c now list takes port there pulse none =
-    let due : Due p s e c (number_by v (bits_taken (Some c)) (n.shows e)) = due_at_port keep p net n rank v regs after o s e c now port there pulse in
+out_step lay p net n rank v regs after o u s t xs e c now list takes port there pulse none =
+    let due : Due p s e c (number_by v (bits_taken (Some c)) (n.shows e)) = due_at_port lay p net n rank v regs after o s e c now port there pulse in
     let way : Direction = way_taken c.role in
     let untaken : taken_at way (target due.at_end.joint way) xs ≡ 0 = ap (λ (d : End). taken_at way d xs) (sym due.at_end.is_target) ∙ (taken_port xs way e port ∙ none) in
     let lies = still_there p n v o u s t xs due.at_end.index due.at_end.joint way now.right now.led list takes due.at_end.there untaken due.one in
@@ -87,8 +87,8 @@ pub record Listed (p : Plan) (e : End) (before : List End) : Type 0 where
   pub there : contact_at p e ≡ Some contact
   pub new : occurs e before ≡ 0
 
-listed_here : (keep : Keep) (p : Plan) (n : Places) (before es : List End) (e : End) → PlanFacts keep p n → before ++ (e ∷ es) ≡ port_ends (ports_of p) → Listed p e before
-listed_here keep p n before es e facts all =
+listed_here : (lay : Laying) (p : Plan) (n : Places) (before es : List End) (e : End) → PlanFacts lay p n → before ++ (e ∷ es) ≡ port_ends (ports_of p) → Listed p e before
+listed_here lay p n before es e facts all =
     let counted : occurs e (port_ends (ports_of p)) ≡ occurs e before + suc (occurs e es) =
     ap (occurs e) (sym all) ∙ (occurs-append e before (e ∷ es) ∙ rw (same_itself e) refl) in
     let is = facts.listed e (omega (arith, counted)) in
@@ -98,16 +98,16 @@ listed_here keep p n before es e facts all =
 abbrev shown_of : Plan → Places → Numbers → List End → List Element
 shown_of p n v es = elements Out v (bits_out_at p) n.shows es
 
-pub outs_go : (keep : Keep) (p : Plan) (net : Netlist) (n : Places) (rank : End → ℕ) (v regs after : Numbers) (o u : Open) (s t : Tokens) (before es : List End)
-    → Now keep p net n rank v regs after o s → before ++ es ≡ port_ends (ports_of p) → OrderlyFrom p (shown_of p n v before) o s u t
+pub outs_go : (lay : Laying) (p : Plan) (net : Netlist) (n : Places) (rank : End → ℕ) (v regs after : Numbers) (o u : Open) (s t : Tokens) (before es : List End)
+    → Now lay p net n rank v regs after o s → before ++ es ≡ port_ends (ports_of p) → OrderlyFrom p (shown_of p n v before) o s u t
     → (m : Open) × (w : Tokens) × OrderlyFrom p (shown_of p n v es) u t m w
-outs_go keep p net n rank v regs after o u s t before [] now all list = (u, t, (refl, refl))
-outs_go keep p net n rank v regs after o u s t before (e ∷ es) now all list =
+outs_go lay p net n rank v regs after o u s t before [] now all list = (u, t, (refl, refl))
+outs_go lay p net n rank v regs after o u s t before (e ∷ es) now all list =
     by_test (nat_eq (at v (n.shows e).pulse) 1) refl
-    (λ m w so_far. outs_go keep p net n rank v regs after o m s w (before ++ (e ∷ [])) es now (append_assoc before (e ∷ []) es ∙ all) so_far)
+    (λ m w so_far. outs_go lay p net n rank v regs after o m s w (before ++ (e ∷ [])) es now (append_assoc before (e ∷ []) es ∙ all) so_far)
   where
     is : Listed p e before
-    is = listed_here keep p n before es e now.plan_facts all
+    is = listed_here lay p n before es e now.plan_facts all
 
     more : (m : Open) (w : Tokens) → OrderlyFrom p (shown_of p n v (e ∷ [])) u t m w → OrderlyFrom p (shown_of p n v (before ++ (e ∷ []))) o s m w
     more m w one =
@@ -121,7 +121,7 @@ outs_go keep p net n rank v regs after o u s t before (e ∷ es) now all list =
     by_test true h go =
         let pulse : at v (n.shows e).pulse ≡ 1 = grind (arith, h) in
         let step =
-        out_step keep p net n rank v regs after o u s t (shown_of p n v before) e is.contact now list (λ i. no_values true p i (values p n v i) v (bits_out_at p) n.shows before s)
+        out_step lay p net n rank v regs after o u s t (shown_of p n v before) e is.contact now list (λ i. no_values true p i (values p n v i) v (bits_out_at p) n.shows before s)
         is.port is.there pulse (none_shown e v (bits_out_at p) n.shows before is.new) in
         let rest = go step.0 step.1 (more step.0 step.1 (rw h step.2)) in (
           rest.0,
@@ -135,14 +135,14 @@ number_small : (v : Numbers) (w : ℕ) (nets : Nets) → (0 < w → at v nets.nu
 number_small v zero nets small = omega arith
 number_small v (suc w) nets small = small (omega arith)
 
-pub ins_go : (keep : Keep) (p : Plan) (net : Netlist) (n : Places) (rank : End → ℕ) (v regs after : Numbers) (o : Open) (s t : Tokens) (before es : List End)
-    → Now keep p net n rank v regs after o s → before ++ es ≡ port_ends (ports_of p) → (w : Tokens) × Runs p (elements In v (bits_in_at p) n.leaves es) t w
-ins_go keep p net n rank v regs after o s t before [] now all = (t, refl)
-ins_go keep p net n rank v regs after o s t before (e ∷ es) now all =
-    by_test (nat_eq (at v (n.leaves e).pulse) 1) (λ w. ins_go keep p net n rank v regs after o s w (before ++ (e ∷ [])) es now (append_assoc before (e ∷ []) es ∙ all))
+pub ins_go : (lay : Laying) (p : Plan) (net : Netlist) (n : Places) (rank : End → ℕ) (v regs after : Numbers) (o : Open) (s t : Tokens) (before es : List End)
+    → Now lay p net n rank v regs after o s → before ++ es ≡ port_ends (ports_of p) → (w : Tokens) × Runs p (elements In v (bits_in_at p) n.leaves es) t w
+ins_go lay p net n rank v regs after o s t before [] now all = (t, refl)
+ins_go lay p net n rank v regs after o s t before (e ∷ es) now all =
+    by_test (nat_eq (at v (n.leaves e).pulse) 1) (λ w. ins_go lay p net n rank v regs after o s w (before ++ (e ∷ [])) es now (append_assoc before (e ∷ []) es ∙ all))
   where
     is : Listed p e before
-    is = listed_here keep p n before es e now.plan_facts all
+    is = listed_here lay p n before es e now.plan_facts all
 
     x : ℕ
     x = number_by v (bits_in_at p e) (n.leaves e)

@@ -19,7 +19,7 @@ use Rattle.gos_plan.specs.Projection.{firings_of, TakesValues}
 use Rattle.gos_plan.specs.Made.{PartFiring, fires_of}
 use Rattle.gos_plan.proofs.DecidedLemmas.{lists_are_decided, orderly_is_possible}
 use Rattle.gos_expand.specs.Gates.{late_of, passing_of}
-use Rattle.gos_expand.specs.Starts.{Keep, ports_of, port_ends}
+use Rattle.gos_expand.specs.Starts.{Laying, ports_of, port_ends}
 use Rattle.gos_expand.specs.Facts.{Places, incoming_at, bits_in_at, bits_out_at, shown_elements, given_elements, PassesOn, Rises}
 use Rattle.gos_expand.proofs.TallyLemmas.{shake_in}
 use Rattle.gos_expand.proofs.ChainLemmas.{orderly-append, never_whole, runs-append, welcome_after, takes-append}
@@ -31,11 +31,11 @@ use Rattle.gos_expand.proofs.PossibleLemmas.{outs_go, ins_go, listing, listing-a
 use Rattle.gos_expand.proofs.CauseLemmas.{ComesIn, AllComeIn, own_contact, end_contact, Below, Arrived, arrival}
 
 -- how a cycle's list ends: orderly with all its firings, or broken after some of them
-pub record Whole (p : Plan) (n : Places) (rank : End → ℕ) (v : Numbers) (o : Open) (s : Tokens) : Type 0 where
+pub record Whole (lay : Laying) (p : Plan) (n : Places) (rank : End → ℕ) (v : Numbers) (o : Open) (s : Tokens) : Type 0 where
   pub open_then : Open
   pub state_then : Tokens
-  pub list : OrderlyFrom p (listing p n v (made_firings p n rank v)) o s open_then state_then
-  pub takes : (i : ℕ) → TakesValues p i (values p n v i) (listing p n v (made_firings p n rank v)) s
+  pub list : OrderlyFrom p (listing p n v (made_firings lay p n rank v)) o s open_then state_then
+  pub takes : (i : ℕ) → TakesValues p i (values p n v i) (listing p n v (made_firings lay p n rank v)) s
   pub comes : AllComeIn p n v (λ i k h. true)
 
 pub record Stopped (p : Plan) (n : Places) (v : Numbers) (o : Open) (s : Tokens) : Type 0 where
@@ -92,17 +92,17 @@ all_ready p n v t these arrive =
         by_tests true false = omega arith
         by_tests false y = omega arith
 
-phase : (keep : Keep) (p : Plan) (net : Netlist) (n : Places) (rank : End → ℕ) (v regs after : Numbers) (o : Open) (s : Tokens) (r : ℕ) (these : Choice)
-    (b : Below p n rank v o s r)
-    → Now keep p net n rank v regs after o s → AllArrive p n v b.state_then these
-    → Further p n v o s (early_made p n rank v r ++ with_pulse p n v (chosen_from these 0 p.parts)) ⊎ Stopped p n v o s
-phase keep p net n rank v regs after o s r these b now arrive =
+phase : (lay : Laying) (p : Plan) (net : Netlist) (n : Places) (rank : End → ℕ) (v regs after : Numbers) (o : Open) (s : Tokens) (r : ℕ) (these : Choice)
+    (b : Below lay p n rank v o s r)
+    → Now lay p net n rank v regs after o s → AllArrive p n v b.state_then these
+    → Further p n v o s (early_made lay p n rank v r ++ with_pulse p n v (chosen_from these 0 p.parts)) ⊎ Stopped p n v o s
+phase lay p net n rank v regs after o s r these b now arrive =
     by_end
     (firings_end p n v b.open_then b.state_then fs now.right (led_on p xs o b.open_then s b.state_then now.led b.list)
     (welcome_after p xs o b.open_then s b.state_then now.standing.welcome b.list) (all_ready p n v b.state_then these arrive))
   where
     before : List PartFiring
-    before = early_made p n rank v r
+    before = early_made lay p n rank v r
 
     xs : List Element
     xs = listing p n v before
@@ -140,25 +140,25 @@ phase keep p net n rank v regs after o s r these b now arrive =
         })
 
 -- what passes on is early
-passes_early : (keep : Keep) (p : Plan) (net : Netlist) (n : Places) (rank : End → ℕ) (v regs after : Numbers) (o : Open) (s : Tokens) (j from : ℕ) (l : Part) (e : End)
-    → Now keep p net n rank v regs after o s → slice_get p.parts j ≡ Some l → PassesOn keep p j from e → is_early l from ≡ true
-passes_early keep p net n rank v regs after o s j from l e now is on = by_late (is_among (late_of l) from) refl
+passes_early : (lay : Laying) (p : Plan) (net : Netlist) (n : Places) (rank : End → ℕ) (v regs after : Numbers) (o : Open) (s : Tokens) (j from : ℕ) (l : Part) (e : End)
+    → Now lay p net n rank v regs after o s → slice_get p.parts j ≡ Some l → PassesOn lay p j from e → is_early (lay.making j) l from ≡ true
+passes_early lay p net n rank v regs after o s j from l e now is on = by_late (is_among (late_of (lay.making j) l) from) refl
   where
     same : on.part ≡ l
     same = let there = on.there in cc (there, is)
 
-    by_late : (b : Bool) → is_among (late_of l) from ≡ b → not b ≡ true
+    by_late : (b : Bool) → is_among (late_of (lay.making j) l) from ≡ b → not b ≡ true
     by_late false h = refl
     by_late true h =
-        let late : is_among (late_of on.part) from ≡ true = subst (λ (x : Part). is_among (late_of x) from ≡ true) (sym same) h in
-        let waits : passing_of on.part from on.out ≡ false = (now.part_facts.paths j on.part on.there).waits from on.out on.from_there on.out_there late in
+        let late : is_among (late_of (lay.making j) on.part) from ≡ true = subst (λ (x : Part). is_among (late_of (lay.making j) x) from ≡ true) (sym same) h in
+        let waits : passing_of (lay.making j) on.part from on.out ≡ false = (now.part_facts.paths j on.part on.there).waits from on.out on.from_there on.out_there late in
         let passes = on.passes in
         absurd (cc (waits, passes))
 
 -- the next rank
-next_rank : (keep : Keep) (p : Plan) (net : Netlist) (n : Places) (rank : End → ℕ) (v regs after : Numbers) (o : Open) (s : Tokens) (r : ℕ)
-    → Rises keep p rank → Now keep p net n rank v regs after o s → Below p n rank v o s r → Below p n rank v o s (suc r) ⊎ Stopped p n v o s
-next_rank keep p net n rank v regs after o s r rises now b = by_end (phase keep p net n rank v regs after o s r (at_rank rank r) b now arrive)
+next_rank : (lay : Laying) (p : Plan) (net : Netlist) (n : Places) (rank : End → ℕ) (v regs after : Numbers) (o : Open) (s : Tokens) (r : ℕ)
+    → Rises lay p rank → Now lay p net n rank v regs after o s → Below lay p n rank v o s r → Below lay p n rank v o s (suc r) ⊎ Stopped p n v o s
+next_rank lay p net n rank v regs after o s r rises now b = by_end (phase lay p net n rank v regs after o s r (at_rank lay rank r) b now arrive)
   where
     of_rank : (x : Bool) (m : ℕ) → (x && nat_eq m r) ≡ true → m ≡ r
     of_rank true m e = grind (arith, e)
@@ -172,13 +172,13 @@ next_rank keep p net n rank v regs after o s r rises now b = by_end (phase keep 
     so_below true m e lt = grind (arith, lt)
     so_below false m e lt = absurd (cc e)
 
-    arrive : AllArrive p n v b.state_then (at_rank rank r)
+    arrive : AllArrive p n v b.state_then (at_rank lay rank r)
     arrive i h k c is there chosen =
-        let is_r : rank (PartEnd i h) ≡ r = of_rank (is_early k h) (rank (PartEnd i h)) chosen in
-        arrival keep p net n rank v regs after o s r b i h k c now is there (not_below (is_early k h) (rank (PartEnd i h)) is_r)
+        let is_r : rank (PartEnd i h) ≡ r = of_rank (is_early (lay.making i) k h) (rank (PartEnd i h)) chosen in
+        arrival lay p net n rank v regs after o s r b i h k c now is there (not_below (is_early (lay.making i) k h) (rank (PartEnd i h)) is_r)
         (λ j from l is_l on.
         let lower = rises j from (PartEnd i h) on in
-        so_below (is_early l from) (rank (PartEnd j from)) (passes_early keep p net n rank v regs after o s j from l (PartEnd i h) now is_l on) (omega (arith, lower, is_r)))
+        so_below (is_early (lay.making j) l from) (rank (PartEnd j from)) (passes_early lay p net n rank v regs after o s j from l (PartEnd i h) now is_l on) (omega (arith, lower, is_r)))
 
     either : (x : Bool) (m : ℕ) → (x && nat_lt m (suc r)) ≡ true → ((x && nat_lt m r) ≡ true) ⊎ ((x && nat_eq m r) ≡ true)
     either false m e = absurd (cc e)
@@ -188,18 +188,18 @@ next_rank keep p net n rank v regs after o s r rises now b = by_end (phase keep 
         by_test true h = inr refl
         by_test false h = inl (grind (arith, e, h))
 
-    comes : AllComeIn p n v (below_rank rank (suc r))
-    comes i h k c is there chosen = by_rank (either (is_early k h) (rank (PartEnd i h)) chosen)
+    comes : AllComeIn p n v (below_rank lay rank (suc r))
+    comes i h k c is there chosen = by_rank (either (is_early (lay.making i) k h) (rank (PartEnd i h)) chosen)
       where
-        by_rank : (below_rank rank r i k h ≡ true) ⊎ (at_rank rank r i k h ≡ true) → ComesIn p n v i h c
+        by_rank : (below_rank lay rank r i k h ≡ true) ⊎ (at_rank lay rank r i k h ≡ true) → ComesIn p n v i h c
         by_rank (inl lower) = b.comes i h k c is there lower
         by_rank (inr here) = (arrive i h k c is there here).comes
 
-    all : early_made p n rank v r ++ with_pulse p n v (chosen_from (at_rank rank r) 0 p.parts) ≡ early_made p n rank v (suc r)
-    all = sym (with_pulse-append p n v (early_below p rank r) (chosen_from (at_rank rank r) 0 p.parts))
+    all : early_made lay p n rank v r ++ with_pulse p n v (chosen_from (at_rank lay rank r) 0 p.parts) ≡ early_made lay p n rank v (suc r)
+    all = sym (with_pulse-append p n v (early_below lay p rank r) (chosen_from (at_rank lay rank r) 0 p.parts))
 
-    by_end : Further p n v o s (early_made p n rank v r ++ with_pulse p n v (chosen_from (at_rank rank r) 0 p.parts)) ⊎ Stopped p n v o s
-        → Below p n rank v o s (suc r) ⊎ Stopped p n v o s
+    by_end : Further p n v o s (early_made lay p n rank v r ++ with_pulse p n v (chosen_from (at_rank lay rank r) 0 p.parts)) ⊎ Stopped p n v o s
+        → Below lay p n rank v o s (suc r) ⊎ Stopped p n v o s
     by_end (inl more) =
         inl
         (record {
@@ -212,15 +212,15 @@ next_rank keep p net n rank v regs after o s r rises now b = by_end (phase keep 
     by_end (inr stopped) = inr stopped
 
 -- outputs and inputs, before all firings
-no_rank : (keep : Keep) (p : Plan) (net : Netlist) (n : Places) (rank : End → ℕ) (v regs after : Numbers) (o : Open) (s : Tokens)
-    → Now keep p net n rank v regs after o s → Below p n rank v o s 0 ⊎ Stopped p n v o s
-no_rank keep p net n rank v regs after o s now = by_inputs (lists_are_decided p (given_elements p n v) outs.0 outs.1 ins.0 ins.1)
+no_rank : (lay : Laying) (p : Plan) (net : Netlist) (n : Places) (rank : End → ℕ) (v regs after : Numbers) (o : Open) (s : Tokens)
+    → Now lay p net n rank v regs after o s → Below lay p n rank v o s 0 ⊎ Stopped p n v o s
+no_rank lay p net n rank v regs after o s now = by_inputs (lists_are_decided p (given_elements p n v) outs.0 outs.1 ins.0 ins.1)
   where
     outs : (m : Open) × (w : Tokens) × OrderlyFrom p (shown_elements p n v) o s m w
-    outs = outs_go keep p net n rank v regs after o o s s [] (port_ends (ports_of p)) now refl (refl, refl)
+    outs = outs_go lay p net n rank v regs after o o s s [] (port_ends (ports_of p)) now refl (refl, refl)
 
     ins : (w : Tokens) × Runs p (given_elements p n v) outs.1 w
-    ins = ins_go keep p net n rank v regs after o s outs.1 [] (port_ends (ports_of p)) now refl
+    ins = ins_go lay p net n rank v regs after o s outs.1 [] (port_ends (ports_of p)) now refl
 
     without : listing p n v [] ≡ shown_elements p n v ++ given_elements p n v
     without = ap (λ (l : List Element). shown_elements p n v ++ l) (append-nil (given_elements p n v))
@@ -231,7 +231,7 @@ no_rank keep p net n rank v regs after o s now = by_inputs (lists_are_decided p 
 
     by_inputs : ((u : Open) × OrderlyFrom p (given_elements p n v) outs.0 outs.1 u ins.0)
         ⊎ ((u : Open) (w : Tokens) → OrderlyFrom p (given_elements p n v) outs.0 outs.1 u w → ⊥)
-        → Below p n rank v o s 0 ⊎ Stopped p n v o s
+        → Below lay p n rank v o s 0 ⊎ Stopped p n v o s
     by_inputs (inl (u, list)) =
         inl
         (record {
@@ -246,7 +246,7 @@ no_rank keep p net n rank v regs after o s now = by_inputs (lists_are_decided p 
               (no_values true p i (values p n v i) v (bits_out_at p) n.shows (port_ends (ports_of p)) s)
               (orderly_is_possible p (shown_elements p n v) o outs.0 s outs.1 outs.2)
               (no_values false p i (values p n v i) v (bits_in_at p) n.leaves (port_ends (ports_of p)) outs.1));
-          comes = λ i h k c is there chosen. absurd (none_below (is_early k h) (rank (PartEnd i h)) chosen);
+          comes = λ i h k c is there chosen. absurd (none_below (is_early (lay.making i) k h) (rank (PartEnd i h)) chosen);
         })
     by_inputs (inr fails) =
         inr
@@ -262,20 +262,20 @@ no_rank keep p net n rank v regs after o s now = by_inputs (lists_are_decided p 
         })
 
 -- all ranks
-all_ranks : (keep : Keep) (p : Plan) (net : Netlist) (n : Places) (rank : End → ℕ) (v regs after : Numbers) (o : Open) (s : Tokens) (r : ℕ)
-    → Rises keep p rank → Now keep p net n rank v regs after o s → Below p n rank v o s r ⊎ Stopped p n v o s
-all_ranks keep p net n rank v regs after o s zero rises now = no_rank keep p net n rank v regs after o s now
-all_ranks keep p net n rank v regs after o s (suc r) rises now =
-    by_end (all_ranks keep p net n rank v regs after o s r rises now)
+all_ranks : (lay : Laying) (p : Plan) (net : Netlist) (n : Places) (rank : End → ℕ) (v regs after : Numbers) (o : Open) (s : Tokens) (r : ℕ)
+    → Rises lay p rank → Now lay p net n rank v regs after o s → Below lay p n rank v o s r ⊎ Stopped p n v o s
+all_ranks lay p net n rank v regs after o s zero rises now = no_rank lay p net n rank v regs after o s now
+all_ranks lay p net n rank v regs after o s (suc r) rises now =
+    by_end (all_ranks lay p net n rank v regs after o s r rises now)
   where
-    by_end : Below p n rank v o s r ⊎ Stopped p n v o s → Below p n rank v o s (suc r) ⊎ Stopped p n v o s
-    by_end (inl b) = next_rank keep p net n rank v regs after o s r rises now b
+    by_end : Below lay p n rank v o s r ⊎ Stopped p n v o s → Below lay p n rank v o s (suc r) ⊎ Stopped p n v o s
+    by_end (inl b) = next_rank lay p net n rank v regs after o s r rises now b
     by_end (inr stopped) = inr stopped
 
 -- and then what comes in late
-late_last : (keep : Keep) (p : Plan) (net : Netlist) (n : Places) (rank : End → ℕ) (v regs after : Numbers) (o : Open) (s : Tokens)
-    → Now keep p net n rank v regs after o s → Below p n rank v o s (top p rank) → Whole p n rank v o s ⊎ Stopped p n v o s
-late_last keep p net n rank v regs after o s now b = by_end (phase keep p net n rank v regs after o s (top p rank) are_late b now arrive)
+late_last : (lay : Laying) (p : Plan) (net : Netlist) (n : Places) (rank : End → ℕ) (v regs after : Numbers) (o : Open) (s : Tokens)
+    → Now lay p net n rank v regs after o s → Below lay p n rank v o s (top p rank) → Whole lay p n rank v o s ⊎ Stopped p n v o s
+late_last lay p net n rank v regs after o s now b = by_end (phase lay p net n rank v regs after o s (top p rank) (are_late lay) b now arrive)
   where
     not_below : (x y : Bool) → x ≡ true → (not x && y) ≡ false
     not_below true y e = refl
@@ -285,37 +285,37 @@ late_last keep p net n rank v regs after o s now b = by_end (phase keep p net n 
     so_below true m e lt = grind (arith, lt)
     so_below false m e lt = absurd (cc e)
 
-    arrive : AllArrive p n v b.state_then are_late
+    arrive : AllArrive p n v b.state_then (are_late lay)
     arrive i h k c is there chosen =
-        arrival keep p net n rank v regs after o s (top p rank) b i h k c now is there
-        (not_below (is_among (late_of k) h) (nat_lt (rank (PartEnd i h)) (top p rank)) chosen)
+        arrival lay p net n rank v regs after o s (top p rank) b i h k c now is there
+        (not_below (is_among (late_of (lay.making i) k) h) (nat_lt (rank (PartEnd i h)) (top p rank)) chosen)
         (λ j from l is_l on.
         let on_there = on.there in
         let same : on.part ≡ l = cc (on_there, is_l) in
-        so_below (is_early l from) (rank (PartEnd j from)) (passes_early keep p net n rank v regs after o s j from l (PartEnd i h) now is_l on)
+        so_below (is_early (lay.making j) l from) (rank (PartEnd j from)) (passes_early lay p net n rank v regs after o s j from l (PartEnd i h) now is_l on)
         (below_top p rank j from l is_l (subst (λ (x : Part). from < length (part_contacts x)) same on.from_there)))
 
     comes : AllComeIn p n v (λ i k h. true)
-    comes i h k c is there chosen = by_late (is_among (late_of k) h) refl
+    comes i h k c is there chosen = by_late (is_among (late_of (lay.making i) k) h) refl
       where
         within : rank (PartEnd i h) < top p rank
         within = below_top p rank i h k is (slice_get_within (part_contacts k) h c (own_contact p i h k c is there))
 
-        by_late : (x : Bool) → is_among (late_of k) h ≡ x → ComesIn p n v i h c
+        by_late : (x : Bool) → is_among (late_of (lay.making i) k) h ≡ x → ComesIn p n v i h c
         by_late true late = (arrive i h k c is there late).comes
-        by_late false early = b.comes i h k c is there (so_below (is_early k h) (rank (PartEnd i h)) (ap not early) within)
+        by_late false early = b.comes i h k c is there (so_below (is_early (lay.making i) k h) (rank (PartEnd i h)) (ap not early) within)
 
-    by_end : Further p n v o s (made_firings p n rank v) ⊎ Stopped p n v o s → Whole p n rank v o s ⊎ Stopped p n v o s
+    by_end : Further p n v o s (made_firings lay p n rank v) ⊎ Stopped p n v o s → Whole lay p n rank v o s ⊎ Stopped p n v o s
     by_end (inl more) =
         inl (record { open_then = more.open_then; state_then = more.state_then; list = more.list; takes = more.takes; comes = comes })
     by_end (inr stopped) = inr stopped
 
 -- The list of a cycle is orderly to its end, or broken.
-pub cycle_ends : (keep : Keep) (p : Plan) (net : Netlist) (n : Places) (rank : End → ℕ) (v regs after : Numbers) (o : Open) (s : Tokens)
-    → Rises keep p rank → Now keep p net n rank v regs after o s → Whole p n rank v o s ⊎ Stopped p n v o s
-cycle_ends keep p net n rank v regs after o s rises now =
-    by_end (all_ranks keep p net n rank v regs after o s (top p rank) rises now)
+pub cycle_ends : (lay : Laying) (p : Plan) (net : Netlist) (n : Places) (rank : End → ℕ) (v regs after : Numbers) (o : Open) (s : Tokens)
+    → Rises lay p rank → Now lay p net n rank v regs after o s → Whole lay p n rank v o s ⊎ Stopped p n v o s
+cycle_ends lay p net n rank v regs after o s rises now =
+    by_end (all_ranks lay p net n rank v regs after o s (top p rank) rises now)
   where
-    by_end : Below p n rank v o s (top p rank) ⊎ Stopped p n v o s → Whole p n rank v o s ⊎ Stopped p n v o s
-    by_end (inl b) = late_last keep p net n rank v regs after o s now b
+    by_end : Below lay p n rank v o s (top p rank) ⊎ Stopped p n v o s → Whole lay p n rank v o s ⊎ Stopped p n v o s
+    by_end (inl b) = late_last lay p net n rank v regs after o s now b
     by_end (inr stopped) = inr stopped

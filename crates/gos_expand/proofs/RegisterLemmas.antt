@@ -16,8 +16,8 @@ use Rattle.gos_plan.specs.Tokens.{places_of, asking_in}
 use Rattle.gos_plan.proofs.JointLemmas.{IsIn, same_itself}
 use Rattle.gos_plan.proofs.BalanceLemmas.{ends_differ}
 use Rattle.gos_expand.specs.Blocks.{Nets, nets_from, token_size, registers, nothing, inputs}
-use Rattle.gos_expand.specs.Starts.{Keep, Outer, ports_of, port_start, bits_if, bits_taken, loose_start, part_start, shake_size}
-use Rattle.gos_expand.specs.Laid.{Seat, seat_among, seat_of, arrives, arrives_by, leaves, laid_cells, part_cells, side_cells, shake_cells, way_start, request_nets, answer_nets, request_start}
+use Rattle.gos_expand.specs.Starts.{Laying, Outer, ports_of, port_start, bits_if, bits_taken, loose_start, part_start, shake_size}
+use Rattle.gos_expand.specs.Laid.{Seat, seat_among, seat_of, arrives, arrives_by, leaves, circuit_cells, part_cells, side_cells, shake_cells, way_start, request_nets, answer_nets, request_start}
 use Rattle.gos_expand.specs.Facts.{Delays, source, target, width, bits_put}
 use Rattle.gos_expand.proofs.StandLemmas.{StandAt, each_left, each_right, each_block}
 use Rattle.gos_expand.proofs.GroupLemmas.{token_length, shakes_length, port_stands, way_stands, part_stands}
@@ -88,13 +88,13 @@ gates_settle all v regs ins b n (c ∷ cells) settles stands none =
           (λ k d e. let same : b + n + suc k ≡ b + suc n + k = omega arith in subst (λ (m : ℕ). slice_get all m ≡ Some d) same (stands (suc k) d e)) none.1,
     )
 
-pub part_settles : (keep : Keep) (p : Plan) (v regs ins : Numbers) (i : ℕ) (k : Part) → Settling (laid_cells keep p) regs ins v → slice_get p.parts i ≡ Some k
-    → HasNoInput (part_cells keep p i k)
-    → Settled v regs (next_registers (laid_cells keep p) v) (part_start keep p i) 0 (part_cells keep p i k)
-part_settles keep p v regs ins i k settles is none =
-    let same : part_start keep p i ≡ part_start keep p i + 0 = omega arith in
-    gates_settle (laid_cells keep p) v regs ins (part_start keep p i) 0 (part_cells keep p i k) settles
-    (subst (λ (m : ℕ). StandAt (laid_cells keep p) m (part_cells keep p i k)) same (part_stands keep p i k is)) none
+pub part_settles : (lay : Laying) (p : Plan) (v regs ins : Numbers) (i : ℕ) (k : Part) → Settling (circuit_cells lay p) regs ins v → slice_get p.parts i ≡ Some k
+    → HasNoInput (part_cells lay p i k)
+    → Settled v regs (next_registers (circuit_cells lay p) v) (part_start lay p i) 0 (part_cells lay p i k)
+part_settles lay p v regs ins i k settles is none =
+    let same : part_start lay p i ≡ part_start lay p i + 0 = omega arith in
+    gates_settle (circuit_cells lay p) v regs ins (part_start lay p i) 0 (part_cells lay p i k) settles
+    (subst (λ (m : ℕ). StandAt (circuit_cells lay p) m (part_cells lay p i k)) same (part_stands lay p i k is)) none
 
 -- the ends of a later joint stand in no earlier one
 free_of : (e : End) (y : Joint) (before : List Joint) → IsIn y before → is_free e before ≡ true → stands_in e y ≡ false
@@ -151,36 +151,36 @@ seat_there p x j way right there =
     seat_is p [] p.joints 0 x j way right there (ends_differ p j right (is_in_at x p.joints j there)).1 ∙ ap (λ (m : ℕ). Some (seat_at m j way)) none
 
 -- what comes in by a direction of a joint, of which it is known whether it keeps its registers
-arrives_if : (keep : Keep) (p : Plan) (x : ℕ) (j : Joint) (way : Direction) (kept : Bool) → IsRight p → slice_get p.joints x ≡ Some j → keep x way ≡ kept
-    → arrives keep p (target j way)
-    ≡ (if kept then nets_from (bits_taken (contact_at p (target j way))) (way_start keep p x (slice_get p.joints x) way) else leaves keep p (source j way))
-arrives_if keep p x j way kept right there is =
-    ap (arrives_by keep p (target j way)) (seat_there p x j way right there)
+arrives_if : (lay : Laying) (p : Plan) (x : ℕ) (j : Joint) (way : Direction) (kept : Bool) → IsRight p → slice_get p.joints x ≡ Some j → lay.keep x way ≡ kept
+    → arrives lay p (target j way)
+    ≡ (if kept then nets_from (bits_taken (contact_at p (target j way))) (way_start lay p x (slice_get p.joints x) way) else leaves lay p (source j way))
+arrives_if lay p x j way kept right there is =
+    ap (arrives_by lay p (target j way)) (seat_there p x j way right there)
     ∙ ap
-    (λ (b : Bool). if b then nets_from (bits_taken (contact_at p (target j way))) (way_start keep p x (slice_get p.joints x) way) else leaves keep p (source j way))
+    (λ (b : Bool). if b then nets_from (bits_taken (contact_at p (target j way))) (way_start lay p x (slice_get p.joints x) way) else leaves lay p (source j way))
     is
 
 -- it is what goes in at the other end where it doesn't
-pub arrives_straight : (keep : Keep) (p : Plan) (x : ℕ) (j : Joint) (way : Direction) → IsRight p → slice_get p.joints x ≡ Some j → keep x way ≡ false
-    → arrives keep p (target j way) ≡ leaves keep p (source j way)
-arrives_straight keep p x j way right there none = arrives_if keep p x j way false right there none
+pub arrives_straight : (lay : Laying) (p : Plan) (x : ℕ) (j : Joint) (way : Direction) → IsRight p → slice_get p.joints x ≡ Some j → lay.keep x way ≡ false
+    → arrives lay p (target j way) ≡ leaves lay p (source j way)
+arrives_straight lay p x j way right there none = arrives_if lay p x j way false right there none
 
 -- and its registers where it does
-arrives_joint : (keep : Keep) (p : Plan) (x : ℕ) (j : Joint) (way : Direction) → IsRight p → slice_get p.joints x ≡ Some j → keep x way ≡ true
-    → arrives keep p (target j way) ≡ nets_from (width p j way) (way_start keep p x (Some j) way)
-arrives_joint keep p x j way right there kept =
+arrives_joint : (lay : Laying) (p : Plan) (x : ℕ) (j : Joint) (way : Direction) → IsRight p → slice_get p.joints x ≡ Some j → lay.keep x way ≡ true
+    → arrives lay p (target j way) ≡ nets_from (width p j way) (way_start lay p x (Some j) way)
+arrives_joint lay p x j way right there kept =
     let ends : Ends p j way = ends_of p j way (joint_fits p [] p.joints x j right there) in
     let bits : bits_taken (contact_at p (target j way)) ≡ width p j way = ap bits_taken ends.to_there ∙ ends.to_bits in
-    arrives_if keep p x j way true right there kept ∙ (λ i. nets_from (bits i) (way_start keep p x (there i) way))
+    arrives_if lay p x j way true right there kept ∙ (λ i. nets_from (bits i) (way_start lay p x (there i) way))
 
-pub joint_delays : (keep : Keep) (p : Plan) (v regs ins : Numbers) (x : ℕ) (j : Joint) (way : Direction) → IsRight p
-    → Settling (laid_cells keep p) regs ins v → slice_get p.joints x ≡ Some j → keep x way ≡ true
-    → Delays (width p j way) v regs (next_registers (laid_cells keep p) v) (leaves keep p (source j way)) (arrives keep p (target j way))
-joint_delays keep p v regs ins x j way right settles there kept =
-    subst (λ (n : Nets). Delays (width p j way) v regs (next_registers (laid_cells keep p) v) (leaves keep p (source j way)) n)
-    (sym (arrives_joint keep p x j way right there kept))
-    (delayed (laid_cells keep p) v regs ins (width p j way) (way_start keep p x (Some j) way) (leaves keep p (source j way)) settles
-    (way_stands keep p x j way there kept))
+pub joint_delays : (lay : Laying) (p : Plan) (v regs ins : Numbers) (x : ℕ) (j : Joint) (way : Direction) → IsRight p
+    → Settling (circuit_cells lay p) regs ins v → slice_get p.joints x ≡ Some j → lay.keep x way ≡ true
+    → Delays (width p j way) v regs (next_registers (circuit_cells lay p) v) (leaves lay p (source j way)) (arrives lay p (target j way))
+joint_delays lay p v regs ins x j way right settles there kept =
+    subst (λ (n : Nets). Delays (width p j way) v regs (next_registers (circuit_cells lay p) v) (leaves lay p (source j way)) n)
+    (sym (arrives_joint lay p x j way right there kept))
+    (delayed (circuit_cells lay p) v regs ins (width p j way) (way_start lay p x (Some j) way) (leaves lay p (source j way)) settles
+    (way_stands lay p x j way there kept))
 
 -- an end without a place has no seat
 no_seat : (e : End) (n : ℕ) (js : List Joint) → asking_in js e ≡ None → seat_among n js e ≡ None
@@ -194,23 +194,23 @@ no_seat e n (j ∷ js) none = by_tests (same_end e j.asking) (same_end e j.servi
     by_tests false true none go = absurd (cc none)
     by_tests false false none go = go none
 
-pub loose_silent : (keep : Keep) (p : Plan) (v regs ins : Numbers) (e : End) (c : Contact) → Settling (laid_cells keep p) regs ins v → contact_at p e ≡ Some c
-    → places_of p e ≡ None → (at v (arrives keep p e).pulse ≡ 0) × (0 < bits_taken (Some c) → at v (arrives keep p e).number ≡ 0)
-loose_silent keep p v regs ins e c settles there none =
+pub loose_silent : (lay : Laying) (p : Plan) (v regs ins : Numbers) (e : End) (c : Contact) → Settling (circuit_cells lay p) regs ins v → contact_at p e ≡ Some c
+    → places_of p e ≡ None → (at v (arrives lay p e).pulse ≡ 0) × (0 < bits_taken (Some c) → at v (arrives lay p e).number ≡ 0)
+loose_silent lay p v regs ins e c settles there none =
     let free : seat_of p e ≡ None = no_seat e 0 p.joints none in
-    let silent = silent_nets (laid_cells keep p) v regs ins (bits_taken (contact_at p e)) (loose_start keep p e) settles (loose_stands keep p e c there free) in
-    let is : arrives keep p e ≡ nets_from (bits_taken (contact_at p e)) (loose_start keep p e) = ap (arrives_by keep p e) free in
+    let silent = silent_nets (circuit_cells lay p) v regs ins (bits_taken (contact_at p e)) (loose_start lay p e) settles (loose_stands lay p e c there free) in
+    let is : arrives lay p e ≡ nets_from (bits_taken (contact_at p e)) (loose_start lay p e) = ap (arrives_by lay p e) free in
     subst (λ (n : Nets). (at v n.pulse ≡ 0) × (0 < bits_taken (Some c) → at v n.number ≡ 0)) (sym is)
     (silent.0, λ some. silent.1 (subst (λ (f : Option Contact). 0 < bits_taken f) (sym there) some))
 
 -- the cells of a handshake of a port
-shake_stands : (keep : Keep) (p : Plan) (k h : ℕ) (o : Outer) (c : Contact) → slice_get (ports_of p) k ≡ Some o → slice_get o.contacts h ≡ Some c
-    → StandAt (laid_cells keep p) (request_start (port_start p k) o.contacts h) (side_cells o.side c (arrives keep p (o.end_at h)))
-shake_stands keep p k h o c there is =
+shake_stands : (lay : Laying) (p : Plan) (k h : ℕ) (o : Outer) (c : Contact) → slice_get (ports_of p) k ≡ Some o → slice_get o.contacts h ≡ Some c
+    → StandAt (circuit_cells lay p) (request_start (port_start p k) o.contacts h) (side_cells o.side c (arrives lay p (o.end_at h)))
+shake_stands lay p k h o c there is =
     let none : 0 + h ≡ h = omega arith in
-    subst (λ (m : ℕ). StandAt (laid_cells keep p) (request_start (port_start p k) o.contacts h) (side_cells o.side c (arrives keep p (o.end_at m)))) none
-    (each_block (λ n d. slice_get (laid_cells keep p) n ≡ Some d) (shake_cells keep p o) shake_size (shakes_length keep p o) (port_start p k) 0 o.contacts h c is
-    (port_stands keep p k o there))
+    subst (λ (m : ℕ). StandAt (circuit_cells lay p) (request_start (port_start p k) o.contacts h) (side_cells o.side c (arrives lay p (o.end_at m)))) none
+    (each_block (λ n d. slice_get (circuit_cells lay p) n ≡ Some d) (shake_cells lay p o) shake_size (shakes_length lay p o) (port_start p k) 0 o.contacts h c is
+    (port_stands lay p k o there))
 
 -- the nets of what a port shows
 abbrev pub shows : Plan → End → Nets
@@ -219,26 +219,26 @@ shows p (ImportEnd i h) = request_nets (port_start p (suc i)) (contacts_of_impor
 shows p (ResultEnd h) = answer_nets (port_start p 0) (contacts_of p.outcome) h
 
 -- an end of a port: its inputs and the registers of its output
-pub record PortCells (keep : Keep) (p : Plan) (e : End) (c : Contact) : Type 0 where
+pub record PortCells (lay : Laying) (p : Plan) (e : End) (c : Contact) : Type 0 where
   pub out_from : ℕ
   pub shows_is : shows p e ≡ nets_from (bits_taken (Some c)) out_from
-  pub out_stands : StandAt (laid_cells keep p) out_from (registers (bits_taken (Some c)) (arrives keep p e))
+  pub out_stands : StandAt (circuit_cells lay p) out_from (registers (bits_taken (Some c)) (arrives lay p e))
   pub in_from : ℕ
-  pub leaves_is : leaves keep p e ≡ nets_from (bits_put (Some c)) in_from
-  pub in_stands : StandAt (laid_cells keep p) in_from (inputs (bits_put (Some c)))
+  pub leaves_is : leaves lay p e ≡ nets_from (bits_put (Some c)) in_from
+  pub in_stands : StandAt (circuit_cells lay p) in_from (inputs (bits_put (Some c)))
 
 pub turned_back : (f : Option Contact) (c : Contact) → turned_if f ≡ Some c → (d : Contact) × (f ≡ Some d) × (turned_contact d ≡ c)
 turned_back None c e = absurd (cc e)
 turned_back (Some d) c e = (d, refl, cc e)
 
-pub result_cells : (keep : Keep) (p : Plan) (h : ℕ) (c : Contact) → IsGround p.outcome → contact_at p (ResultEnd h) ≡ Some c → PortCells keep p (ResultEnd h) c
-result_cells keep p h c ground there = of_contact back.0 back.1 back.2 (ground_serves p.outcome h back.0 ground back.1)
+pub result_cells : (lay : Laying) (p : Plan) (h : ℕ) (c : Contact) → IsGround p.outcome → contact_at p (ResultEnd h) ≡ Some c → PortCells lay p (ResultEnd h) c
+result_cells lay p h c ground there = of_contact back.0 back.1 back.2 (ground_serves p.outcome h back.0 ground back.1)
   where
     back : (d : Contact) × (slice_get (contacts_of p.outcome) h ≡ Some d) × (turned_contact d ≡ c)
     back = turned_back (slice_get (contacts_of p.outcome) h) c there
 
-    of_contact : (d : Contact) → slice_get (contacts_of p.outcome) h ≡ Some d → turned_contact d ≡ c → d.role ≡ Serve → PortCells keep p (ResultEnd h) c
-    of_contact d is turned role = subst (λ (x : Contact). PortCells keep p (ResultEnd h) x) turned made
+    of_contact : (d : Contact) → slice_get (contacts_of p.outcome) h ≡ Some d → turned_contact d ≡ c → d.role ≡ Serve → PortCells lay p (ResultEnd h) c
+    of_contact d is turned role = subst (λ (x : Contact). PortCells lay p (ResultEnd h) x) turned made
       where
         start : ℕ
         start = request_start (port_start p 0) (contacts_of p.outcome) h
@@ -246,8 +246,8 @@ result_cells keep p h c ground there = of_contact back.0 back.1 back.2 (ground_s
         o : Outer
         o = record { side = Give; contacts = contacts_of p.outcome; end_at = ResultEnd }
 
-        cells : StandAt (laid_cells keep p) start (inputs d.ask_bits ++ registers d.answer_bits (arrives keep p (ResultEnd h)))
-        cells = shake_stands keep p 0 h o d refl is
+        cells : StandAt (circuit_cells lay p) start (inputs d.ask_bits ++ registers d.answer_bits (arrives lay p (ResultEnd h)))
+        cells = shake_stands lay p 0 h o d refl is
 
         asked : bits_put (Some (turned_contact d)) ≡ d.ask_bits
         asked = rw role refl
@@ -258,7 +258,7 @@ result_cells keep p h c ground there = of_contact back.0 back.1 back.2 (ground_s
         long : length (inputs d.ask_bits) ≡ token_size d.ask_bits
         long = token_length d.ask_bits Input Input
 
-        made : PortCells keep p (ResultEnd h) (turned_contact d)
+        made : PortCells lay p (ResultEnd h) (turned_contact d)
         made =
             record {
               out_from = start + token_size d.ask_bits;
@@ -266,33 +266,33 @@ result_cells keep p h c ground there = of_contact back.0 back.1 back.2 (ground_s
                   (λ i. nets_from (bits_if (is i) Answer) (start + token_size (bits_if (is i) Request)))
                   ∙ ap (λ (w : ℕ). nets_from w (start + token_size d.ask_bits)) (sym answered);
               out_stands =
-                  subst (λ (w : ℕ). StandAt (laid_cells keep p) (start + token_size d.ask_bits) (registers w (arrives keep p (ResultEnd h)))) (sym answered)
-                  (subst (λ (m : ℕ). StandAt (laid_cells keep p) (start + m) (registers d.answer_bits (arrives keep p (ResultEnd h)))) long
-                  (each_right (λ n x. slice_get (laid_cells keep p) n ≡ Some x) start (inputs d.ask_bits) (registers d.answer_bits (arrives keep p (ResultEnd h))) cells));
+                  subst (λ (w : ℕ). StandAt (circuit_cells lay p) (start + token_size d.ask_bits) (registers w (arrives lay p (ResultEnd h)))) (sym answered)
+                  (subst (λ (m : ℕ). StandAt (circuit_cells lay p) (start + m) (registers d.answer_bits (arrives lay p (ResultEnd h)))) long
+                  (each_right (λ n x. slice_get (circuit_cells lay p) n ≡ Some x) start (inputs d.ask_bits) (registers d.answer_bits (arrives lay p (ResultEnd h))) cells));
               in_from = start;
               leaves_is = (λ i. nets_from (bits_if (is i) Request) start) ∙ ap (λ (w : ℕ). nets_from w start) (sym asked);
               in_stands =
-                  subst (λ (w : ℕ). StandAt (laid_cells keep p) start (inputs w)) (sym asked)
-                  (each_left (λ n x. slice_get (laid_cells keep p) n ≡ Some x) start (inputs d.ask_bits) (registers d.answer_bits (arrives keep p (ResultEnd h))) cells);
+                  subst (λ (w : ℕ). StandAt (circuit_cells lay p) start (inputs w)) (sym asked)
+                  (each_left (λ n x. slice_get (circuit_cells lay p) n ≡ Some x) start (inputs d.ask_bits) (registers d.answer_bits (arrives lay p (ResultEnd h))) cells);
             }
 
-pub import_cells : (keep : Keep) (p : Plan) (i h : ℕ) (t : Imported) (c : Contact) → slice_get p.imports i ≡ Some t → IsGround t.ty → contact_at p (ImportEnd i h) ≡ Some c
-    → PortCells keep p (ImportEnd i h) c
-import_cells keep p i h t c there ground contact =
+pub import_cells : (lay : Laying) (p : Plan) (i h : ℕ) (t : Imported) (c : Contact) → slice_get p.imports i ≡ Some t → IsGround t.ty → contact_at p (ImportEnd i h) ≡ Some c
+    → PortCells lay p (ImportEnd i h) c
+import_cells lay p i h t c there ground contact =
     record {
       out_from = start;
       shows_is = (λ j. nets_from (bits_if (here j) Request) (starts j)) ∙ ap (λ (w : ℕ). nets_from w start) (sym asked);
       out_stands =
-          subst (λ (w : ℕ). StandAt (laid_cells keep p) start (registers w (arrives keep p (ImportEnd i h)))) (sym asked)
-          (each_left (λ n x. slice_get (laid_cells keep p) n ≡ Some x) start (registers c.ask_bits (arrives keep p (ImportEnd i h))) (inputs c.answer_bits) cells);
+          subst (λ (w : ℕ). StandAt (circuit_cells lay p) start (registers w (arrives lay p (ImportEnd i h)))) (sym asked)
+          (each_left (λ n x. slice_get (circuit_cells lay p) n ≡ Some x) start (registers c.ask_bits (arrives lay p (ImportEnd i h))) (inputs c.answer_bits) cells);
       in_from = start + token_size c.ask_bits;
       leaves_is =
           (λ j. nets_from (bits_if (here j) Answer) (starts j + token_size (bits_if (here j) Request)))
           ∙ ap (λ (w : ℕ). nets_from w (start + token_size c.ask_bits)) (sym answered);
       in_stands =
-          subst (λ (w : ℕ). StandAt (laid_cells keep p) (start + token_size c.ask_bits) (inputs w)) (sym answered)
-          (subst (λ (m : ℕ). StandAt (laid_cells keep p) (start + m) (inputs c.answer_bits)) long
-          (each_right (λ n x. slice_get (laid_cells keep p) n ≡ Some x) start (registers c.ask_bits (arrives keep p (ImportEnd i h))) (inputs c.answer_bits) cells));
+          subst (λ (w : ℕ). StandAt (circuit_cells lay p) (start + token_size c.ask_bits) (inputs w)) (sym answered)
+          (subst (λ (m : ℕ). StandAt (circuit_cells lay p) (start + m) (inputs c.answer_bits)) long
+          (each_right (λ n x. slice_get (circuit_cells lay p) n ≡ Some x) start (registers c.ask_bits (arrives lay p (ImportEnd i h))) (inputs c.answer_bits) cells));
     }
   where
     start : ℕ
@@ -319,20 +319,20 @@ import_cells keep p i h t c there ground contact =
     o : Outer
     o = record { side = Take; contacts = contacts_of t.ty; end_at = ImportEnd i }
 
-    cells : StandAt (laid_cells keep p) start (registers c.ask_bits (arrives keep p (ImportEnd i h)) ++ inputs c.answer_bits)
+    cells : StandAt (circuit_cells lay p) start (registers c.ask_bits (arrives lay p (ImportEnd i h)) ++ inputs c.answer_bits)
     cells =
         let up : i + 1 ≡ suc i = omega arith in
-        shake_stands keep p (suc i) h o c (subst (λ (m : ℕ). slice_get (ports_of p) m ≡ Some o) up (port_there p i t there)) own
+        shake_stands lay p (suc i) h o c (subst (λ (m : ℕ). slice_get (ports_of p) m ≡ Some o) up (port_there p i t there)) own
 
-    long : length (registers c.ask_bits (arrives keep p (ImportEnd i h))) ≡ token_size c.ask_bits
-    long = token_length c.ask_bits (Reg (arrives keep p (ImportEnd i h)).pulse) (Reg (arrives keep p (ImportEnd i h)).number)
+    long : length (registers c.ask_bits (arrives lay p (ImportEnd i h))) ≡ token_size c.ask_bits
+    long = token_length c.ask_bits (Reg (arrives lay p (ImportEnd i h)).pulse) (Reg (arrives lay p (ImportEnd i h)).number)
 
 -- so outputs delay, and inputs are in range
-pub port_delays : (keep : Keep) (p : Plan) (v regs ins : Numbers) (e : End) (c : Contact) → PortCells keep p e c → Settling (laid_cells keep p) regs ins v
-    → Delays (bits_taken (Some c)) v regs (next_registers (laid_cells keep p) v) (arrives keep p e) (shows p e)
-port_delays keep p v regs ins e c cells settles =
-    subst (λ (n : Nets). Delays (bits_taken (Some c)) v regs (next_registers (laid_cells keep p) v) (arrives keep p e) n) (sym cells.shows_is)
-    (delayed (laid_cells keep p) v regs ins (bits_taken (Some c)) cells.out_from (arrives keep p e) settles cells.out_stands)
+pub port_delays : (lay : Laying) (p : Plan) (v regs ins : Numbers) (e : End) (c : Contact) → PortCells lay p e c → Settling (circuit_cells lay p) regs ins v
+    → Delays (bits_taken (Some c)) v regs (next_registers (circuit_cells lay p) v) (arrives lay p e) (shows p e)
+port_delays lay p v regs ins e c cells settles =
+    subst (λ (n : Nets). Delays (bits_taken (Some c)) v regs (next_registers (circuit_cells lay p) v) (arrives lay p e) n) (sym cells.shows_is)
+    (delayed (circuit_cells lay p) v regs ins (bits_taken (Some c)) cells.out_from (arrives lay p e) settles cells.out_stands)
 
 -- inputs show what is given
 pub shown_inputs : (all : List Cell) (v regs ins : Numbers) (w b : ℕ) → Settling all regs ins v → StandAt all b (inputs w)

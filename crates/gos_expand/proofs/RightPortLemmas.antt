@@ -15,7 +15,7 @@ use Rattle.gos_plan.specs.Plans.{End, Joint, ImportEnd, ResultEnd, Plan, contact
 use Rattle.gos_types.specs.Widths.{HasWidths}
 use Rattle.gos_macro.specs.Fit.{HasNoInput}
 use Rattle.gos_expand.specs.Blocks.{Nets, registers, total, nets_on}
-use Rattle.gos_expand.specs.Starts.{Keep, Outer, ports_of, taken_ports, port_size, bits_taken, port_start, joint_start, part_start}
+use Rattle.gos_expand.specs.Starts.{Laying, Outer, ports_of, taken_ports, port_size, bits_taken, port_start, joint_start, part_start}
 use Rattle.gos_expand.specs.Laid.{arrives, registers_if, port_cells, way_cells, joint_cells, loose_cells, part_cells, incoming, laid_port, taken}
 use Rattle.gos_expand.specs.Acceptance.{AreDifferent}
 use Rattle.gos_expand.proofs.StandLemmas.{Each, each_none, each_both}
@@ -30,11 +30,11 @@ abbrev pub IsListed : List ℕ → ℕ → Cell → Type 0
 IsListed nets n c = c.gate ≡ Input → Contains nets n
 
 -- what is shown of the port at place k
-pub record IsFine (keep : Keep) (p : Plan) (k : ℕ) (q : NetPort) : Type 0 where
-  pub fits : AllFit (cells_of keep p) (places q.side q.ty) q.nets
+pub record IsFine (lay : Laying) (p : Plan) (k : ℕ) (q : NetPort) : Type 0 where
+  pub fits : AllFit (cells_of lay p) (places q.side q.ty) q.nets
   pub rising : Rise (port_start p k) (inputs_of q)
   pub below : AreBelow (port_start p (suc k)) (inputs_of q)
-  pub listed : (o : Outer) → slice_get (ports_of p) k ≡ Some o → Each (IsListed (inputs_of q)) (port_start p k) (port_cells keep p k o)
+  pub listed : (o : Outer) → slice_get (ports_of p) k ≡ Some o → Each (IsListed (inputs_of q)) (port_start p k) (port_cells lay p k o)
 
 take_one_more : {A : Type 0} (xs : List A) (i : ℕ) (x : A) → slice_get xs i ≡ Some x → take (suc i) xs ≡ take i xs ++ x ∷ []
 take_one_more [] i x is = absurd (none-some x is)
@@ -50,41 +50,41 @@ next_start : (p : Plan) (k : ℕ) (o : Outer) → slice_get (ports_of p) k ≡ S
 next_start p k o is =
     ap (total port_size 0) (take_one_more (ports_of p) k o is) ∙ total_one_more 0 (take k (ports_of p)) o
 
-fine_port : (keep : Keep) (p : Plan) (k : ℕ) (name : List ℕ) (side : Side) (ty : Type') (end_at : ℕ → End)
+fine_port : (lay : Laying) (p : Plan) (k : ℕ) (name : List ℕ) (side : Side) (ty : Type') (end_at : ℕ → End)
     → slice_get (ports_of p) k ≡ Some (record { side = side; contacts = contacts_of ty; end_at = end_at }) → IsGround ty → HasWidths ty
-    → IsFine keep p k (laid_port p k name side ty)
-fine_port keep p k name side ty end_at at ground widths =
+    → IsFine lay p k (laid_port p k name side ty)
+fine_port lay p k name side ty end_at at ground widths =
     let outer : Outer = record { side = side; contacts = contacts_of ty; end_at = end_at } in
     let n : ℕ = port_start p k in
     let q : NetPort = laid_port p k name side ty in
     let spots : List Spot = flat_map shake_places (contacts_of ty) in
     let long : length spots ≡ port_size 0 outer = all_places_length 0 (contacts_of ty) in
     let same = places_are side ty ground widths in
-    let arriving : ℕ → Nets = λ h. arrives keep p (end_at h) in
-    let fit : FitOn (cells_of keep p) side n spots = shakes_fit (cells_of keep p) side arriving n 0 (contacts_of ty) (port_stands keep p k outer at) in
+    let arriving : ℕ → Nets = λ h. arrives lay p (end_at h) in
+    let fit : FitOn (cells_of lay p) side n spots = shakes_fit (cells_of lay p) side arriving n 0 (contacts_of ty) (port_stands lay p k outer at) in
     let inputs : inputs_from side n spots ≡ inputs_of q =
     ap (λ ps. inputs_among ps (nets_on n (length spots))) same ∙ ap (λ (m : ℕ). inputs_among (places side ty) (nets_on n m)) long in
     let start = next_start p k outer at in
     let ends : n + length spots ≡ port_start p (suc k) = omega (arith, start, long) in
-    let listed_here : Each (IsListed (inputs_of q)) n (port_cells keep p k outer) =
+    let listed_here : Each (IsListed (inputs_of q)) n (port_cells lay p k outer) =
     λ j c is input.
-    let low = slice_get_within (port_cells keep p k outer) j c is in
-    let count = port_length keep p k outer in
+    let low = slice_get_within (port_cells lay p k outer) j c is in
+    let count = port_length lay p k outer in
     let short : j < length spots = omega (arith, low, count, long) in
     subst (λ (xs : List ℕ). Contains xs (n + j)) inputs
-    (inputs_listed (cells_of keep p) side n spots fit j c short (port_stands keep p k outer at j c is) input)
+    (inputs_listed (cells_of lay p) side n spots fit j c short (port_stands lay p k outer at j c is) input)
     in
     record {
       fits =
-          subst (λ ps. AllFit (cells_of keep p) ps (nets_on n (port_size 0 outer))) same
-          (subst (λ (m : ℕ). AllFit (cells_of keep p) (map (λ x. place side x.way x.bits) spots) (nets_on n m)) long
-          (all_fit (cells_of keep p) side n spots fit));
+          subst (λ ps. AllFit (cells_of lay p) ps (nets_on n (port_size 0 outer))) same
+          (subst (λ (m : ℕ). AllFit (cells_of lay p) (map (λ x. place side x.way x.bits) spots) (nets_on n m)) long
+          (all_fit (cells_of lay p) side n spots fit));
       rising = subst (λ (xs : List ℕ). Rise n xs) inputs (inputs_rise side n spots);
       below =
           subst (λ (m : ℕ). AreBelow m (inputs_of q)) ends
           (subst (λ (xs : List ℕ). AreBelow (n + length spots) xs) inputs (inputs_below side n spots));
       listed =
-          λ o is. subst (λ (x : Outer). Each (IsListed (inputs_of q)) n (port_cells keep p k x)) (same_Some outer o (sym at ∙ is)) listed_here;
+          λ o is. subst (λ (x : Outer). Each (IsListed (inputs_of q)) n (port_cells lay p k x)) (same_Some outer o (sym at ∙ is)) listed_here;
     }
 
 -- the ports, by their places
@@ -110,19 +110,19 @@ import_found p i q is =
     let (t, found, same) = taken_found p 1 p.imports i q is in
     (t, found, same ∙ ap (λ (m : ℕ). laid_port p m t.name Take t.ty) e)
 
-pub fine : (keep : Keep) (p : Plan) → IsSound p → (root : List ℕ) (k : ℕ) (q : NetPort) → slice_get (ports_laid p root) k ≡ Some q → IsFine keep p k q
-fine keep p sound root zero q is =
-    subst (IsFine keep p 0) (same_Some (laid_port p 0 root Give p.outcome) q is)
-    (fine_port keep p 0 root Give p.outcome ResultEnd refl (done_ground p.outcome sound.done) sound.done_widths)
-fine keep p sound root (suc i) q is =
+pub fine : (lay : Laying) (p : Plan) → IsSound lay p → (root : List ℕ) (k : ℕ) (q : NetPort) → slice_get (ports_laid p root) k ≡ Some q → IsFine lay p k q
+fine lay p sound root zero q is =
+    subst (IsFine lay p 0) (same_Some (laid_port p 0 root Give p.outcome) q is)
+    (fine_port lay p 0 root Give p.outcome ResultEnd refl (done_ground p.outcome sound.done) sound.done_widths)
+fine lay p sound root (suc i) q is =
     let (t, found, same) = import_found p i q is in
-    subst (IsFine keep p (suc i)) (sym same)
-    (fine_port keep p (suc i) t.name Take t.ty (ImportEnd i) (import_at p i t found) (sound.grounds i t found) (sound.ground_widths i t found))
+    subst (IsFine lay p (suc i)) (sym same)
+    (fine_port lay p (suc i) t.name Take t.ty (ImportEnd i) (import_at p i t found) (sound.grounds i t found) (sound.ground_widths i t found))
 
-has_side : (p : Plan) → IsSound p → (root : List ℕ) (k : ℕ) (q : NetPort) → slice_get (ports_laid p root) k ≡ Some q → HasSide k q.side q.ty
-has_side p sound root zero q is =
+has_side : (lay : Laying) → (p : Plan) → IsSound lay p → (root : List ℕ) (k : ℕ) (q : NetPort) → slice_get (ports_laid p root) k ≡ Some q → HasSide k q.side q.ty
+has_side lay p sound root zero q is =
     subst (λ (x : NetPort). HasSide 0 x.side x.ty) (same_Some (laid_port p 0 root Give p.outcome) q is) (refl, sound.done)
-has_side p sound root (suc i) q is =
+has_side lay p sound root (suc i) q is =
     let (t, found, same) = import_found p i q is in
     subst (λ (x : NetPort). HasSide (suc i) x.side x.ty) (sym same) (refl, sound.grounds i t found)
 
@@ -163,30 +163,30 @@ in_flat f (r ∷ qs) q a h =
       | inr more ↦ elim (in_flat f qs q a more) [ inl there ↦ inl (Contains-append_right (f r) (flat_map f qs) a there) | inr last ↦ inr last ]
     ]
 
-earlier_below : (keep : Keep) (p : Plan) → IsSound p → (root : List ℕ) (k : ℕ) → k ≤ length (ports_laid p root)
+earlier_below : (lay : Laying) (p : Plan) → IsSound lay p → (root : List ℕ) (k : ℕ) → k ≤ length (ports_laid p root)
     → AreBelow (port_start p k) (all_inputs (take k (ports_laid p root)))
-earlier_below keep p sound root zero low a h = absurd (none_in a h)
-earlier_below keep p sound root (suc k) low a h =
+earlier_below lay p sound root zero low a h = absurd (none_in a h)
+earlier_below lay p sound root (suc k) low a h =
     let (q, at) = is_there (ports_laid p root) k (omega (arith, low)) in
     let (o, there) = is_there (ports_of p) k (let count = same_length p root in omega (arith, low, count)) in
     let next = next_start p k o there in
     let h' = subst (λ (qs : List NetPort). Contains (all_inputs qs) a) (take_one_more (ports_laid p root) k q at) h in
     elim (in_flat inputs_of (take k (ports_laid p root)) q a h') [
-      | inl before ↦ (let less = earlier_below keep p sound root k (omega (arith, low)) a before in omega (arith, less, next))
-      | inr last ↦ (fine keep p sound root k q at).below a last
+      | inl before ↦ (let less = earlier_below lay p sound root k (omega (arith, low)) a before in omega (arith, less, next))
+      | inr last ↦ (fine lay p sound root k q at).below a last
     ]
 
-right_port : (keep : Keep) (p : Plan) → IsSound p → (root : List ℕ) → AreDifferent (root ∷ map (λ (x : Imported). x.name) p.imports)
-    → Kept (IsRightPort (cells_of keep p) (ports_laid p root)) (ports_laid p root)
-right_port keep p sound root different k q is =
-    let here = fine keep p sound root k q is in
+right_port : (lay : Laying) (p : Plan) → IsSound lay p → (root : List ℕ) → AreDifferent (root ∷ map (λ (x : Imported). x.name) p.imports)
+    → Kept (IsRightPort (cells_of lay p) (ports_laid p root)) (ports_laid p root)
+right_port lay p sound root different k q is =
+    let here = fine lay p sound root k q is in
     let low = slice_get_within (ports_laid p root) k q is in
     record {
-      side = has_side p sound root k q is;
+      side = has_side lay p sound root k q is;
       name = λ j r less there. different j k r.name q.name less (name_at p root j r there) (name_at p root k q is);
       nets = here.fits;
       inputs =
-          new_above (all_inputs (take k (ports_laid p root))) (port_start p k) (inputs_of q) (earlier_below keep p sound root k (omega (arith, low))) here.rising;
+          new_above (all_inputs (take k (ports_laid p root))) (port_start p k) (inputs_of q) (earlier_below lay p sound root k (omega (arith, low))) here.rising;
     }
 
 -- each Input cell is listed
@@ -198,13 +198,13 @@ in_all f (r ∷ qs) zero q a is h =
     Contains-append_left (f r) (flat_map f qs) a (subst (λ (x : NetPort). Contains (f x) a) (sym (same_Some r q is)) h)
 in_all f (r ∷ qs) (suc k) q a is h = Contains-append_right (f r) (flat_map f qs) a (in_all f qs k q a is h)
 
-port_listed : (keep : Keep) (p : Plan) → IsSound p → (root : List ℕ) (k : ℕ) (o : Outer) → slice_get (ports_of p) k ≡ Some o
-    → Each (IsListed (all_inputs (ports_laid p root))) (port_start p k) (port_cells keep p k o)
-port_listed keep p sound root k o is =
+port_listed : (lay : Laying) (p : Plan) → IsSound lay p → (root : List ℕ) (k : ℕ) (o : Outer) → slice_get (ports_of p) k ≡ Some o
+    → Each (IsListed (all_inputs (ports_laid p root))) (port_start p k) (port_cells lay p k o)
+port_listed lay p sound root k o is =
     let low = slice_get_within (ports_of p) k o is in
     let count = same_length p root in
     let (q, at) = is_there (ports_laid p root) k (omega (arith, low, count)) in
-    λ j c there input. in_all inputs_of (ports_laid p root) k q (port_start p k + j) at ((fine keep p sound root k q at).listed o is j c there input)
+    λ j c there input. in_all inputs_of (ports_laid p root) k q (port_start p k + j) at ((fine lay p sound root k q at).listed o is j c there input)
 
 no_register : (a : ℕ) → Reg a ≡ Input → ⊥
 no_register a same = cc same
@@ -220,11 +220,11 @@ way_listed : (nets : List ℕ) (kept : Bool) (w b : ℕ) (n : Nets) → Each (Is
 way_listed nets true w b n = registers_listed nets w b n
 way_listed nets false w b n = each_none (IsListed nets) b
 
-joint_listed : (keep : Keep) (nets : List ℕ) (p : Plan) (x : ℕ) (j : Joint) → slice_get p.joints x ≡ Some j
-    → Each (IsListed nets) (joint_start keep p x) (joint_cells keep p x j)
-joint_listed keep nets p x j is =
-    each_both (IsListed nets) (joint_start keep p x) (way_cells keep p x j Request j.asking) (way_cells keep p x j Answer j.serving)
-    (way_listed nets (keep x Request) _ _ _) (way_listed nets (keep x Answer) _ _ _)
+joint_listed : (lay : Laying) (nets : List ℕ) (p : Plan) (x : ℕ) (j : Joint) → slice_get p.joints x ≡ Some j
+    → Each (IsListed nets) (joint_start lay p x) (joint_cells lay p x j)
+joint_listed lay nets p x j is =
+    each_both (IsListed nets) (joint_start lay p x) (way_cells lay p x j Request j.asking) (way_cells lay p x j Answer j.serving)
+    (way_listed nets (lay.keep x Request) _ _ _) (way_listed nets (lay.keep x Answer) _ _ _)
 
 loose_listed : (nets : List ℕ) (p : Plan) (b n : ℕ) (e : End) → Each (IsListed nets) b (loose_cells p n e)
 loose_listed nets p b n e =
@@ -237,21 +237,21 @@ gates_listed nets b (d ∷ cells) none (suc k) c is input =
     let e : b + 1 + k ≡ b + suc k = omega arith in
     subst (λ (n : ℕ). Contains nets n) e (gates_listed nets (b + 1) cells none.1 k c is input)
 
-all_listed : (keep : Keep) (p : Plan) → IsSound p → (root : List ℕ) → Each (IsListed (all_inputs (ports_laid p root))) 0 (cells_of keep p)
-all_listed keep p sound root =
+all_listed : (lay : Laying) (p : Plan) → IsSound lay p → (root : List ℕ) → Each (IsListed (all_inputs (ports_laid p root))) 0 (cells_of lay p)
+all_listed lay p sound root =
     let nets : List ℕ = all_inputs (ports_laid p root) in
-    each_laid keep (IsListed nets) p (port_listed keep p sound root) (joint_listed keep nets p) (loose_listed nets p)
+    each_laid lay (IsListed nets) p (port_listed lay p sound root) (joint_listed lay nets p) (loose_listed nets p)
     (λ i k is.
-    gates_listed nets (part_start keep p i) (part_cells keep p i k)
-    ((sound.gates i k is).inner (part_start keep p i) (incoming keep p i)))
+    gates_listed nets (part_start lay p i) (part_cells lay p i k)
+    ((sound.gates i k is).inner (part_start lay p i) (incoming lay p i)))
 
-pub ports_fit : (keep : Keep) (p : Plan) → IsSound p → (root : List ℕ) → AreDifferent (root ∷ map (λ (x : Imported). x.name) p.imports)
-    → PortsFit (cells_of keep p) (ports_laid p root)
-ports_fit keep p sound root different =
+pub ports_fit : (lay : Laying) (p : Plan) → IsSound lay p → (root : List ℕ) → AreDifferent (root ∷ map (λ (x : Imported). x.name) p.imports)
+    → PortsFit (cells_of lay p) (ports_laid p root)
+ports_fit lay p sound root different =
     record {
       some = omega arith;
-      each = right_port keep p sound root different;
+      each = right_port lay p sound root different;
       inputs =
           λ n (c, at, input, loose).
-          loose (subst (λ (m : ℕ). Contains (all_inputs (ports_laid p root)) m) (zero-add n) (all_listed keep p sound root n c at input));
+          loose (subst (λ (m : ℕ). Contains (all_inputs (ports_laid p root)) m) (zero-add n) (all_listed lay p sound root n c at input));
     }

@@ -15,7 +15,8 @@ use Rattle.gos_macro.proofs.causal.FiringLemmas.{pulsed-append, same_in_order, n
 use Rattle.gos_plan.specs.Firings.{times}
 use Rattle.gos_plan.specs.Made.{PartFiring, fires_of}
 use Rattle.gos_plan.specs.Projection.{firings_of}
-use Rattle.gos_expand.specs.Gates.{late_of}
+use Rattle.gos_expand.specs.Starts.{Laying}
+use Rattle.gos_expand.specs.Gates.{Making, late_of}
 use Rattle.gos_expand.specs.Facts.{Places, incoming_at, order_at}
 use Rattle.gos_expand.proofs.TallyLemmas.{Each, times-append, firings-append, each_once, pulse_there, shake_in}
 
@@ -33,25 +34,25 @@ chosen_from these i [] = []
 chosen_from these i (k ∷ ks) = tagged i (slots_of (these i k) 0 (part_contacts k)) ++ chosen_from these (suc i) ks
 
 -- the early ones of a rank, and of lower ranks; and the late ones
-abbrev pub is_early : Part → ℕ → Bool
-is_early k h = not (is_among (late_of k) h)
+abbrev pub is_early : Making → Part → ℕ → Bool
+is_early m k h = not (is_among (late_of m k) h)
 
-abbrev pub at_rank : (End → ℕ) → ℕ → Choice
-at_rank rank r i k h = is_early k h && nat_eq (rank (PartEnd i h)) r
+abbrev pub at_rank : Laying → (End → ℕ) → ℕ → Choice
+at_rank lay rank r i k h = is_early (lay.making i) k h && nat_eq (rank (PartEnd i h)) r
 
-abbrev pub below_rank : (End → ℕ) → ℕ → Choice
-below_rank rank r i k h = is_early k h && nat_lt (rank (PartEnd i h)) r
+abbrev pub below_rank : Laying → (End → ℕ) → ℕ → Choice
+below_rank lay rank r i k h = is_early (lay.making i) k h && nat_lt (rank (PartEnd i h)) r
 
-abbrev pub are_late : Choice
-are_late i k h = is_among (late_of k) h
+abbrev pub are_late : Laying → Choice
+are_late lay i k h = is_among (late_of (lay.making i) k) h
 
 -- the early ones of ranks below r, in the order of ranks
-abbrev pub early_below : Plan → (End → ℕ) → ℕ → List PartFiring
-early_below p rank zero = []
-early_below p rank (suc r) = early_below p rank r ++ chosen_from (at_rank rank r) 0 p.parts
+abbrev pub early_below : Laying → Plan → (End → ℕ) → ℕ → List PartFiring
+early_below lay p rank zero = []
+early_below lay p rank (suc r) = early_below lay p rank r ++ chosen_from (at_rank lay rank r) 0 p.parts
 
-abbrev pub late_ones : Plan → List PartFiring
-late_ones p = chosen_from are_late 0 p.parts
+abbrev pub late_ones : Laying → Plan → List PartFiring
+late_ones lay p = chosen_from (are_late lay) 0 p.parts
 
 -- a number above the ranks of all ends of parts
 abbrev pub top_of : (ℕ → ℕ) → ℕ → List Contact → ℕ
@@ -71,11 +72,11 @@ with_pulse p n v [] = []
 with_pulse p n v (f ∷ fs) =
     if nat_eq (pulse_in v (incoming_at p n f.part) (shake_of f.takes)) 1 then f ∷ with_pulse p n v fs else with_pulse p n v fs
 
-abbrev pub early_made : Plan → Places → (End → ℕ) → Numbers → ℕ → List PartFiring
-early_made p n rank v r = with_pulse p n v (early_below p rank r)
+abbrev pub early_made : Laying → Plan → Places → (End → ℕ) → Numbers → ℕ → List PartFiring
+early_made lay p n rank v r = with_pulse p n v (early_below lay p rank r)
 
-abbrev pub made_firings : Plan → Places → (End → ℕ) → Numbers → List PartFiring
-made_firings p n rank v = early_made p n rank v (top p rank) ++ with_pulse p n v (late_ones p)
+abbrev pub made_firings : Laying → Plan → Places → (End → ℕ) → Numbers → List PartFiring
+made_firings lay p n rank v = early_made lay p n rank v (top p rank) ++ with_pulse p n v (late_ones lay p)
 
 pub fires-append : (xs ys : List PartFiring) → fires_of (xs ++ ys) ≡ fires_of xs ++ fires_of ys
 fires-append [] ys = refl
@@ -184,18 +185,18 @@ with_pulse-append p n v (x ∷ xs) ys = by_test (nat_eq (pulse_in v (incoming_at
     by_test false h = h
 
 -- the early firings of a part, of ranks below r, stand in this order
-pub early_listed : (p : Plan) (rank : End → ℕ) (r i : ℕ) (k : Part) → slice_get p.parts i ≡ Some k
-    → firings_of i (fires_of (early_below p rank r)) ≡ in_order (order_at rank i) r (is_early k) (part_contacts k)
-early_listed p rank zero i k is = refl
-early_listed p rank (suc r) i k is =
-    firings_joined i (early_below p rank r) (chosen_from (at_rank rank r) 0 p.parts)
-    ∙ (λ l. early_listed p rank r i k is l ++ firings_chosen p (at_rank rank r) i k is l)
+pub early_listed : (lay : Laying) → (p : Plan) (rank : End → ℕ) (r i : ℕ) (k : Part) → slice_get p.parts i ≡ Some k
+    → firings_of i (fires_of (early_below lay p rank r)) ≡ in_order (order_at rank i) r (is_early (lay.making i) k) (part_contacts k)
+early_listed lay p rank zero i k is = refl
+early_listed lay p rank (suc r) i k is =
+    firings_joined i (early_below lay p rank r) (chosen_from (at_rank lay rank r) 0 p.parts)
+    ∙ (λ l. early_listed lay p rank r i k is l ++ firings_chosen p (at_rank lay rank r) i k is l)
 
 -- so each slot stands there as often as by number
-pub early_times : (p : Plan) (rank : End → ℕ) (r i : ℕ) (k : Part) (s : Slot) → slice_get p.parts i ≡ Some k
-    → times s (firings_of i (fires_of (early_below p rank r))) ≡ times s (slots_of (below_rank rank r i k) 0 (part_contacts k))
-early_times p rank r i k s is =
-    ap (times s) (early_listed p rank r i k is) ∙ in_order_times (order_at rank i) r (is_early k) (part_contacts k) s
+pub early_times : (lay : Laying) → (p : Plan) (rank : End → ℕ) (r i : ℕ) (k : Part) (s : Slot) → slice_get p.parts i ≡ Some k
+    → times s (firings_of i (fires_of (early_below lay p rank r))) ≡ times s (slots_of (below_rank lay rank r i k) 0 (part_contacts k))
+early_times lay p rank r i k s is =
+    ap (times s) (early_listed lay p rank r i k is) ∙ in_order_times (order_at rank i) r (is_early (lay.making i) k) (part_contacts k) s
 
 -- all ranks are below the top
 top_within : (f : ℕ → ℕ) (h g m : ℕ) (cs : List Contact) → m ≡ h + g → g < length cs → f m < top_of f h cs
@@ -253,24 +254,24 @@ cut_order f rank these cs r (suc m) (suc t) is =
     behind false n a e = refl
 
 -- the slots of a part in all firings
-pub slots_made : (p : Plan) (n : Places) (rank : End → ℕ) (v : Numbers) (i : ℕ) (k : Part) → slice_get p.parts i ≡ Some k
-    → firings_of i (fires_of (made_firings p n rank v))
-    ≡ pulsed (pulse_in v (incoming_at p n i)) (firings_of i (fires_of (early_below p rank (top p rank))))
-    ++ pulsed (pulse_in v (incoming_at p n i)) (late_slots k (late_of k))
-slots_made p n rank v i k is =
-    firings_joined i (early_made p n rank v (top p rank)) (with_pulse p n v (late_ones p))
-    ∙ (λ l. firings_pulsed p n v i (early_below p rank (top p rank)) l ++ late l)
+pub slots_made : (lay : Laying) → (p : Plan) (n : Places) (rank : End → ℕ) (v : Numbers) (i : ℕ) (k : Part) → slice_get p.parts i ≡ Some k
+    → firings_of i (fires_of (made_firings lay p n rank v))
+    ≡ pulsed (pulse_in v (incoming_at p n i)) (firings_of i (fires_of (early_below lay p rank (top p rank))))
+    ++ pulsed (pulse_in v (incoming_at p n i)) (late_slots k (late_of (lay.making i) k))
+slots_made lay p n rank v i k is =
+    firings_joined i (early_made lay p n rank v (top p rank)) (with_pulse p n v (late_ones lay p))
+    ∙ (λ l. firings_pulsed p n v i (early_below lay p rank (top p rank)) l ++ late l)
   where
-    late : firings_of i (fires_of (with_pulse p n v (late_ones p))) ≡ pulsed (pulse_in v (incoming_at p n i)) (late_slots k (late_of k))
-    late = firings_pulsed p n v i (late_ones p) ∙ ap (pulsed (pulse_in v (incoming_at p n i))) (firings_chosen p are_late i k is)
+    late : firings_of i (fires_of (with_pulse p n v (late_ones lay p))) ≡ pulsed (pulse_in v (incoming_at p n i)) (late_slots k (late_of (lay.making i) k))
+    late = firings_pulsed p n v i (late_ones lay p) ∙ ap (pulsed (pulse_in v (incoming_at p n i))) (firings_chosen p (are_late lay) i k is)
 
 -- of which the early ones are exactly those that have a pulse
-pub exactly_early : (p : Plan) (rank : End → ℕ) (f : ℕ → ℕ) (i : ℕ) (k : Part) (s : Slot) → slice_get p.parts i ≡ Some k
+pub exactly_early : (lay : Laying) → (p : Plan) (rank : End → ℕ) (f : ℕ → ℕ) (i : ℕ) (k : Part) (s : Slot) → slice_get p.parts i ≡ Some k
     → ((g : ℕ) → g < length (part_contacts k) → f g ≤ 1)
-    → times s (pulsed f (firings_of i (fires_of (early_below p rank (top p rank))))) ≡ pulse_at f s (early_slots k (late_of k))
-exactly_early p rank f i k s is small =
-    ap (λ (l : List Slot). times s (pulsed f l)) (early_listed p rank (top p rank) i k is)
-    ∙ exactly_in_order f (order_at rank i) (top p rank) (is_early k) (part_contacts k) (λ h lt. below_top p rank i h k is lt) (λ h lt in_these. small h lt) s
+    → times s (pulsed f (firings_of i (fires_of (early_below lay p rank (top p rank))))) ≡ pulse_at f s (early_slots k (late_of (lay.making i) k))
+exactly_early lay p rank f i k s is small =
+    ap (λ (l : List Slot). times s (pulsed f l)) (early_listed lay p rank (top p rank) i k is)
+    ∙ exactly_in_order f (order_at rank i) (top p rank) (is_early (lay.making i) k) (part_contacts k) (λ h lt. below_top p rank i h k is lt) (λ h lt in_these. small h lt) s
 
 -- one slot stands once where its handshake is chosen
 all_pulsed : (ts : List Slot) → pulsed (λ h. 1) ts ≡ ts
@@ -290,24 +291,24 @@ pulsed_once f these h cs c there =
     ∙ (λ l. if nat_eq (f (shake_in c.role h l)) 1 then chosen_once these h cs c there l else 0)
 
 -- how often a slot stands among all firings: as its pulse says
-pub slot_count : (p : Plan) (n : Places) (rank : End → ℕ) (v : Numbers) (i h : ℕ) (k : Part) (c : Contact) → slice_get p.parts i ≡ Some k
+pub slot_count : (lay : Laying) → (p : Plan) (n : Places) (rank : End → ℕ) (v : Numbers) (i h : ℕ) (k : Part) (c : Contact) → slice_get p.parts i ≡ Some k
     → ((g : ℕ) → g < length (part_contacts k) → pulse_in v (incoming_at p n i) g ≤ 1) → slice_get (part_contacts k) h ≡ Some c
-    → times (slot_in c.role h) (firings_of i (fires_of (made_firings p n rank v))) ≡ pulse_in v (incoming_at p n i) h
-slot_count p n rank v i h k c is small there =
-    ap (times (slot_in c.role h)) (slots_made p n rank v i k is)
-    ∙ (times-append (slot_in c.role h) (pulsed pulse (firings_of i (fires_of (early_below p rank (top p rank))))) (pulsed pulse (late_slots k (late_of k)))
-    ∙ ((λ l. early l + late l) ∙ by_test (is_among (late_of k) h)))
+    → times (slot_in c.role h) (firings_of i (fires_of (made_firings lay p n rank v))) ≡ pulse_in v (incoming_at p n i) h
+slot_count lay p n rank v i h k c is small there =
+    ap (times (slot_in c.role h)) (slots_made lay p n rank v i k is)
+    ∙ (times-append (slot_in c.role h) (pulsed pulse (firings_of i (fires_of (early_below lay p rank (top p rank))))) (pulsed pulse (late_slots k (late_of (lay.making i) k)))
+    ∙ ((λ l. early l + late l) ∙ by_test (is_among (late_of (lay.making i) k) h)))
   where
     pulse : ℕ → ℕ
     pulse = pulse_in v (incoming_at p n i)
 
-    early : times (slot_in c.role h) (pulsed pulse (firings_of i (fires_of (early_below p rank (top p rank))))) ≡ (if not (is_among (late_of k) h) then pulse h else 0)
-    early = exactly_early p rank pulse i k (slot_in c.role h) is small ∙ pulse_there pulse (is_early k) 0 h h (part_contacts k) c (omega arith) there
+    early : times (slot_in c.role h) (pulsed pulse (firings_of i (fires_of (early_below lay p rank (top p rank))))) ≡ (if not (is_among (late_of (lay.making i) k) h) then pulse h else 0)
+    early = exactly_early lay p rank pulse i k (slot_in c.role h) is small ∙ pulse_there pulse (is_early (lay.making i) k) 0 h h (part_contacts k) c (omega arith) there
 
-    late : times (slot_in c.role h) (pulsed pulse (late_slots k (late_of k))) ≡ (if is_among (late_of k) h then pulse h else 0)
+    late : times (slot_in c.role h) (pulsed pulse (late_slots k (late_of (lay.making i) k))) ≡ (if is_among (late_of (lay.making i) k) h then pulse h else 0)
     late =
-        each_once pulse (is_among (late_of k)) 0 (part_contacts k) (slot_in c.role h) (λ g lt. small g (omega (arith, lt)))
-        ∙ pulse_there pulse (is_among (late_of k)) 0 h h (part_contacts k) c (omega arith) there
+        each_once pulse (is_among (late_of (lay.making i) k)) 0 (part_contacts k) (slot_in c.role h) (λ g lt. small g (omega (arith, lt)))
+        ∙ pulse_there pulse (is_among (late_of (lay.making i) k)) 0 h h (part_contacts k) c (omega arith) there
 
     by_test : (b : Bool) → (if not b then pulse h else 0) + (if b then pulse h else 0) ≡ pulse h
     by_test true = omega arith

@@ -11,8 +11,8 @@ use Rattle.gos_model.specs.Typing.{Imported}
 use Rattle.gos_plan.specs.Plans.{End, PartEnd, ImportEnd, ResultEnd, Joint, Plan, contacts_of_part, contacts_of_import, turned_if, contact_at, same_end, is_free, Fits, AreRight}
 use Rattle.gos_plan.proofs.JointLemmas.{same_itself, same_is}
 use Rattle.gos_expand.specs.Blocks.{blocks, nothing}
-use Rattle.gos_expand.specs.Starts.{Keep, ports_of, taken_ports, bits_taken, ends_at, port_ends, part_ends, loose_ends, loose_size, start_among, loose_start, loose_ends_start}
-use Rattle.gos_expand.specs.Laid.{Seat, seat_among, seat_of, loose_cells, laid_cells}
+use Rattle.gos_expand.specs.Starts.{Laying, ports_of, taken_ports, bits_taken, ends_at, port_ends, part_ends, loose_ends, loose_size, start_among, loose_start, loose_ends_start}
+use Rattle.gos_expand.specs.Laid.{Seat, seat_among, seat_of, loose_cells, circuit_cells}
 use Rattle.gos_expand.proofs.StandLemmas.{Each, StandAt, each_left, each_right, each_moved}
 use Rattle.gos_expand.proofs.GroupLemmas.{loose_length, loose_stand}
 
@@ -205,10 +205,10 @@ block_of p P n m (d ∷ ds) e h all =
     by_test false t further = further (later h t)
 
 -- what comes in at an end without a joint stands in its block
-pub loose_stands : (keep : Keep) (p : Plan) (e : End) (c : Contact) → contact_at p e ≡ Some c → seat_of p e ≡ None
-    → StandAt (laid_cells keep p) (loose_start keep p e) (nothing (bits_taken (contact_at p e)))
-loose_stands keep p e c is none =
+pub loose_stands : (lay : Laying) (p : Plan) (e : End) (c : Contact) → contact_at p e ≡ Some c → seat_of p e ≡ None
+    → StandAt (circuit_cells lay p) (loose_start lay p e) (nothing (bits_taken (contact_at p e)))
+loose_stands lay p e c is none =
     let free = free_without 0 p.joints e none in
     let ends : List End = port_ends (ports_of p) ++ part_ends 0 p.parts in
     let among = among_filter (λ d. is_free d p.joints) e ends free (among_all p e c is) in
-    block_of p (λ n d. slice_get (laid_cells keep p) n ≡ Some d) (loose_ends_start keep p) 0 (loose_ends p) e among (loose_stand keep p)
+    block_of p (λ n d. slice_get (circuit_cells lay p) n ≡ Some d) (loose_ends_start lay p) 0 (loose_ends p) e among (loose_stand lay p)

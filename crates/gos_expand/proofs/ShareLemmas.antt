@@ -15,7 +15,11 @@ use Rattle.gos_share.specs.Blocks.{block_cells, block_size, kept_net}
 use Rattle.gos_share.specs.Share.{row_cells, share_cells}
 use Rattle.gos_share.specs.laws.Row.{block_length}
 use Rattle.gos_share.proofs.ApartLemmas.{AreApart, row_apart}
-use Rattle.gos_expand.specs.Gates.{passing_of, part_size}
+use Rattle.gos_fast_share.specs.Thread.{Asker, Nobody, Caller0, Caller1, asker, one_if_asks, requests}
+use Rattle.gos_fast_share.specs.Fast as fast
+use Rattle.gos_fast_share.specs.inner.Sizes as sizes
+use Rattle.gos_fast_share.specs.laws.Named as named
+use Rattle.gos_expand.specs.Gates.{ForOrder, ForEach, passing_of, part_size}
 
 -- the blocks of these handshakes
 abbrev pub row_size : List Contact → ℕ
@@ -56,7 +60,7 @@ row_few (k ∷ ks) =
     let rest = row_few ks in
     omega (arith, one, rest)
 
-pub share_few : (t : Type') → part_size (Share t) ≤ 24 * (length (part_contacts (Share t)) + 1)
+pub share_few : (t : Type') → part_size ForEach (Share t) ≤ 24 * (length (part_contacts (Share t)) + 1)
 share_few t =
     let ks : List Contact = contacts_of t in
     let size = share_length ks 0 (record { pulse = λ h. 0; value = λ h. 0 }) in
@@ -65,6 +69,49 @@ share_few t =
     let source = length-map ks turned_contact in
     let callers = length-append ks ks in
     omega (arith, size, few, sides, source, callers)
+
+-- a request has a cell in the thread, and a handshake at most 7 besides
+
+asks_few : (a : Asker) → one_if_asks a ≤ 1
+asks_few Nobody = omega arith
+asks_few Caller0 = omega arith
+asks_few Caller1 = omega arith
+
+requests_few : (ks : List Contact) (order : List ℕ) → requests ks order ≤ length order
+requests_few ks [] = omega arith
+requests_few ks (e ∷ es) =
+    let one = asks_few (asker ks e) in
+    let rest = requests_few ks es in
+    omega (arith, one, rest)
+
+fast_block_few : (r : Role) (q a : ℕ) → fast.block_size r q a ≤ 7
+fast_block_few Serve zero zero = omega arith
+fast_block_few Serve zero (suc a) = omega arith
+fast_block_few Serve (suc q) zero = omega arith
+fast_block_few Serve (suc q) (suc a) = omega arith
+fast_block_few Ask zero zero = omega arith
+fast_block_few Ask zero (suc a) = omega arith
+fast_block_few Ask (suc q) zero = omega arith
+fast_block_few Ask (suc q) (suc a) = omega arith
+
+fast_row_few : (ks : List Contact) → sizes.blocks_size ks ≤ 7 * length ks
+fast_row_few [] = omega arith
+fast_row_few (k ∷ ks) =
+    let one = fast_block_few k.role k.ask_bits k.answer_bits in
+    let rest = fast_row_few ks in
+    omega (arith, one, rest)
+
+pub fast_few : (t : Type') (order : List ℕ) → length order ≡ length (part_contacts (Share t))
+    → part_size (ForOrder order) (Share t) ≤ 24 * (length (part_contacts (Share t)) + 1)
+fast_few t order whole =
+    let ks : List Contact = contacts_of t in
+    let size = named.fast_length 0 (record { pulse = λ h. 0; value = λ h. 0 }) ks order in
+    let asks = requests_few ks order in
+    let few = fast_row_few ks in
+    let sides = length-append (other_side ks) (ks ++ ks) in
+    let source = length-map ks turned_contact in
+    let callers = length-append ks ks in
+    omega (arith, size, asks, few, sides, source, callers, whole)
 
 -- a type has no more nodes than twice its handshakes
 pub size_few : (t : Type') → size t + 1 ≤ 2 * length (handshakes_of t)
@@ -90,11 +137,11 @@ thirds : (h count from to : ℕ) → count ≡ 3 * h → AreApart h from to → 
 thirds h count from to all (inl is) = inl (omega (arith, is, all))
 thirds h count from to all (inr is) = inr (omega (arith, is, all))
 
-pub share_may_pass : (k : Part) (t : Type') → k ≡ Share t → (count from to : ℕ) → count ≡ length (part_contacts k) → passing_of k from to ≡ true
+pub share_may_pass : (k : Part) (t : Type') → k ≡ Share t → (count from to : ℕ) → count ≡ length (part_contacts k) → passing_of ForEach k from to ≡ true
     → (3 * abs_diff from to ≡ count) ⊎ (3 * abs_diff from to ≡ 2 * count)
 share_may_pass k t is count from to all passes =
     let long = length-map (handshakes_of t) contact in
     let sides = share_shakes t in
     let here : count ≡ length (part_contacts (Share t)) = all ∙ ap (λ (p : Part). length (part_contacts p)) is in
-    let goes = sym (ap (λ (p : Part). passing_of p from to) is) ∙ passes in
+    let goes = sym (ap (λ (p : Part). passing_of ForEach p from to) is) ∙ passes in
     thirds (length (contacts_of t)) count from to (omega (arith, here, long, sides)) (row_apart (length (contacts_of t)) 0 (contacts_of t) from to goes)

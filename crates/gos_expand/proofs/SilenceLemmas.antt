@@ -16,7 +16,7 @@ use Rattle.gos_macro.specs.Fit.{GoesOut}
 use Rattle.gos_macro.specs.Law.{AreSilent, PulsesComeIn}
 use Rattle.gos_expand.specs.Gates.{layout, outs_of}
 use Rattle.gos_expand.specs.Blocks.{Nets}
-use Rattle.gos_expand.specs.Starts.{Keep, bits_taken}
+use Rattle.gos_expand.specs.Starts.{Laying, bits_taken}
 use Rattle.gos_expand.specs.Laid.{nets_out}
 use Rattle.gos_expand.specs.Facts.{Places, source, target, width, bits_put, incoming_at, CycleFacts, PlanFacts, PartFacts}
 use Rattle.gos_expand.proofs.TallyLemmas.{outgoing_at}
@@ -42,29 +42,29 @@ one_silent v (Bare p ∷ os) (suc h) o all is = one_silent v os h o all is
 one_silent v (Bearing p a ∷ os) (suc h) o all is = one_silent v os h o all.1 is
 
 -- what the registers of joints and of outputs hold
-pub record RegistersAreSilent (keep : Keep) (p : Plan) (n : Places) (regs : Numbers) : Type 0 where
+pub record RegistersAreSilent (lay : Laying) (p : Plan) (n : Places) (regs : Numbers) : Type 0 where
   pub joints :
-      (x : ℕ) (j : Joint) (way : Direction) → slice_get p.joints x ≡ Some j → keep x way ≡ true → 0 < width p j way
+      (x : ℕ) (j : Joint) (way : Direction) → slice_get p.joints x ≡ Some j → lay.keep x way ≡ true → 0 < width p j way
       → IsSilent regs (n.arrives (target j way))
   pub ports : (e : End) (c : Contact) → IsPortEnd e → contact_at p e ≡ Some c → 0 < bits_taken (Some c) → IsSilent regs (n.shows e)
 
 -- a cycle of which what parts take are pulses or none, and what the outside gives is silent
-module _ (keep : Keep) (p : Plan) (net : Netlist) (n : Places) (v regs after : Numbers) (right : IsRight p) (rank : End → ℕ) (parts : PartFacts p rank)
-    (plan : PlanFacts keep p n) (facts : CycleFacts keep p net n v regs after) (before : RegistersAreSilent keep p n regs)
+module _ (lay : Laying) (p : Plan) (net : Netlist) (n : Places) (v regs after : Numbers) (right : IsRight p) (rank : End → ℕ) (parts : PartFacts lay p rank)
+    (plan : PlanFacts lay p n) (facts : CycleFacts lay p net n v regs after) (before : RegistersAreSilent lay p n regs)
     (pulses : (i h : ℕ) (c : Contact) → contact_at p (PartEnd i h) ≡ Some c → at v (n.arrives (PartEnd i h)).pulse ≤ 1)
     (given : (e : End) (c : Contact) → IsPortEnd e → contact_at p e ≡ Some c → 0 < bits_put (Some c) → IsSilent v (n.leaves e)) where
   -- what leaves
   part_silent : (i h : ℕ) (k : Part) (c : Contact) → slice_get p.parts i ≡ Some k → contact_at p (PartEnd i h) ≡ Some c → 0 < bits_put (Some c)
       → IsSilent v (n.leaves (PartEnd i h))
   part_silent i h k c is there some =
-      subst (IsSilent v) (sym (plan.leaving i h k is ∙ ap nets_out out.1)) (by_out out.0 out.2 (one_silent v (outs_of k (n.start i)) h out.0 all out.1))
+      subst (IsSilent v) (sym (plan.leaving i h k is ∙ ap nets_out out.1)) (by_out out.0 out.2 (one_silent v (outs_of (lay.making i) k (n.start i)) h out.0 all out.1))
     where
       comes : Incoming
       comes = incoming_at p n i
 
-      out : (o : Outgoing) × (slice_get (outs_of k (n.start i)) h ≡ Some o) × GoesOut (n.start i) (layout k (n.start i) comes) c o
+      out : (o : Outgoing) × (slice_get (outs_of (lay.making i) k (n.start i)) h ≡ Some o) × GoesOut (n.start i) (layout (lay.making i) k (n.start i) comes) c o
       out =
-          outgoing_at (n.start i) h (layout k (n.start i) comes) (part_contacts k) (outs_of k (n.start i)) c
+          outgoing_at (n.start i) h (layout (lay.making i) k (n.start i) comes) (part_contacts k) (outs_of (lay.making i) k (n.start i)) c
           ((parts.gates i k is).fits.outgoing (n.start i) comes) (own_contact p i h k c is there)
 
       come_in : PulsesComeIn k v comes
@@ -73,10 +73,10 @@ module _ (keep : Keep) (p : Plan) (net : Netlist) (n : Places) (v regs after : N
           let here : contact_at p (PartEnd i g) ≡ Some own.0 = end_contact p i g k own.0 is own.1 in
           subst (λ (m : ℕ). m ≤ 1) (sym (pulse_shape p n v i g own.0 here)) (pulses i g own.0 here)
 
-      all : AreSilent v (outs_of k (n.start i))
+      all : AreSilent v (outs_of (lay.making i) k (n.start i))
       all = (parts.gates i k is).silent (n.start i) comes v regs after (facts.parts i k is) come_in
 
-      by_out : (o : Outgoing) → GoesOut (n.start i) (layout k (n.start i) comes) c o → GoesSilent v o → IsSilent v (nets_out (Some o))
+      by_out : (o : Outgoing) → GoesOut (n.start i) (layout (lay.making i) k (n.start i) comes) c o → GoesSilent v o → IsSilent v (nets_out (Some o))
       by_out (Bare q) goes silent = let none : bits_put (Some c) ≡ 0 = sym (bits_out_put c) ∙ goes.0 in absurd (omega (arith, none, some))
       by_out (Bearing q a) goes silent = silent
 
@@ -93,9 +93,9 @@ module _ (keep : Keep) (p : Plan) (net : Netlist) (n : Places) (v regs after : N
 
   -- what arrives
   target_silent : (x : ℕ) (j : Joint) (way : Direction) → slice_get p.joints x ≡ Some j → 0 < width p j way → IsSilent v (n.arrives (target j way))
-  target_silent x j way there some none = by_keep (keep x way) refl
+  target_silent x j way there some none = by_keep (lay.keep x way) refl
     where
-      by_keep : (b : Bool) → keep x way ≡ b → at v (n.arrives (target j way)).number ≡ 0
+      by_keep : (b : Bool) → lay.keep x way ≡ b → at v (n.arrives (target j way)).number ≡ 0
       by_keep true keeps =
           let delays = facts.joints x j way there keeps in
           delays.number some ∙ before.joints x j way there keeps some (sym delays.pulse ∙ none)
@@ -116,7 +116,7 @@ module _ (keep : Keep) (p : Plan) (net : Netlist) (n : Places) (v regs after : N
       by_place (Some a) place = by_joint (taking p e a c right there place)
 
   -- so the next registers are silent, and the outputs of this cycle are
-  pub registers_after : RegistersAreSilent keep p n after
+  pub registers_after : RegistersAreSilent lay p n after
   registers_after =
       record {
         joints = λ x j way there keeps some none.
@@ -133,8 +133,8 @@ module _ (keep : Keep) (p : Plan) (net : Netlist) (n : Places) (v regs after : N
       delays.number some ∙ before.ports e c port there some (sym delays.pulse ∙ none)
 
 -- registers that are all 0 are silent
-pub silent_at_reset : (keep : Keep) (p : Plan) (n : Places) (regs : Numbers) → ((m : ℕ) → at regs m ≡ 0) → RegistersAreSilent keep p n regs
-silent_at_reset keep p n regs zero_all =
+pub silent_at_reset : (lay : Laying) (p : Plan) (n : Places) (regs : Numbers) → ((m : ℕ) → at regs m ≡ 0) → RegistersAreSilent lay p n regs
+silent_at_reset lay p n regs zero_all =
     record {
       joints = λ x j way there keeps some none. zero_all (n.arrives (target j way)).number;
       ports = λ e c port there some none. zero_all (n.shows e).number;

@@ -13,8 +13,8 @@ use Rattle.gos_plan.specs.Kinds.{Contact, contacts_of, turned_contact}
 use Rattle.gos_plan.specs.Plans.{End, PartEnd, ImportEnd, ResultEnd, Plan, contact_at, contacts_of_import, turned_if}
 use Rattle.gos_plan.specs.Tokens.{IsPortEnd}
 use Rattle.gos_expand.specs.Blocks.{Nets, nets_on, total}
-use Rattle.gos_expand.specs.Starts.{Keep, port_start, bits_taken, shake_size}
-use Rattle.gos_expand.specs.Laid.{leaves, request_nets, answer_nets, laid_cells, taken, laid}
+use Rattle.gos_expand.specs.Starts.{Laying, port_start, bits_taken, shake_size}
+use Rattle.gos_expand.specs.Laid.{leaves, request_nets, answer_nets, circuit_cells, taken, circuit}
 use Rattle.gos_expand.specs.Facts.{bits_put, bits_in_at, bits_out_at}
 use Rattle.gos_expand.proofs.FlowLemmas.{IsSound}
 use Rattle.gos_expand.proofs.RegisterLemmas.{shows, turned_back, PortCells, shown_inputs}
@@ -67,37 +67,37 @@ no_number (Var w) h c done is = absurd done
 no_number (Pair a b) h c done is = absurd done
 no_number (Fun a b) h c done is = absurd done
 
-input_silent : (keep : Keep) (p : Plan) (root : List ℕ) (ins : Numbers) (e : End) (c : Contact) → IsSound p → AreSilent false (laid keep p root).ports ins
-    → IsPortEnd e → contact_at p e ≡ Some c → 0 < bits_put (Some c) → IsSilent ins (leaves keep p e)
-input_silent keep p root ins (PartEnd i h) c sound silent port there some = absurd port
-input_silent keep p root ins (ResultEnd h) c sound silent port there some =
+input_silent : (lay : Laying) (p : Plan) (root : List ℕ) (ins : Numbers) (e : End) (c : Contact) → IsSound lay p → AreSilent false (circuit lay p root).ports ins
+    → IsPortEnd e → contact_at p e ≡ Some c → 0 < bits_put (Some c) → IsSilent ins (leaves lay p e)
+input_silent lay p root ins (PartEnd i h) c sound silent port there some = absurd port
+input_silent lay p root ins (ResultEnd h) c sound silent port there some =
     let back = turned_back (slice_get (contacts_of p.outcome) h) c there in
-    let bits = (result_bits p sound h back.0 back.1).1 in
+    let bits = (result_bits lay p sound h back.0 back.1).1 in
     let zero_bits = no_number p.outcome h back.0 sound.done back.1 in
     let same : bits_in_at p (ResultEnd h) ≡ bits_put (Some c) = ap bits_put there in
     absurd (omega (arith, bits, zero_bits, same, some))
-input_silent keep p root ins (ImportEnd i h) c sound silent port there some =
+input_silent lay p root ins (ImportEnd i h) c sound silent port there some =
     let of_import = import_there p i h c there in
     let t : Imported = of_import.0 in
-    let bits = (import_bits p sound i h t c of_import.1 of_import.2).1 in
+    let bits = (import_bits lay p sound i h t c of_import.1 of_import.2).1 in
     let same : bits_in_at p (ImportEnd i h) ≡ bits_put (Some c) = ap bits_put there in
     let wide : 0 < c.answer_bits = omega (arith, bits, same, some) in
-    let nets : leaves keep p (ImportEnd i h) ≡ answer_nets (port_start p (suc i)) (contacts_of t.ty) h =
+    let nets : leaves lay p (ImportEnd i h) ≡ answer_nets (port_start p (suc i)) (contacts_of t.ty) h =
     ap (λ (f : Option Imported). answer_nets (port_start p (suc i)) (contacts_of_import f) h) of_import.1 in
     let here = import_silent p 0 p.imports ins i i t silent.1 (omega arith) of_import.1 in
     subst (IsSilent ins) (sym nets)
     (answer_silent t.name (port_start p (suc i)) h t.ty c ins (sound.grounds i t of_import.1) (sound.ground_widths i t of_import.1) here of_import.2 wide)
 
 -- so what goes into the circuit there is silent
-pub given_silent : (keep : Keep) (p : Plan) (root : List ℕ) (v regs ins : Numbers) → IsSound p → Settling (laid_cells keep p) regs ins v
-    → AreSilent false (laid keep p root).ports ins
-    → (e : End) (c : Contact) → IsPortEnd e → contact_at p e ≡ Some c → 0 < bits_put (Some c) → IsSilent v (leaves keep p e)
-given_silent keep p root v regs ins sound settles silent e c port there some none =
-    let cells : PortCells keep p e c = port_cells_at keep p sound e c port there in
+pub given_silent : (lay : Laying) (p : Plan) (root : List ℕ) (v regs ins : Numbers) → IsSound lay p → Settling (circuit_cells lay p) regs ins v
+    → AreSilent false (circuit lay p root).ports ins
+    → (e : End) (c : Contact) → IsPortEnd e → contact_at p e ≡ Some c → 0 < bits_put (Some c) → IsSilent v (leaves lay p e)
+given_silent lay p root v regs ins sound settles silent e c port there some none =
+    let cells : PortCells lay p e c = port_cells_at lay p sound e c port there in
     let w : ℕ = bits_put (Some c) in
     let shown = subst (λ (n : Nets). (at v n.pulse ≡ at ins n.pulse) × (0 < w → at v n.number ≡ at ins n.number)) (sym cells.leaves_is)
-    (shown_inputs (laid_cells keep p) v regs ins w cells.in_from settles cells.in_stands) in
-    shown.1 some ∙ input_silent keep p root ins e c sound silent port there some (sym shown.0 ∙ none)
+    (shown_inputs (circuit_cells lay p) v regs ins w cells.in_from settles cells.in_stands) in
+    shown.1 some ∙ input_silent lay p root ins e c sound silent port there some (sym shown.0 ∙ none)
 
 -- Outputs.
 
@@ -139,17 +139,17 @@ taken_silent p n (t ∷ is) v each =
     (each 0 n t (omega arith) refl, taken_silent p (suc n) is v (λ m j x e there. each (suc m) j x (omega (arith, e)) there))
 
 -- outputs are silent where they are at their ends
-pub ports_silent : (keep : Keep) (p : Plan) (root : List ℕ) (v : Numbers) → IsSound p
+pub ports_silent : (lay : Laying) (p : Plan) (root : List ℕ) (v : Numbers) → IsSound lay p
     → ((e : End) (c : Contact) → IsPortEnd e → contact_at p e ≡ Some c → 0 < bits_taken (Some c) → IsSilent v (shows p e))
-    → AreSilent true (laid keep p root).ports v
-ports_silent keep p root v sound each =
+    → AreSilent true (circuit lay p root).ports v
+ports_silent lay p root v sound each =
     (answers_silent (port_start p 0) p.outcome v sound.done sound.done_widths of_result, taken_silent p 0 p.imports v of_import)
   where
     of_result : (h : ℕ) (c : Contact) → slice_get (contacts_of p.outcome) h ≡ Some c → 0 < c.answer_bits
         → IsSilent v (answer_nets (port_start p 0) (contacts_of p.outcome) h)
     of_result h c is some =
         let there : contact_at p (ResultEnd h) ≡ Some (turned_contact c) = ap turned_if is in
-        let bits = (result_bits p sound h c is).0 in
+        let bits = (result_bits lay p sound h c is).0 in
         let same : bits_out_at p (ResultEnd h) ≡ bits_taken (Some (turned_contact c)) = ap bits_taken there in
         each (ResultEnd h) (turned_contact c) tt there (omega (arith, bits, same, some))
 
@@ -157,7 +157,7 @@ ports_silent keep p root v sound each =
         → IsSilent v (request_nets (port_start p (suc i)) (contacts_of t.ty) h)
     of_request i h t c here is some =
         let there : contact_at p (ImportEnd i h) ≡ Some c = subst (λ (f : Option Imported). slice_get (contacts_of_import f) h ≡ Some c) (sym here) is in
-        let bits = (import_bits p sound i h t c here is).0 in
+        let bits = (import_bits lay p sound i h t c here is).0 in
         let same : bits_out_at p (ImportEnd i h) ≡ bits_taken (Some c) = ap bits_taken there in
         let nets : shows p (ImportEnd i h) ≡ request_nets (port_start p (suc i)) (contacts_of t.ty) h =
         ap (λ (f : Option Imported). request_nets (port_start p (suc i)) (contacts_of_import f) h) here in

@@ -25,7 +25,7 @@ use Rattle.gos_macro.specs.Law.{Order, in_order, pulsed}
 use Rattle.gos_macro.specs.laws.Counting.{times-append, shake_in, times_pulsed}
 use Rattle.gos_macro.proofs.causal.FiringLemmas.{pulsed-append}
 use Rattle.gos_expand.specs.Gates.{late_of, passing_of}
-use Rattle.gos_expand.specs.Starts.{Keep}
+use Rattle.gos_expand.specs.Starts.{Laying}
 use Rattle.gos_expand.specs.Facts.{Places, source, target, incoming_at, PassesOn, Rises, order_at}
 use Rattle.gos_expand.proofs.TallyLemmas.{Split, fires_split, due-append}
 use Rattle.gos_expand.proofs.ChainLemmas.{Parted, orderly_parts}
@@ -145,28 +145,28 @@ unpulsed f s xs some = by_test (nat_eq (f (shake_of s)) 1) (subst (λ (n : ℕ).
     by_test false found = absurd (omega (arith, found))
 
 -- the firings of all ranks begin with those of ranks below r
-early_parts : (p : Plan) (rank : End → ℕ) (r m t : ℕ) → t ≡ m + r → (rest : List PartFiring) × (early_below p rank t ≡ early_below p rank r ++ rest)
-early_parts p rank r zero t is =
+early_parts : (lay : Laying) → (p : Plan) (rank : End → ℕ) (r m t : ℕ) → t ≡ m + r → (rest : List PartFiring) × (early_below lay p rank t ≡ early_below lay p rank r ++ rest)
+early_parts lay p rank r zero t is =
     let here : t ≡ r = omega (arith, is) in
-    ([], ap (early_below p rank) here ∙ sym (append-nil (early_below p rank r)))
-early_parts p rank r (suc m) zero is = absurd (omega (arith, is))
-early_parts p rank r (suc m) (suc t) is =
-    let before = early_parts p rank r m t (omega (arith, is)) in
-    let last = chosen_from (at_rank rank t) 0 p.parts in
-    (before.0 ++ last, ap (λ (l : List PartFiring). l ++ last) before.1 ∙ append_assoc (early_below p rank r) before.0 last)
+    ([], ap (early_below lay p rank) here ∙ sym (append-nil (early_below lay p rank r)))
+early_parts lay p rank r (suc m) zero is = absurd (omega (arith, is))
+early_parts lay p rank r (suc m) (suc t) is =
+    let before = early_parts lay p rank r m t (omega (arith, is)) in
+    let last = chosen_from (at_rank lay rank t) 0 p.parts in
+    (before.0 ++ last, ap (λ (l : List PartFiring). l ++ last) before.1 ∙ append_assoc (early_below lay p rank r) before.0 last)
 
 -- and so does the list of the cycle
-whole_parts : (p : Plan) (n : Places) (rank : End → ℕ) (v : Numbers) (r m : ℕ) → top p rank ≡ m + r
-    → (rest : List Element) × (listing p n v (made_firings p n rank v) ≡ listing p n v (early_made p n rank v r) ++ rest)
-whole_parts p n rank v r m is =
-    let parts = early_parts p rank r m (top p rank) is in
-    let late = with_pulse p n v (late_ones p) in
+whole_parts : (lay : Laying) → (p : Plan) (n : Places) (rank : End → ℕ) (v : Numbers) (r m : ℕ) → top p rank ≡ m + r
+    → (rest : List Element) × (listing p n v (made_firings lay p n rank v) ≡ listing p n v (early_made lay p n rank v r) ++ rest)
+whole_parts lay p n rank v r m is =
+    let parts = early_parts lay p rank r m (top p rank) is in
+    let late = with_pulse p n v (late_ones lay p) in
     let behind = with_pulse p n v parts.0 ++ late in
-    let early : early_made p n rank v (top p rank) ≡ early_made p n rank v r ++ with_pulse p n v parts.0 =
-    ap (with_pulse p n v) parts.1 ∙ with_pulse-append p n v (early_below p rank r) parts.0 in
-    let all : made_firings p n rank v ≡ early_made p n rank v r ++ behind =
-    ap (λ (l : List PartFiring). l ++ late) early ∙ append_assoc (early_made p n rank v r) (with_pulse p n v parts.0) late in
-    (fires_of behind, ap (listing p n v) all ∙ listing-append p n v (early_made p n rank v r) behind)
+    let early : early_made lay p n rank v (top p rank) ≡ early_made lay p n rank v r ++ with_pulse p n v parts.0 =
+    ap (with_pulse p n v) parts.1 ∙ with_pulse-append p n v (early_below lay p rank r) parts.0 in
+    let all : made_firings lay p n rank v ≡ early_made lay p n rank v r ++ behind =
+    ap (λ (l : List PartFiring). l ++ late) early ∙ append_assoc (early_made lay p n rank v r) (with_pulse p n v parts.0) late in
+    (fires_of behind, ap (listing p n v) all ∙ listing-append p n v (early_made lay p n rank v r) behind)
 
 -- the values that a part takes in the first of two lists
 takes_first : (p : Plan) (i : ℕ) (x : ℕ → ℕ) (xs ys : List Element) (s : Tokens) → TakesValues p i x (xs ++ ys) s → TakesValues p i x xs s
@@ -174,16 +174,16 @@ takes_first p i x [] ys s takes = tt
 takes_first p i x (y ∷ xs) ys s takes = (takes.0, λ t does. takes_first p i x xs ys t (takes.1 t does))
 
 -- what part i puts early at a handshake that leads to an end of rank r, it puts by firings of ranks below
-puts_below : (p : Plan) (n : Places) (rank : End → ℕ) (v : Numbers) (i h r : ℕ) (k : Part) (o u e : Asked) (q b c : State) (first lower : List Token)
+puts_below : (lay : Laying) → (p : Plan) (n : Places) (rank : End → ℕ) (v : Numbers) (i h r : ℕ) (k : Part) (o u e : Asked) (q b c : State) (first lower : List Token)
     → slice_get p.parts i ≡ Some k → r < top p rank
-    → ((s : Slot) (d : State) (w : Row) (a : ℕ) → Ranked (order_at rank i) r (is_early k) (length (part_contacts k)) s → firing k d s ≡ Some w → due h (w.puts a) ≡ 0)
-    → Fires k (value_in k v (incoming_at p n i)) o q (early_of p n rank v i k) u b first
-    → Fires k (value_in k v (incoming_at p n i)) o q (pulsed (pulse_in v (incoming_at p n i)) (in_order (order_at rank i) r (is_early k) (part_contacts k))) e c lower
+    → ((s : Slot) (d : State) (w : Row) (a : ℕ) → Ranked (order_at rank i) r (is_early (lay.making i) k) (length (part_contacts k)) s → firing k d s ≡ Some w → due h (w.puts a) ≡ 0)
+    → Fires k (value_in k v (incoming_at p n i)) o q (early_of lay p n rank v i k) u b first
+    → Fires k (value_in k v (incoming_at p n i)) o q (pulsed (pulse_in v (incoming_at p n i)) (in_order (order_at rank i) r (is_early (lay.making i) k) (part_contacts k))) e c lower
     → due h first ≡ due h lower
-puts_below p n rank v i h r k o u e q b c first lower is low none sooner by_then =
+puts_below lay p n rank v i h r k o u e q b c first lower is low none sooner by_then =
     let all = ap (due h) split.puts in
     let both = due-append h split.first split.second in
-    let nothing = none_put k x h split.mid split.state after u b split.second (λ s d w a listed. none s d w a (between_slot order r (top p rank - r) (is_early k) (part_contacts k) s (unpulsed pulse s (between order r (top p rank - r) (is_early k) (part_contacts k)) listed))) split.two in
+    let nothing = none_put k x h split.mid split.state after u b split.second (λ s d w a listed. none s d w a (between_slot order r (top p rank - r) (is_early (lay.making i) k) (part_contacts k) s (unpulsed pulse s (between order r (top p rank - r) (is_early (lay.making i) k) (part_contacts k)) listed))) split.two in
     let same_first : due h split.first ≡ due h lower = ap (due h) (fires_once k x o q before split.mid e split.state c split.first lower split.one by_then) in
     omega (arith, all, both, nothing, same_first)
   where
@@ -197,15 +197,15 @@ puts_below p n rank v i h r k o u e q b c first lower is low none sooner by_then
     order = order_at rank i
 
     before : List Slot
-    before = pulsed pulse (in_order order r (is_early k) (part_contacts k))
+    before = pulsed pulse (in_order order r (is_early (lay.making i) k) (part_contacts k))
 
     after : List Slot
-    after = pulsed pulse (between order r (top p rank - r) (is_early k) (part_contacts k))
+    after = pulsed pulse (between order r (top p rank - r) (is_early (lay.making i) k) (part_contacts k))
 
-    in_parts : early_of p n rank v i k ≡ before ++ after
+    in_parts : early_of lay p n rank v i k ≡ before ++ after
     in_parts =
-        ap (pulsed pulse) (order_parts order r (top p rank - r) (top p rank) (is_early k) (part_contacts k) (omega (arith, low)))
-        ∙ pulsed-append pulse (in_order order r (is_early k) (part_contacts k)) (between order r (top p rank - r) (is_early k) (part_contacts k))
+        ap (pulsed pulse) (order_parts order r (top p rank - r) (top p rank) (is_early (lay.making i) k) (part_contacts k) (omega (arith, low)))
+        ∙ pulsed-append pulse (in_order order r (is_early (lay.making i) k) (part_contacts k)) (between order r (top p rank - r) (is_early (lay.making i) k) (part_contacts k))
 
     split : Split k x before after o u q b first
     split =
@@ -213,19 +213,19 @@ puts_below p n rank v i h r k o u e q b c first lower is low none sooner by_then
         (subst (λ (l : List Slot). Fires k x o q l u b first) in_parts sooner)
 
 -- The source of a direction without registers whose other end is one of a part.
-pub single_ring : (keep : Keep) (p : Plan) (net : Netlist) (n : Places) (rank : End → ℕ) (v regs after : Numbers) (o : Open) (s : Tokens) (w : Whole p n rank v o s)
+pub single_ring : (lay : Laying) (p : Plan) (net : Netlist) (n : Places) (rank : End → ℕ) (v regs after : Numbers) (o : Open) (s : Tokens) (w : Whole lay p n rank v o s)
     (ts : List Token) (i h : ℕ) (k : Part) (x : ℕ) (j : Joint) (way : Direction) (d g : ℕ) (l : Part) (c : Contact)
-    → Rises keep p rank → Now keep p net n rank v regs after o s → slice_get p.joints x ≡ Some j → keep x way ≡ false
+    → Rises lay p rank → Now lay p net n rank v regs after o s → slice_get p.joints x ≡ Some j → lay.keep x way ≡ false
     → source j way ≡ PartEnd i h → slice_get p.parts i ≡ Some k → h < length (part_contacts k)
     → target j way ≡ PartEnd d g → slice_get p.parts d ≡ Some l → g < length (part_contacts l) → contact_at p (PartEnd d g) ≡ Some c → way_taken c.role ≡ way
-    → (step : PartStep p n rank v regs after o s w.state_then i k ts) → pending_at p n regs (PartEnd i h) + due h step.first ≤ 1
-single_ring keep p net n rank v regs after o s w ts i h k x j way d g l c rises now there straight from is out to other in_there contact is_way step =
+    → (step : PartStep lay p n rank v regs after o s w.state_then i k ts) → pending_at lay p n regs (PartEnd i h) + due h step.first ≤ 1
+single_ring lay p net n rank v regs after o s w ts i h k x j way d g l c rises now there straight from is out to other in_there contact is_way step =
     let adds = (law.2 x j way there).counts in
     let lies = held in
     let small = small_count (parted.between.in_place way j.asking) in
     let put : put_at law.0 (source j way) xs ≡ due h (law.0 i) = ap (λ (e : End). put_at law.0 e xs) from in
     let taken : taken_at way (target j way) xs ≡ 0 = none_taken in
-    let pending : pending_at p n regs (source j way) ≡ pending_at p n regs (PartEnd i h) = ap (pending_at p n regs) from in
+    let pending : pending_at lay p n regs (source j way) ≡ pending_at lay p n regs (PartEnd i h) = ap (pending_at lay p n regs) from in
     let shown : shown_at n regs (target j way) ≡ 0 = ap (shown_at n regs) to in
     let same_puts = so_far in
     omega (arith, adds, lies, small, put, taken, pending, shown, same_puts)
@@ -237,10 +237,10 @@ single_ring keep p net n rank v regs after o s w ts i h k x j way d g l c rises 
     low = below_top p rank d g l other in_there
 
     xs : List Element
-    xs = listing p n v (early_made p n rank v r)
+    xs = listing p n v (early_made lay p n rank v r)
 
-    parts : (rest : List Element) × (listing p n v (made_firings p n rank v) ≡ xs ++ rest)
-    parts = whole_parts p n rank v r (top p rank - r) (omega (arith, low))
+    parts : (rest : List Element) × (listing p n v (made_firings lay p n rank v) ≡ xs ++ rest)
+    parts = whole_parts lay p n rank v r (top p rank - r) (omega (arith, low))
 
     parted : Parted p xs parts.0 o w.open_then s w.state_then
     parted = orderly_parts p xs parts.0 o w.open_then s w.state_then (subst (λ (ys : List Element). OrderlyFrom p ys o s w.open_then w.state_then) parts.1 w.list)
@@ -252,14 +252,14 @@ single_ring keep p net n rank v regs after o s w ts i h k x j way d g l c rises 
         × ((y : ℕ) (a : Joint) (z : Direction) → slice_get p.joints y ≡ Some a → AddsUp (values p n v) puts xs s parted.between z a.asking (source a z) (target a z))
     law = filled p n v o parted.open_between s parted.between xs now.right now.led parted.one takes
 
-    held : count (s.in_place way j.asking) ≡ 0 + (pending_at p n regs (source j way) + shown_at n regs (target j way))
+    held : count (s.in_place way j.asking) ≡ 0 + (pending_at lay p n regs (source j way) + shown_at n regs (target j way))
     held =
         (now.standing.joints x j way there).counts
-        ∙ ap (λ (b : Bool). held_pulse b regs (n.arrives (target j way)) + (pending_at p n regs (source j way) + shown_at n regs (target j way))) straight
+        ∙ ap (λ (b : Bool). held_pulse b regs (n.arrives (target j way)) + (pending_at lay p n regs (source j way) + shown_at n regs (target j way))) straight
 
     none_taken : taken_at way (target j way) xs ≡ 0
     none_taken =
-        (λ m. taken_at (sym is_way m) (to m) xs) ∙ untaken_below p n rank v r d g l c other contact (not_below (is_early l g) r)
+        (λ m. taken_at (sym is_way m) (to m) xs) ∙ untaken_below lay p n rank v r d g l c other contact (not_below (is_early (lay.making d) l g) r)
       where
         not_below : (b : Bool) (m : ℕ) → (b && nat_lt m m) ≡ false
         not_below true m = grind arith
@@ -268,36 +268,36 @@ single_ring keep p net n rank v regs after o s w ts i h k x j way d g l c rises 
     pulse : ℕ → ℕ
     pulse = pulse_in v (incoming_at p n i)
 
-    listed : firings_of i xs ≡ pulsed pulse (in_order (order_at rank i) r (is_early k) (part_contacts k))
+    listed : firings_of i xs ≡ pulsed pulse (in_order (order_at rank i) r (is_early (lay.making i) k) (part_contacts k))
     listed =
-        firings_listed p n v i (early_made p n rank v r)
-        ∙ (firings_pulsed p n v i (early_below p rank r) ∙ ap (pulsed pulse) (early_listed p rank r i k is))
+        firings_listed p n v i (early_made lay p n rank v r)
+        ∙ (firings_pulsed p n v i (early_below lay p rank r) ∙ ap (pulsed pulse) (early_listed lay p rank r i k is))
 
     taken_values : values p n v i ≡ (λ f. value_in k v (incoming_at p n i) f)
     taken_values = λ m f. values_if (is m) v (incoming_at p n i) f
 
-    by_then : Fires k (value_in k v (incoming_at p n i)) (asked_by i o) (s.state i) (pulsed pulse (in_order (order_at rank i) r (is_early k) (part_contacts k)))
+    by_then : Fires k (value_in k v (incoming_at p n i)) (asked_by i o) (s.state i) (pulsed pulse (in_order (order_at rank i) r (is_early (lay.making i) k) (part_contacts k)))
         (asked_by i parted.open_between) (parted.between.state i) (law.0 i)
     by_then =
-        subst (λ (y : ℕ → ℕ). Fires k y (asked_by i o) (s.state i) (pulsed pulse (in_order (order_at rank i) r (is_early k) (part_contacts k))) (asked_by i parted.open_between) (parted.between.state i) (law.0 i)) taken_values
+        subst (λ (y : ℕ → ℕ). Fires k y (asked_by i o) (s.state i) (pulsed pulse (in_order (order_at rank i) r (is_early (lay.making i) k) (part_contacts k))) (asked_by i parted.open_between) (parted.between.state i) (law.0 i)) taken_values
         (subst (λ (q : List Slot). Fires k (values p n v i) (asked_by i o) (s.state i) q (asked_by i parted.open_between) (parted.between.state i) (law.0 i)) listed (law.1 i k is))
 
     so_far : due h step.first ≡ due h (law.0 i)
     so_far =
-        puts_below p n rank v i h r k (asked_by i o) step.between (asked_by i parted.open_between) (s.state i) step.state (parted.between.state i) step.first (law.0 i)
+        puts_below lay p n rank v i h r k (asked_by i o) step.between (asked_by i parted.open_between) (s.state i) step.state (parted.between.state i) step.first (law.0 i)
         is low none step.sooner by_then
       where
         early : (b : Bool) → not b ≡ true → b ≡ false
         early true e = absurd (cc e)
         early false e = refl
 
-        none : (t : Slot) (b : State) (z : Row) (a : ℕ) → Ranked (order_at rank i) r (is_early k) (length (part_contacts k)) t → firing k b t ≡ Some z → due h (z.puts a) ≡ 0
+        none : (t : Slot) (b : State) (z : Row) (a : ℕ) → Ranked (order_at rank i) r (is_early (lay.making i) k) (length (part_contacts k)) t → firing k b t ≡ Some z → due h (z.puts a) ≡ 0
         none t b z a ranked fires = by_due (due h (z.puts a)) refl
           where
             by_due : (m : ℕ) → due h (z.puts a) ≡ m → due h (z.puts a) ≡ 0
             by_due zero e = e
             by_due (suc m) e =
-                let passes = (now.part_facts.paths i k is).puts b t z a h fires ranked.within (early (is_among (late_of k) (shake_of t)) ranked.among) out (omega (arith, e)) in
+                let passes = (now.part_facts.paths i k is).puts b t z a h fires ranked.within (early (is_among (late_of (lay.making i) k) (shake_of t)) ranked.among) out (omega (arith, e)) in
                 let lower =
                 rises i (shake_of t) (PartEnd d g)
                 (record {

@@ -23,9 +23,9 @@ use Rattle.gos_plan.specs.Projection.{TakesValues}
 use Rattle.gos_plan.proofs.AccountLemmas.{parts_fill_places}
 use Rattle.gos_plan.proofs.JointLemmas.{IsIn, found, fits}
 use Rattle.gos_plan.proofs.BalanceLemmas.{IsOf, of_role}
-use Rattle.gos_expand.specs.Gates.{pending_of, stands_of}
+use Rattle.gos_expand.specs.Gates.{Making, pending_of, stands_of}
 use Rattle.gos_expand.specs.Blocks.{Nets}
-use Rattle.gos_expand.specs.Starts.{Keep, bits_if, bits_taken}
+use Rattle.gos_expand.specs.Starts.{Laying, bits_if, bits_taken}
 use Rattle.gos_expand.specs.Facts.{Places, source, target, width, bits_put, incoming_at, CycleFacts, PlanFacts, PartFacts}
 use Rattle.gos_plan.specs.Accounts.{count, number, AddsUp, PartsPut}
 use Rattle.gos_expand.proofs.ChainLemmas.{orderly-append}
@@ -47,17 +47,17 @@ pub carried_same : (v w : Numbers) (nets from : Nets) → at v nets.pulse ≡ at
 carried_same v w nets from pulse value = λ i. number_by_pulse (pulse i) (value i)
 
 -- the tokens that are pending at an end, and the sum of their numbers
-abbrev pub pending_if : Option Part → ℕ → Numbers → List Token
-pending_if None b regs = []
-pending_if (Some k) b regs = pending_of k b regs
+abbrev pub pending_if : Making → Option Part → ℕ → Numbers → List Token
+pending_if m None b regs = []
+pending_if m (Some k) b regs = pending_of m k b regs
 
-abbrev pub pending_at : Plan → Places → Numbers → End → ℕ
-pending_at p n regs (PartEnd i h) = due h (pending_if (slice_get p.parts i) (n.start i) regs)
-pending_at p n regs e = 0
+abbrev pub pending_at : Laying → Plan → Places → Numbers → End → ℕ
+pending_at lay p n regs (PartEnd i h) = due h (pending_if (lay.making i) (slice_get p.parts i) (n.start i) regs)
+pending_at lay p n regs e = 0
 
-abbrev pub pending_numbers : Plan → Places → Numbers → End → ℕ
-pending_numbers p n regs (PartEnd i h) = value_due h (pending_if (slice_get p.parts i) (n.start i) regs)
-pending_numbers p n regs e = 0
+abbrev pub pending_numbers : Laying → Plan → Places → Numbers → End → ℕ
+pending_numbers lay p n regs (PartEnd i h) = value_due h (pending_if (lay.making i) (slice_get p.parts i) (n.start i) regs)
+pending_numbers lay p n regs e = 0
 
 -- the token that the output of a port holds
 abbrev pub shown_at : Places → Numbers → End → ℕ
@@ -83,24 +83,24 @@ nothing_held true regs nets none = ap (λ (m : ℕ). number_by_pulse m (at regs 
 nothing_held false regs nets none = refl
 
 -- where what lies in a direction of joint x is
-pub record Lies (keep : Keep) (p : Plan) (n : Places) (regs : Numbers) (s : Tokens) (x : ℕ) (j : Joint) (way : Direction) : Type 0 where
+pub record Lies (lay : Laying) (p : Plan) (n : Places) (regs : Numbers) (s : Tokens) (x : ℕ) (j : Joint) (way : Direction) : Type 0 where
   pub counts :
       count (s.in_place way j.asking)
-      ≡ held_pulse (keep x way) regs (n.arrives (target j way)) + (pending_at p n regs (source j way) + shown_at n regs (target j way))
+      ≡ held_pulse (lay.keep x way) regs (n.arrives (target j way)) + (pending_at lay p n regs (source j way) + shown_at n regs (target j way))
   pub numbers :
       0 < width p j way
       → number (s.in_place way j.asking)
-      ≡ held_number (keep x way) regs (n.arrives (target j way)) + (pending_numbers p n regs (source j way) + shown_numbers n regs (target j way))
+      ≡ held_number (lay.keep x way) regs (n.arrives (target j way)) + (pending_numbers lay p n regs (source j way) + shown_numbers n regs (target j way))
   pub narrow :
-      keep x way ≡ true → 0 < width p j way → at regs (n.arrives (target j way)).pulse ≡ 0
+      lay.keep x way ≡ true → 0 < width p j way → at regs (n.arrives (target j way)).pulse ≡ 0
       → at regs (n.arrives (target j way)).number < 2 ^ width p j way
 
 -- registers and tokens at the beginning of a cycle
-pub record Standing (keep : Keep) (p : Plan) (n : Places) (regs : Numbers) (s : Tokens) : Type 0 where
+pub record Standing (lay : Laying) (p : Plan) (n : Places) (regs : Numbers) (s : Tokens) : Type 0 where
   pub welcome : AllWelcome p s
   pub fit : AllFit p s
-  pub parts : (i : ℕ) (k : Part) → slice_get p.parts i ≡ Some k → stands_of k (n.start i) regs (s.state i)
-  pub joints : (x : ℕ) (j : Joint) (way : Direction) → slice_get p.joints x ≡ Some j → Lies keep p n regs s x j way
+  pub parts : (i : ℕ) (k : Part) → slice_get p.parts i ≡ Some k → stands_of (lay.making i) k (n.start i) regs (s.state i)
+  pub joints : (x : ℕ) (j : Joint) (way : Direction) → slice_get p.joints x ≡ Some j → Lies lay p n regs s x j way
   pub loose : (e : End) (c : Contact) → IsPortEnd e → contact_at p e ≡ Some c → places_of p e ≡ None → at regs (n.shows e).pulse ≡ 0
 
 -- an orderly list leads from an idle state to this one
@@ -120,13 +120,13 @@ led_on p xs o u s t led more =
     }
 
 -- all that is known of a cycle at its beginning
-pub record Now (keep : Keep) (p : Plan) (net : Netlist) (n : Places) (rank : End → ℕ) (v regs after : Numbers) (o : Open) (s : Tokens) : Type 0 where
+pub record Now (lay : Laying) (p : Plan) (net : Netlist) (n : Places) (rank : End → ℕ) (v regs after : Numbers) (o : Open) (s : Tokens) : Type 0 where
   pub right : IsRight p
-  pub part_facts : PartFacts p rank
-  pub plan_facts : PlanFacts keep p n
-  pub facts : CycleFacts keep p net n v regs after
+  pub part_facts : PartFacts lay p rank
+  pub plan_facts : PlanFacts lay p n
+  pub facts : CycleFacts lay p net n v regs after
   pub led : Led p o s
-  pub standing : Standing keep p n regs s
+  pub standing : Standing lay p n regs s
 
 -- the values that come in at a part
 abbrev pub values_if : Option Part → Numbers → Incoming → ℕ → ℕ

@@ -18,7 +18,7 @@ use Rattle.gos_plan.specs.Accounts.{count, outs_at, outs_sum, put_at, sum_put, t
 use Rattle.gos_plan.proofs.JointLemmas.{fits}
 use Rattle.gos_expand.specs.Gates.{outs_of, pending_of}
 use Rattle.gos_expand.specs.Blocks.{Nets}
-use Rattle.gos_expand.specs.Starts.{Keep, bits_taken}
+use Rattle.gos_expand.specs.Starts.{Laying, bits_taken}
 use Rattle.gos_expand.specs.Facts.{Places, Delays, source, target, width, bits_put, bits_out_at, Rises}
 use Rattle.gos_expand.proofs.TallyLemmas.{due-append, value_due-append}
 use Rattle.gos_expand.proofs.StandingLemmas.{pending_if, pending_at, pending_numbers, shown_at, shown_numbers, held_pulse, held_number, number_by_pulse, carried, carried_same, Lies, Now, values, is_in_at, small_count}
@@ -34,29 +34,29 @@ use Rattle.gos_expand.proofs.SingleLemmas.{single_ring}
 use Rattle.gos_expand.proofs.RankLemmas.{Whole}
 
 -- the list of the cycle with all its firings
-abbrev pub whole_list : Plan → Places → (End → ℕ) → Numbers → List Element
-whole_list p n rank v = listing p n v (made_firings p n rank v)
+abbrev pub whole_list : Laying → Plan → Places → (End → ℕ) → Numbers → List Element
+whole_list lay p n rank v = listing p n v (made_firings lay p n rank v)
 
 -- at an end of these bits: what leaves it, and what is pending there then
-pub record Sent (p : Plan) (n : Places) (rank : End → ℕ) (v regs after : Numbers) (puts : ℕ → List Token) (e : End) (w : ℕ) : Type 0 where
-  pub pulse : at v (n.leaves e).pulse + pending_at p n after e ≡ pending_at p n regs e + put_at puts e (whole_list p n rank v)
-  pub number : 0 < w → carried v (n.leaves e) + pending_numbers p n after e ≡ pending_numbers p n regs e + sum_put puts e (whole_list p n rank v)
+pub record Sent (lay : Laying) (p : Plan) (n : Places) (rank : End → ℕ) (v regs after : Numbers) (puts : ℕ → List Token) (e : End) (w : ℕ) : Type 0 where
+  pub pulse : at v (n.leaves e).pulse + pending_at lay p n after e ≡ pending_at lay p n regs e + put_at puts e (whole_list lay p n rank v)
+  pub number : 0 < w → carried v (n.leaves e) + pending_numbers lay p n after e ≡ pending_numbers lay p n regs e + sum_put puts e (whole_list lay p n rank v)
   pub narrow : 0 < w → at v (n.leaves e).pulse ≡ 0 → at v (n.leaves e).number < 2 ^ w
-  pub goes : pending_at p n regs e ≤ at v (n.leaves e).pulse
+  pub goes : pending_at lay p n regs e ≤ at v (n.leaves e).pulse
 
 -- what is taken there, and what an output holds then
-pub record Got (p : Plan) (n : Places) (rank : End → ℕ) (v regs after : Numbers) (way : Direction) (e : End) (w : ℕ) : Type 0 where
-  pub pulse : taken_at way e (whole_list p n rank v) + shown_at n after e ≡ at v (n.arrives e).pulse + shown_at n regs e
+pub record Got (lay : Laying) (p : Plan) (n : Places) (rank : End → ℕ) (v regs after : Numbers) (way : Direction) (e : End) (w : ℕ) : Type 0 where
+  pub pulse : taken_at way e (whole_list lay p n rank v) + shown_at n after e ≡ at v (n.arrives e).pulse + shown_at n regs e
   pub number :
       0 < w
-      → sum_taken (values p n v) way e (whole_list p n rank v) + shown_numbers n after e ≡ carried v (n.arrives e) + shown_numbers n regs e
+      → sum_taken (values p n v) way e (whole_list lay p n rank v) + shown_numbers n after e ≡ carried v (n.arrives e) + shown_numbers n regs e
 
-sent_by_part : (keep : Keep) (p : Plan) (net : Netlist) (n : Places) (rank : End → ℕ) (v regs after : Numbers) (o : Open) (s : Tokens) (w : Whole p n rank v o s)
+sent_by_part : (lay : Laying) (p : Plan) (net : Netlist) (n : Places) (rank : End → ℕ) (v regs after : Numbers) (o : Open) (s : Tokens) (w : Whole lay p n rank v o s)
     (puts : ℕ → List Token) (i h : ℕ) (k : Part) (c : Contact)
-    → Now keep p net n rank v regs after o s → PartsPut p (values p n v) puts (whole_list p n rank v) o s w.open_then w.state_then → slice_get p.parts i ≡ Some k
-    → contact_at p (PartEnd i h) ≡ Some c → ((step : PartStep p n rank v regs after o s w.state_then i k (puts i)) → pending_at p n regs (PartEnd i h) + due h step.first ≤ 1)
-    → Sent p n rank v regs after puts (PartEnd i h) (bits_put (Some c))
-sent_by_part keep p net n rank v regs after o s w puts i h k c now fires is there one =
+    → Now lay p net n rank v regs after o s → PartsPut p (values p n v) puts (whole_list lay p n rank v) o s w.open_then w.state_then → slice_get p.parts i ≡ Some k
+    → contact_at p (PartEnd i h) ≡ Some c → ((step : PartStep lay p n rank v regs after o s w.state_then i k (puts i)) → pending_at lay p n regs (PartEnd i h) + due h step.first ≤ 1)
+    → Sent lay p n rank v regs after puts (PartEnd i h) (bits_put (Some c))
+sent_by_part lay p net n rank v regs after o s w puts i h k c now fires is there one =
     let pulse : at v (n.leaves (PartEnd i h)).pulse ≡ due h all = nets.0 in
     let split : due h all ≡ due h pending + due h step.first = due-append h pending step.first in
     let sums : value_due h all ≡ value_due h pending + value_due h step.first = value_due-append h pending step.first in
@@ -81,17 +81,17 @@ sent_by_part keep p net n rank v regs after o s w puts i h k c now fires is ther
     b : ℕ
     b = n.start i
 
-    step : PartStep p n rank v regs after o s w.state_then i k (puts i)
-    step = part_step keep p net n rank v regs after o s w puts i k now fires is
+    step : PartStep lay p n rank v regs after o s w.state_then i k (puts i)
+    step = part_step lay p net n rank v regs after o s w puts i k now fires is
 
     pending : List Token
-    pending = pending_of k b regs
+    pending = pending_of (lay.making i) k b regs
 
     all : List Token
     all = pending ++ step.first
 
-    held_then : pending_at p n regs (PartEnd i h) ≡ due h pending
-    held_then = ap (λ (f : Option Part). due h (pending_if f b regs)) is
+    held_then : pending_at lay p n regs (PartEnd i h) ≡ due h pending
+    held_then = ap (λ (f : Option Part). due h (pending_if (lay.making i) f b regs)) is
 
     alone : due h all ≤ 1
     alone =
@@ -102,72 +102,72 @@ sent_by_part keep p net n rank v regs after o s w puts i h k c now fires is ther
 
     nets : (at v (n.leaves (PartEnd i h)).pulse ≡ due h all) × (0 < bits_put (Some c) → at v (n.leaves (PartEnd i h)).number ≡ value_due h all)
     nets =
-        leaving_shows keep p n rank v i h k c all now.plan_facts (now.part_facts.gates i k is) is there
+        leaving_shows lay p n rank v i h k c all now.plan_facts (now.part_facts.gates i k is) is there
         (λ y out. step.shows h y out alone)
 
-    held_next : pending_at p n after (PartEnd i h) ≡ due h (pending_of k b after)
-    held_next = ap (λ (f : Option Part). due h (pending_if f b after)) is
+    held_next : pending_at lay p n after (PartEnd i h) ≡ due h (pending_of (lay.making i) k b after)
+    held_next = ap (λ (f : Option Part). due h (pending_if (lay.making i) f b after)) is
 
-    held_sum : pending_numbers p n regs (PartEnd i h) ≡ value_due h pending
-    held_sum = ap (λ (f : Option Part). value_due h (pending_if f b regs)) is
+    held_sum : pending_numbers lay p n regs (PartEnd i h) ≡ value_due h pending
+    held_sum = ap (λ (f : Option Part). value_due h (pending_if (lay.making i) f b regs)) is
 
-    next_sum : pending_numbers p n after (PartEnd i h) ≡ value_due h (pending_of k b after)
-    next_sum = ap (λ (f : Option Part). value_due h (pending_if f b after)) is
+    next_sum : pending_numbers lay p n after (PartEnd i h) ≡ value_due h (pending_of (lay.making i) k b after)
+    next_sum = ap (λ (f : Option Part). value_due h (pending_if (lay.making i) f b after)) is
 
-sent_by_port : (keep : Keep) (p : Plan) (net : Netlist) (n : Places) (rank : End → ℕ) (v regs after : Numbers) (o : Open) (s : Tokens) (puts : ℕ → List Token) (e : End) (c : Contact)
-    → Now keep p net n rank v regs after o s → IsPortEnd e → contact_at p e ≡ Some c → Sent p n rank v regs after puts e (bits_put (Some c))
-sent_by_port keep p net n rank v regs after o s puts e c now port there =
-    let shown : Shown p n v regs puts (whole_list p n rank v) e (bits_put (Some c)) =
-    shown_by_port keep p net n rank v regs after o s puts (made_firings p n rank v) e c now port there in
+sent_by_port : (lay : Laying) (p : Plan) (net : Netlist) (n : Places) (rank : End → ℕ) (v regs after : Numbers) (o : Open) (s : Tokens) (puts : ℕ → List Token) (e : End) (c : Contact)
+    → Now lay p net n rank v regs after o s → IsPortEnd e → contact_at p e ≡ Some c → Sent lay p n rank v regs after puts e (bits_put (Some c))
+sent_by_port lay p net n rank v regs after o s puts e c now port there =
+    let shown : Shown lay p n v regs puts (whole_list lay p n rank v) e (bits_put (Some c)) =
+    shown_by_port lay p net n rank v regs after o s puts (made_firings lay p n rank v) e c now port there in
     record {
-      pulse = let a = (nothing_at_port p n after e port).0 in let b = shown.pulse in omega (arith, a, b);
-      number = λ some. let a = (nothing_at_port p n after e port).1 in let b = shown.number some in omega (arith, a, b);
+      pulse = let a = (nothing_at_port lay p n after e port).0 in let b = shown.pulse in omega (arith, a, b);
+      number = λ some. let a = (nothing_at_port lay p n after e port).1 in let b = shown.number some in omega (arith, a, b);
       narrow = shown.narrow;
-      goes = let d = (nothing_at_port p n regs e port).0 in omega (arith, d);
+      goes = let d = (nothing_at_port lay p n regs e port).0 in omega (arith, d);
     }
 
 -- what is pending at an end and what its part puts there early is together one token at most
-abbrev pub OneDue : (p : Plan) (n : Places) (rank : End → ℕ) (v regs after : Numbers) (o : Open) (s t : Tokens) (puts : ℕ → List Token) (e : End) → Type 0
-OneDue p n rank v regs after o s t puts e =
+abbrev pub OneDue : Laying → (p : Plan) (n : Places) (rank : End → ℕ) (v regs after : Numbers) (o : Open) (s t : Tokens) (puts : ℕ → List Token) (e : End) → Type 0
+OneDue lay p n rank v regs after o s t puts e =
     (i h : ℕ) (k : Part) → e ≡ PartEnd i h → slice_get p.parts i ≡ Some k → h < length (part_contacts k)
-    → (step : PartStep p n rank v regs after o s t i k (puts i)) → pending_at p n regs (PartEnd i h) + due h step.first ≤ 1
+    → (step : PartStep lay p n rank v regs after o s t i k (puts i)) → pending_at lay p n regs (PartEnd i h) + due h step.first ≤ 1
 
-sent : (keep : Keep) (p : Plan) (net : Netlist) (n : Places) (rank : End → ℕ) (v regs after : Numbers) (o : Open) (s : Tokens) (w : Whole p n rank v o s)
+sent : (lay : Laying) (p : Plan) (net : Netlist) (n : Places) (rank : End → ℕ) (v regs after : Numbers) (o : Open) (s : Tokens) (w : Whole lay p n rank v o s)
     (puts : ℕ → List Token) (e : End) (c : Contact)
-    → Now keep p net n rank v regs after o s → PartsPut p (values p n v) puts (whole_list p n rank v) o s w.open_then w.state_then → contact_at p e ≡ Some c
-    → OneDue p n rank v regs after o s w.state_then puts e → Sent p n rank v regs after puts e (bits_put (Some c))
-sent keep p net n rank v regs after o s w puts (PartEnd i h) c now fires there one =
+    → Now lay p net n rank v regs after o s → PartsPut p (values p n v) puts (whole_list lay p n rank v) o s w.open_then w.state_then → contact_at p e ≡ Some c
+    → OneDue lay p n rank v regs after o s w.state_then puts e → Sent lay p n rank v regs after puts e (bits_put (Some c))
+sent lay p net n rank v regs after o s w puts (PartEnd i h) c now fires there one =
     let k = part_there p i h c there in
-    sent_by_part keep p net n rank v regs after o s w puts i h k.0 c now fires k.1 there
+    sent_by_part lay p net n rank v regs after o s w puts i h k.0 c now fires k.1 there
     (one i h k.0 refl k.1 (slice_get_within (part_contacts k.0) h c (own_contact p i h k.0 c k.1 there)))
-sent keep p net n rank v regs after o s w puts (ImportEnd i h) c now fires there one =
-    sent_by_port keep p net n rank v regs after o s puts (ImportEnd i h) c now tt there
-sent keep p net n rank v regs after o s w puts (ResultEnd h) c now fires there one =
-    sent_by_port keep p net n rank v regs after o s puts (ResultEnd h) c now tt there
+sent lay p net n rank v regs after o s w puts (ImportEnd i h) c now fires there one =
+    sent_by_port lay p net n rank v regs after o s puts (ImportEnd i h) c now tt there
+sent lay p net n rank v regs after o s w puts (ResultEnd h) c now fires there one =
+    sent_by_port lay p net n rank v regs after o s puts (ResultEnd h) c now tt there
 
 -- what leaves the end at which the tokens of a direction are put
-sent_from : (keep : Keep) (p : Plan) (net : Netlist) (n : Places) (rank : End → ℕ) (v regs after : Numbers) (o : Open) (s : Tokens) (w : Whole p n rank v o s)
+sent_from : (lay : Laying) (p : Plan) (net : Netlist) (n : Places) (rank : End → ℕ) (v regs after : Numbers) (o : Open) (s : Tokens) (w : Whole lay p n rank v o s)
     (puts : ℕ → List Token) (x : ℕ) (j : Joint) (way : Direction)
-    → Now keep p net n rank v regs after o s → PartsPut p (values p n v) puts (whole_list p n rank v) o s w.open_then w.state_then → slice_get p.joints x ≡ Some j
-    → OneDue p n rank v regs after o s w.state_then puts (source j way) → Sent p n rank v regs after puts (source j way) (width p j way)
-sent_from keep p net n rank v regs after o s w puts x j way now fires there one =
-    subst (λ (b : ℕ). Sent p n rank v regs after puts (source j way) b) ends.from_bits
-    (sent keep p net n rank v regs after o s w puts (source j way) ends.from now fires ends.from_there one)
+    → Now lay p net n rank v regs after o s → PartsPut p (values p n v) puts (whole_list lay p n rank v) o s w.open_then w.state_then → slice_get p.joints x ≡ Some j
+    → OneDue lay p n rank v regs after o s w.state_then puts (source j way) → Sent lay p n rank v regs after puts (source j way) (width p j way)
+sent_from lay p net n rank v regs after o s w puts x j way now fires there one =
+    subst (λ (b : ℕ). Sent lay p n rank v regs after puts (source j way) b) ends.from_bits
+    (sent lay p net n rank v regs after o s w puts (source j way) ends.from now fires ends.from_there one)
   where
     ends : Ends p j way
     ends = ends_of p j way (fits p [] p.joints j now.right (is_in_at x p.joints j there))
 
-got_by_part : (keep : Keep) (p : Plan) (net : Netlist) (n : Places) (rank : End → ℕ) (v regs after : Numbers) (o : Open) (s : Tokens) (w : Whole p n rank v o s)
+got_by_part : (lay : Laying) (p : Plan) (net : Netlist) (n : Places) (rank : End → ℕ) (v regs after : Numbers) (o : Open) (s : Tokens) (w : Whole lay p n rank v o s)
     (puts : ℕ → List Token) (i h : ℕ) (k : Part) (c : Contact)
-    → Now keep p net n rank v regs after o s → PartsPut p (values p n v) puts (whole_list p n rank v) o s w.open_then w.state_then
+    → Now lay p net n rank v regs after o s → PartsPut p (values p n v) puts (whole_list lay p n rank v) o s w.open_then w.state_then
     → slice_get p.parts i ≡ Some k → contact_at p (PartEnd i h) ≡ Some c
-    → Got p n rank v regs after (way_taken c.role) (PartEnd i h) (bits_taken (Some c))
-got_by_part keep p net n rank v regs after o s w puts i h k c now fires is there =
+    → Got lay p n rank v regs after (way_taken c.role) (PartEnd i h) (bits_taken (Some c))
+got_by_part lay p net n rank v regs after o s w puts i h k c now fires is there =
     record {
       pulse = let a = counted in omega (arith, a);
       number = λ some.
           let a = by_pulse (at v (n.arrives (PartEnd i h)).pulse) some small_here in
-          let b : sum_taken (values p n v) (way_taken c.role) (PartEnd i h) (whole_list p n rank v) ≡ at v (n.arrives (PartEnd i h)).pulse * values p n v i h =
+          let b : sum_taken (values p n v) (way_taken c.role) (PartEnd i h) (whole_list lay p n rank v) ≡ at v (n.arrives (PartEnd i h)).pulse * values p n v i h =
           ap (λ (m : ℕ). m * values p n v i h) counted in
           omega (arith, a, b);
     }
@@ -175,10 +175,10 @@ got_by_part keep p net n rank v regs after o s w puts i h k c now fires is there
     small_here : at v (n.arrives (PartEnd i h)).pulse ≤ 1
     small_here = (w.comes i h k c is there refl).small
 
-    counted : taken_at (way_taken c.role) (PartEnd i h) (whole_list p n rank v) ≡ at v (n.arrives (PartEnd i h)).pulse
+    counted : taken_at (way_taken c.role) (PartEnd i h) (whole_list lay p n rank v) ≡ at v (n.arrives (PartEnd i h)).pulse
     counted =
-        (λ j. times (slot_taken c.role h j) (firings_listed p n v i (made_firings p n rank v) j))
-        ∙ (slot_count p n rank v i h k c is (λ g lt. pulses_small p n v (λ i k h. true) i k w.comes is g lt refl) (own_contact p i h k c is there)
+        (λ j. times (slot_taken c.role h j) (firings_listed p n v i (made_firings lay p n rank v) j))
+        ∙ (slot_count lay p n rank v i h k c is (λ g lt. pulses_small p n v (λ i k h. true) i k w.comes is g lt refl) (own_contact p i h k c is there)
         ∙ pulse_shape p n v i h c there)
 
     value_here : 0 < bits_taken (Some c) → values p n v i h ≡ at v (n.arrives (PartEnd i h)).number
@@ -191,15 +191,15 @@ got_by_part keep p net n rank v regs after o s w puts i h k c now fires is there
     by_pulse (suc zero) some le = let here = value_here some in grind (arith, here)
     by_pulse (suc (suc m)) some le = absurd (omega (arith, le))
 
-got_by_port : (keep : Keep) (p : Plan) (net : Netlist) (n : Places) (rank : End → ℕ) (v regs after : Numbers) (o : Open) (s : Tokens) (w : Whole p n rank v o s)
+got_by_port : (lay : Laying) (p : Plan) (net : Netlist) (n : Places) (rank : End → ℕ) (v regs after : Numbers) (o : Open) (s : Tokens) (w : Whole lay p n rank v o s)
     (puts : ℕ → List Token) (e : End) (c : Contact)
-    → Now keep p net n rank v regs after o s → PartsPut p (values p n v) puts (whole_list p n rank v) o s w.open_then w.state_then
+    → Now lay p net n rank v regs after o s → PartsPut p (values p n v) puts (whole_list lay p n rank v) o s w.open_then w.state_then
     → IsPortEnd e → contact_at p e ≡ Some c → shown_at n regs e ≤ 1
-    → Got p n rank v regs after (way_taken c.role) e (bits_taken (Some c))
-got_by_port keep p net n rank v regs after o s w puts e c now fires port there small =
+    → Got lay p n rank v regs after (way_taken c.role) e (bits_taken (Some c))
+got_by_port lay p net n rank v regs after o s w puts e c now fires port there small =
     record {
       pulse =
-          let a = taken_port (whole_list p n rank v) (way_taken c.role) e port in
+          let a = taken_port (whole_list lay p n rank v) (way_taken c.role) e port in
           let b = counted.0 in
           let d = flag_is v (n.shows e) small_here in
           let f = delays.pulse in
@@ -208,7 +208,7 @@ got_by_port keep p net n rank v regs after o s w puts e c now fires port there s
           let m = (shown_port n regs e port).0 in
           omega (arith, a, b, d, f, g, l, m);
       number = λ some.
-          let a = sum_taken_port (values p n v) (whole_list p n rank v) (way_taken c.role) e port in
+          let a = sum_taken_port (values p n v) (whole_list lay p n rank v) (way_taken c.role) e port in
           let b = counted.1 in
           let d : number_if v (bits_out_at p e) (n.shows e) ≡ carried v (n.shows e) =
           ap (λ (y : Option Contact). number_if v (bits_taken y) (n.shows e)) there
@@ -223,48 +223,48 @@ got_by_port keep p net n rank v regs after o s w puts e c now fires port there s
     delays : Delays (bits_taken (Some c)) v regs after (n.arrives e) (n.shows e)
     delays = now.facts.ports e c port there
 
-    counted : (outs_at e (whole_list p n rank v) ≡ flag v (n.shows e)) × (outs_sum e (whole_list p n rank v) ≡ number_if v (bits_out_at p e) (n.shows e))
-    counted = outs_listed p n v e (made_firings p n rank v) (now.plan_facts.once e c port there)
+    counted : (outs_at e (whole_list lay p n rank v) ≡ flag v (n.shows e)) × (outs_sum e (whole_list lay p n rank v) ≡ number_if v (bits_out_at p e) (n.shows e))
+    counted = outs_listed p n v e (made_firings lay p n rank v) (now.plan_facts.once e c port there)
 
     small_here : at v (n.shows e).pulse ≤ 1
     small_here = let f = delays.pulse in let m = (shown_port n regs e port).0 in omega (arith, small, f, m)
 
-pub got : (keep : Keep) (p : Plan) (net : Netlist) (n : Places) (rank : End → ℕ) (v regs after : Numbers) (o : Open) (s : Tokens) (w : Whole p n rank v o s)
+pub got : (lay : Laying) (p : Plan) (net : Netlist) (n : Places) (rank : End → ℕ) (v regs after : Numbers) (o : Open) (s : Tokens) (w : Whole lay p n rank v o s)
     (puts : ℕ → List Token) (e : End) (c : Contact)
-    → Now keep p net n rank v regs after o s → PartsPut p (values p n v) puts (whole_list p n rank v) o s w.open_then w.state_then
+    → Now lay p net n rank v regs after o s → PartsPut p (values p n v) puts (whole_list lay p n rank v) o s w.open_then w.state_then
     → contact_at p e ≡ Some c → shown_at n regs e ≤ 1
-    → Got p n rank v regs after (way_taken c.role) e (bits_taken (Some c))
-got keep p net n rank v regs after o s w puts (PartEnd i h) c now fires there small =
-    let k = part_there p i h c there in got_by_part keep p net n rank v regs after o s w puts i h k.0 c now fires k.1 there
-got keep p net n rank v regs after o s w puts (ImportEnd i h) c now fires there small =
-    got_by_port keep p net n rank v regs after o s w puts (ImportEnd i h) c now fires tt there small
-got keep p net n rank v regs after o s w puts (ResultEnd h) c now fires there small =
-    got_by_port keep p net n rank v regs after o s w puts (ResultEnd h) c now fires tt there small
+    → Got lay p n rank v regs after (way_taken c.role) e (bits_taken (Some c))
+got lay p net n rank v regs after o s w puts (PartEnd i h) c now fires there small =
+    let k = part_there p i h c there in got_by_part lay p net n rank v regs after o s w puts i h k.0 c now fires k.1 there
+got lay p net n rank v regs after o s w puts (ImportEnd i h) c now fires there small =
+    got_by_port lay p net n rank v regs after o s w puts (ImportEnd i h) c now fires tt there small
+got lay p net n rank v regs after o s w puts (ResultEnd h) c now fires there small =
+    got_by_port lay p net n rank v regs after o s w puts (ResultEnd h) c now fires tt there small
 
 -- what a cycle makes of a direction of a joint; and a pending token goes on its way
-pub record Passed (keep : Keep) (p : Plan) (n : Places) (v regs after : Numbers) (t : Tokens) (x : ℕ) (j : Joint) (way : Direction) : Type 0 where
-  pub lies : Lies keep p n after t x j way
-  pub goes : pending_at p n regs (source j way) ≤ at v (n.leaves (source j way)).pulse
+pub record Passed (lay : Laying) (p : Plan) (n : Places) (v regs after : Numbers) (t : Tokens) (x : ℕ) (j : Joint) (way : Direction) : Type 0 where
+  pub lies : Lies lay p n after t x j way
+  pub goes : pending_at lay p n regs (source j way) ≤ at v (n.leaves (source j way)).pulse
 
 -- what the registers of a direction held arrives, and they hold what leaves; without registers, what leaves arrives
-record Holds (keep : Keep) (p : Plan) (n : Places) (v regs after : Numbers) (x : ℕ) (j : Joint) (way : Direction) : Type 0 where
+record Holds (lay : Laying) (p : Plan) (n : Places) (v regs after : Numbers) (x : ℕ) (j : Joint) (way : Direction) : Type 0 where
   pub pulses :
-      held_pulse (keep x way) after (n.arrives (target j way)) + at v (n.arrives (target j way)).pulse
-      ≡ held_pulse (keep x way) regs (n.arrives (target j way)) + at v (n.leaves (source j way)).pulse
+      held_pulse (lay.keep x way) after (n.arrives (target j way)) + at v (n.arrives (target j way)).pulse
+      ≡ held_pulse (lay.keep x way) regs (n.arrives (target j way)) + at v (n.leaves (source j way)).pulse
   pub numbers :
       0 < width p j way
-      → held_number (keep x way) after (n.arrives (target j way)) + carried v (n.arrives (target j way))
-      ≡ held_number (keep x way) regs (n.arrives (target j way)) + carried v (n.leaves (source j way))
+      → held_number (lay.keep x way) after (n.arrives (target j way)) + carried v (n.arrives (target j way))
+      ≡ held_number (lay.keep x way) regs (n.arrives (target j way)) + carried v (n.leaves (source j way))
   pub narrow :
-      keep x way ≡ true → 0 < width p j way → at after (n.arrives (target j way)).pulse ≡ 0
+      lay.keep x way ≡ true → 0 < width p j way → at after (n.arrives (target j way)).pulse ≡ 0
       → at after (n.arrives (target j way)).number < 2 ^ width p j way
 
-pub passed : (keep : Keep) (p : Plan) (net : Netlist) (n : Places) (rank : End → ℕ) (v regs after : Numbers) (o : Open) (s : Tokens) (w : Whole p n rank v o s)
+pub passed : (lay : Laying) (p : Plan) (net : Netlist) (n : Places) (rank : End → ℕ) (v regs after : Numbers) (o : Open) (s : Tokens) (w : Whole lay p n rank v o s)
     (puts : ℕ → List Token) (x : ℕ) (j : Joint) (way : Direction)
-    → Rises keep p rank → Now keep p net n rank v regs after o s → PartsPut p (values p n v) puts (whole_list p n rank v) o s w.open_then w.state_then
-    → AddsUp (values p n v) puts (whole_list p n rank v) s w.state_then way j.asking (source j way) (target j way)
-    → slice_get p.joints x ≡ Some j → Passed keep p n v regs after w.state_then x j way
-passed keep p net n rank v regs after o s w puts x j way rises now fires sums there =
+    → Rises lay p rank → Now lay p net n rank v regs after o s → PartsPut p (values p n v) puts (whole_list lay p n rank v) o s w.open_then w.state_then
+    → AddsUp (values p n v) puts (whole_list lay p n rank v) s w.state_then way j.asking (source j way) (target j way)
+    → slice_get p.joints x ≡ Some j → Passed lay p n v regs after w.state_then x j way
+passed lay p net n rank v regs after o s w puts x j way rises now fires sums there =
     record {
       lies =
           record {
@@ -286,59 +286,59 @@ passed keep p net n rank v regs after o s w puts x j way rises now fires sums th
       goes = out.goes;
     }
   where
-    old : Lies keep p n regs s x j way
+    old : Lies lay p n regs s x j way
     old = now.standing.joints x j way there
 
     ends : Ends p j way
     ends = ends_of p j way (fits p [] p.joints j now.right (is_in_at x p.joints j there))
 
-    counts : count (s.in_place way j.asking) ≡ held_pulse (keep x way) regs (n.arrives (target j way)) + (pending_at p n regs (source j way) + shown_at n regs (target j way))
+    counts : count (s.in_place way j.asking) ≡ held_pulse (lay.keep x way) regs (n.arrives (target j way)) + (pending_at lay p n regs (source j way) + shown_at n regs (target j way))
     counts = old.counts
 
     small_shown : shown_at n regs (target j way) ≤ 1
     small_shown = let small = small_count (s.in_place way j.asking) in omega (arith, counts, small)
 
-    in_there : Got p n rank v regs after way (target j way) (width p j way)
+    in_there : Got lay p n rank v regs after way (target j way) (width p j way)
     in_there =
-        subst (λ (d : Direction). Got p n rank v regs after d (target j way) (width p j way)) ends.to_way
-        (subst (λ (b : ℕ). Got p n rank v regs after (way_taken ends.to.role) (target j way) b) ends.to_bits
-        (got keep p net n rank v regs after o s w puts (target j way) ends.to now fires ends.to_there small_shown))
+        subst (λ (d : Direction). Got lay p n rank v regs after d (target j way) (width p j way)) ends.to_way
+        (subst (λ (b : ℕ). Got lay p n rank v regs after (way_taken ends.to.role) (target j way) b) ends.to_bits
+        (got lay p net n rank v regs after o s w puts (target j way) ends.to now fires ends.to_there small_shown))
 
     -- At most one token is due at the source. By the registers of a direction, and at a port, what is taken was held before. Else a
     -- second token would need a ring.
-    one_due : OneDue p n rank v regs after o s w.state_then puts (source j way)
-    one_due i h k from is out_there step = by_keep (keep x way) refl
+    one_due : OneDue lay p n rank v regs after o s w.state_then puts (source j way)
+    one_due i h k from is out_there step = by_keep (lay.keep x way) refl
       where
-        put : put_at puts (source j way) (whole_list p n rank v) ≡ due h step.first + due h step.second
-        put = ap (λ (e : End). put_at puts e (whole_list p n rank v)) from ∙ (ap (due h) step.puts ∙ due-append h step.first step.second)
+        put : put_at puts (source j way) (whole_list lay p n rank v) ≡ due h step.first + due h step.second
+        put = ap (λ (e : End). put_at puts e (whole_list lay p n rank v)) from ∙ (ap (due h) step.puts ∙ due-append h step.first step.second)
 
-        pending : pending_at p n regs (source j way) ≡ pending_at p n regs (PartEnd i h)
-        pending = ap (pending_at p n regs) from
+        pending : pending_at lay p n regs (source j way) ≡ pending_at lay p n regs (PartEnd i h)
+        pending = ap (pending_at lay p n regs) from
 
         left : count (w.state_then.in_place way j.asking) ≤ 1
         left = small_count (w.state_then.in_place way j.asking)
 
-        at_port : (e : End) → target j way ≡ e → IsPortEnd e → contact_at p e ≡ Some ends.to → keep x way ≡ false → pending_at p n regs (PartEnd i h) + due h step.first ≤ 1
+        at_port : (e : End) → target j way ≡ e → IsPortEnd e → contact_at p e ≡ Some ends.to → lay.keep x way ≡ false → pending_at lay p n regs (PartEnd i h) + due h step.first ≤ 1
         at_port e to port contact straight =
             let delays = now.facts.ports e ends.to port contact in
             let next = delays.next in
             let shown : shown_at n after (target j way) ≡ at after (n.shows e).pulse = ap (shown_at n after) to ∙ (shown_port n after e port).0 in
             let arrives : at v (n.arrives (target j way)).pulse ≡ at v (n.arrives e).pulse = ap (λ (f : End). at v (n.arrives f).pulse) to in
-            let none : held_pulse (keep x way) regs (n.arrives (target j way)) ≡ 0 = ap (λ (b : Bool). held_pulse b regs (n.arrives (target j way))) straight in
+            let none : held_pulse (lay.keep x way) regs (n.arrives (target j way)) ≡ 0 = ap (λ (b : Bool). held_pulse b regs (n.arrives (target j way))) straight in
             let a = sums.counts in
             let c = in_there.pulse in
             omega (arith, put, pending, left, next, shown, arrives, none, a, c, counts)
 
-        by_target : (e : End) → target j way ≡ e → keep x way ≡ false → pending_at p n regs (PartEnd i h) + due h step.first ≤ 1
+        by_target : (e : End) → target j way ≡ e → lay.keep x way ≡ false → pending_at lay p n regs (PartEnd i h) + due h step.first ≤ 1
         by_target (PartEnd d g) to straight =
             let contact : contact_at p (PartEnd d g) ≡ Some ends.to = ap (contact_at p) (sym to) ∙ ends.to_there in
             let l = part_there p d g ends.to contact in
-            single_ring keep p net n rank v regs after o s w (puts i) i h k x j way d g l.0 ends.to rises now there straight from is out_there to l.1
+            single_ring lay p net n rank v regs after o s w (puts i) i h k x j way d g l.0 ends.to rises now there straight from is out_there to l.1
             (slice_get_within (part_contacts l.0) g ends.to (own_contact p d g l.0 ends.to l.1 contact)) contact ends.to_way step
         by_target (ImportEnd d g) to straight = at_port (ImportEnd d g) to tt (ap (contact_at p) (sym to) ∙ ends.to_there) straight
         by_target (ResultEnd g) to straight = at_port (ResultEnd g) to tt (ap (contact_at p) (sym to) ∙ ends.to_there) straight
 
-        by_keep : (b : Bool) → keep x way ≡ b → pending_at p n regs (PartEnd i h) + due h step.first ≤ 1
+        by_keep : (b : Bool) → lay.keep x way ≡ b → pending_at lay p n regs (PartEnd i h) + due h step.first ≤ 1
         by_keep true keeps =
             let pulse = (now.facts.joints x j way there keeps).pulse in
             let now_held = ap (λ (b : Bool). held_pulse b regs (n.arrives (target j way))) keeps in
@@ -347,13 +347,13 @@ passed keep p net n rank v regs after o s w puts x j way rises now fires sums th
             omega (arith, put, pending, left, pulse, now_held, a, c, counts)
         by_keep false straight = by_target (target j way) refl straight
 
-    out : Sent p n rank v regs after puts (source j way) (width p j way)
-    out = sent_from keep p net n rank v regs after o s w puts x j way now fires there one_due
+    out : Sent lay p n rank v regs after puts (source j way) (width p j way)
+    out = sent_from lay p net n rank v regs after o s w puts x j way now fires there one_due
 
-    held : Holds keep p n v regs after x j way
-    held = by_keep (keep x way) refl
+    held : Holds lay p n v regs after x j way
+    held = by_keep (lay.keep x way) refl
       where
-        by_keep : (b : Bool) → keep x way ≡ b → Holds keep p n v regs after x j way
+        by_keep : (b : Bool) → lay.keep x way ≡ b → Holds lay p n v regs after x j way
         by_keep true keeps =
             let delays = now.facts.joints x j way there keeps in
             let now_held = ap (λ (b : Bool). held_pulse b regs (n.arrives (target j way))) keeps in

@@ -17,8 +17,8 @@ use Rattle.gos_macro.specs.Gates.{Outgoing, Bare, Bearing, bits_out}
 use Rattle.gos_macro.specs.Fit.{IsKnown, reach_of, GoesOut, AllGoOut}
 use Rattle.gos_macro.specs.Paths.{Drives, IsIn, IsOut, with_renamed}
 use Rattle.gos_expand.specs.Blocks.{Nets}
-use Rattle.gos_expand.specs.Gates.{layout, outs_of, part_size}
-use Rattle.gos_expand.specs.Starts.{Keep, bits_taken}
+use Rattle.gos_expand.specs.Gates.{Making, layout, outs_of, part_size}
+use Rattle.gos_expand.specs.Starts.{Laying, bits_taken}
 use Rattle.gos_expand.specs.Laid.{nets_out, known}
 use Rattle.gos_expand.specs.Facts.{Places, source, target, bits_put, incoming_at}
 use Rattle.gos_expand.proofs.NetLemmas.{IsCut}
@@ -29,11 +29,11 @@ use Rattle.gos_expand.proofs.GenericLemmas.{kept_below, to_pulse, to_value}
 use Rattle.gos_expand.proofs.WiredLemmas.{OfPart, IsCutNet, AreCut, ComesStraight, Wired, wires, naming, cells_named, renamed_pins, register_renamed, of_mapped, cell_before, cell_after}
 
 -- the cells of a part with generic wires
-abbrev pub gates_of : Part → ℕ → List Cell
-gates_of k b = layout k b (wires k b)
+abbrev pub gates_of : Making → Part → ℕ → List Cell
+gates_of m k b = layout m k b (wires m k b)
 
 -- within a part, from an earlier place to a later one
-pub record Inner (p : Plan) (n : Places) (a b : ℕ) : Type 0 where
+pub record Inner (lay : Laying) (p : Plan) (n : Places) (a b : ℕ) : Type 0 where
   pub part : ℕ
   pub kind : Part
   pub there : slice_get p.parts part ≡ Some kind
@@ -42,15 +42,15 @@ pub record Inner (p : Plan) (n : Places) (a b : ℕ) : Type 0 where
   pub second : ℕ
   pub to : b ≡ n.start part + second
   pub up : first < second
-  pub drives : Drives (n.start part) (gates_of kind (n.start part)) a b
+  pub drives : Drives (n.start part) (gates_of (lay.making part) kind (n.start part)) a b
 
 -- what goes out at a handshake of a part comes in at an end by a direction without registers
-pub record Crosses (keep : Keep) (p : Plan) (n : Places) (a : ℕ) (e : End) : Type 0 where
+pub record Crosses (lay : Laying) (p : Plan) (n : Places) (a : ℕ) (e : End) : Type 0 where
   pub joint : ℕ
   pub passed : Joint
   pub way : Direction
   pub stands : slice_get p.joints joint ≡ Some passed
-  pub straight : keep joint way ≡ false
+  pub straight : lay.keep joint way ≡ false
   pub here : target passed way ≡ e
   pub part : ℕ
   pub out : ℕ
@@ -58,19 +58,19 @@ pub record Crosses (keep : Keep) (p : Plan) (n : Places) (a : ℕ) (e : End) : T
   pub leaves : source passed way ≡ PartEnd part out
   pub there : slice_get p.parts part ≡ Some kind
   pub low : out < length (part_contacts kind)
-  pub is_out : IsOut (slice_get (outs_of kind (n.start part)) out) a
+  pub is_out : IsOut (slice_get (outs_of (lay.making part) kind (n.start part)) out) a
 
 -- so it comes in at a part, and a gate of that part names it
-pub record Entry (keep : Keep) (p : Plan) (n : Places) (a b : ℕ) : Type 0 where
+pub record Entry (lay : Laying) (p : Plan) (n : Places) (a b : ℕ) : Type 0 where
   pub part : ℕ
   pub number : ℕ
   pub kind : Part
   pub there : slice_get p.parts part ≡ Some kind
   pub low : number < length (part_contacts kind)
-  pub crosses : Crosses keep p n a (PartEnd part number)
+  pub crosses : Crosses lay p n a (PartEnd part number)
   pub start : ℕ
-  pub is_in : IsIn (part_contacts kind) (wires kind (n.start part)) number start
-  pub drives : Drives (n.start part) (gates_of kind (n.start part)) start b
+  pub is_in : IsIn (part_contacts kind) (wires (lay.making part) kind (n.start part)) number start
+  pub drives : Drives (n.start part) (gates_of (lay.making part) kind (n.start part)) start b
 
 -- the two ends of a direction of a joint
 record Sides (p : Plan) (j : Joint) (way : Direction) : Type 0 where
@@ -129,11 +129,11 @@ not_cut cells a c is free fed (d, at, cut) = by_cut (subst (λ (x : Cell). IsCut
     by_cut (inr none) = fed none
 
 -- what comes straight to an end has gone out of a part
-crossing : (keep : Keep) (p : Plan) (cells : List Cell) (n : Places) → Wired keep p cells n → (a : ℕ) (c : Cell) → slice_get cells a ≡ Some c
-    → (IsRegister c.gate → ⊥) → (pins c.gate ≡ [] → ⊥) → (e : End) → (s : ComesStraight keep p n e) → Sides p s.passed s.way
+crossing : (lay : Laying) (p : Plan) (cells : List Cell) (n : Places) → Wired lay p cells n → (a : ℕ) (c : Cell) → slice_get cells a ≡ Some c
+    → (IsRegister c.gate → ⊥) → (pins c.gate ≡ [] → ⊥) → (e : End) → (s : ComesStraight lay p n e) → Sides p s.passed s.way
     → (a ≡ (n.leaves (source s.passed s.way)).pulse) ⊎ ((0 < bits_put (contact_at p (source s.passed s.way))) × (a ≡ (n.leaves (source s.passed s.way)).number))
-    → Crosses keep p n a e
-crossing keep p cells n wired a c is free fed e s sides nets = by_source (source s.passed s.way) refl sides.from_there nets
+    → Crosses lay p n a e
+crossing lay p cells n wired a c is free fed e s sides nets = by_source (source s.passed s.way) refl sides.from_there nets
   where
     of_port : (d : End) → IsPortEnd d → contact_at p d ≡ Some sides.from
         → (a ≡ (n.leaves d).pulse) ⊎ ((0 < bits_put (contact_at p d)) × (a ≡ (n.leaves d).number)) → ⊥
@@ -145,11 +145,11 @@ crossing keep p cells n wired a c is free fed e s sides nets = by_source (source
 
     of_part : (i h : ℕ) → source s.passed s.way ≡ PartEnd i h → contact_at p (PartEnd i h) ≡ Some sides.from
         → (a ≡ (n.leaves (PartEnd i h)).pulse) ⊎ ((0 < bits_put (contact_at p (PartEnd i h))) × (a ≡ (n.leaves (PartEnd i h)).number))
-        → Crosses keep p n a e
+        → Crosses lay p n a e
     of_part i h same there goes =
         let (k, part, at) = part_there p i h sides.from there in
         let b : ℕ = n.start i in
-        let out = out_at b (layout k b (incoming_at p n i)) (part_contacts k) (outs_of k b) h sides.from
+        let out = out_at b (layout (lay.making i) k b (incoming_at p n i)) (part_contacts k) (outs_of (lay.making i) k b) h sides.from
         ((wired.fits i k part).outgoing b (incoming_at p n i)) at in
         let leaving : n.leaves (PartEnd i h) ≡ nets_out (Some out.0) = wired.leaving i h k part ∙ ap nets_out out.1 in
         record {
@@ -168,7 +168,7 @@ crossing keep p cells n wired a c is free fed e s sides nets = by_source (source
           is_out = subst (λ (o : Option Outgoing). IsOut o a) (sym out.1) (is_of k b out.0 out.2 leaving goes);
         }
       where
-        is_of : (k : Part) (b : ℕ) (o : Outgoing) → GoesOut b (layout k b (incoming_at p n i)) sides.from o → n.leaves (PartEnd i h) ≡ nets_out (Some o)
+        is_of : (k : Part) (b : ℕ) (o : Outgoing) → GoesOut b (layout (lay.making i) k b (incoming_at p n i)) sides.from o → n.leaves (PartEnd i h) ≡ nets_out (Some o)
             → (a ≡ (n.leaves (PartEnd i h)).pulse) ⊎ ((0 < bits_put (contact_at p (PartEnd i h))) × (a ≡ (n.leaves (PartEnd i h)).number))
             → IsOut (Some o) a
         is_of k b o goes leaving (inl pulse) =
@@ -178,11 +178,11 @@ crossing keep p cells n wired a c is free fed e s sides nets = by_source (source
             let wide : 0 < bits_out sides.from.role sides.from =
             subst (λ (m : ℕ). 0 < m) (sym (put_out sides.from.role sides.from)) more in
             subst (λ (m : ℕ). IsOut (Some o) m) (sym (number ∙ ap (λ (x : Nets). x.number) leaving))
-            (number_goes b (layout k b (incoming_at p n i)) sides.from o goes wide)
+            (number_goes b (layout (lay.making i) k b (incoming_at p n i)) sides.from o goes wide)
 
     by_source : (d : End) → source s.passed s.way ≡ d → contact_at p (source s.passed s.way) ≡ Some sides.from
         → (a ≡ (n.leaves (source s.passed s.way)).pulse) ⊎ ((0 < bits_put (contact_at p (source s.passed s.way))) × (a ≡ (n.leaves (source s.passed s.way)).number))
-        → Crosses keep p n a e
+        → Crosses lay p n a e
     by_source (PartEnd i h) same there goes =
         of_part i h same (subst (λ (d : End). contact_at p d ≡ Some sides.from) same there)
         (subst (λ (d : End). (a ≡ (n.leaves d).pulse) ⊎ ((0 < bits_put (contact_at p d)) × (a ≡ (n.leaves d).number))) same goes)
@@ -194,45 +194,45 @@ crossing keep p cells n wired a c is free fed e s sides nets = by_source (source
         (subst (λ (d : End). (a ≡ (n.leaves d).pulse) ⊎ ((0 < bits_put (contact_at p d)) × (a ≡ (n.leaves d).number))) same goes))
 
 -- a pin that comes in at a handshake is what arrives there
-arrived : (p : Plan) (n : Places) (i h : ℕ) (k : Part) (c : Contact) (x : ℕ) → contact_at p (PartEnd i h) ≡ Some c → slice_get (part_contacts k) h ≡ Some c
-    → IsIn (part_contacts k) (wires k (n.start i)) h x
-    → (naming k (n.start i) (incoming_at p n i) x ≡ (n.arrives (PartEnd i h)).pulse)
-    ⊎ ((0 < bits_taken (Some c)) × (naming k (n.start i) (incoming_at p n i) x ≡ (n.arrives (PartEnd i h)).number))
-arrived p n i h k c x there at (inl is) =
-    let f : ℕ → ℕ = naming k (n.start i) (incoming_at p n i) in
-    let m : ℕ = n.start i + part_size k in
+arrived : (lay : Laying) → (p : Plan) (n : Places) (i h : ℕ) (k : Part) (c : Contact) (x : ℕ) → contact_at p (PartEnd i h) ≡ Some c → slice_get (part_contacts k) h ≡ Some c
+    → IsIn (part_contacts k) (wires (lay.making i) k (n.start i)) h x
+    → (naming (lay.making i) k (n.start i) (incoming_at p n i) x ≡ (n.arrives (PartEnd i h)).pulse)
+    ⊎ ((0 < bits_taken (Some c)) × (naming (lay.making i) k (n.start i) (incoming_at p n i) x ≡ (n.arrives (PartEnd i h)).number))
+arrived lay p n i h k c x there at (inl is) =
+    let f : ℕ → ℕ = naming (lay.making i) k (n.start i) (incoming_at p n i) in
+    let m : ℕ = n.start i + part_size (lay.making i) k in
     inl
     (ap f is ∙ (to_pulse m (incoming_at p n i) h ∙ ap (λ (o : Option Contact). known o (n.arrives (PartEnd i h)).pulse) there))
-arrived p n i h k c x there at (inr (some, is)) =
-    let f : ℕ → ℕ = naming k (n.start i) (incoming_at p n i) in
-    let m : ℕ = n.start i + part_size k in
+arrived lay p n i h k c x there at (inr (some, is)) =
+    let f : ℕ → ℕ = naming (lay.making i) k (n.start i) (incoming_at p n i) in
+    let m : ℕ = n.start i + part_size (lay.making i) k in
     inr (
       subst (λ (w : ℕ). 0 < w) (in_bits (part_contacts k) h c at) some,
       ap f is ∙ (to_value m (incoming_at p n i) h ∙ ap (λ (o : Option Contact). known o (n.arrives (PartEnd i h)).number) there),
     )
 
 -- a step along gates, from a net that is fed to a gate
-pub stride : (keep : Keep) (p : Plan) (cells : List Cell) (n : Places) → Wired keep p cells n → (a b : ℕ) → Feeds cells a b
+pub stride : (lay : Laying) (p : Plan) (cells : List Cell) (n : Places) → Wired lay p cells n → (a b : ℕ) → Feeds cells a b
     → ((c : Cell) → slice_get cells a ≡ Some c → pins c.gate ≡ [] → ⊥) → ((c : Cell) → slice_get cells b ≡ Some c → IsRegister c.gate → ⊥)
-    → Inner p n a b ⊎ Entry keep p n a b
-stride keep p cells n wired a b (c, e, at_a, at_b, free, pin) fed gate = by_place (wired.fed b e at_b)
+    → Inner lay p n a b ⊎ Entry lay p n a b
+stride lay p cells n wired a b (c, e, at_a, at_b, free, pin) fed gate = by_place (wired.fed b e at_b)
   where
     not_empty : (xs : List ℕ) → xs ≡ [] → Contains xs a → ⊥
     not_empty [] none (k, low, is) = omega (arith, low)
     not_empty (x ∷ xs) none has = cc none
 
     -- the pin of the generic cell
-    by_pin : (q : OfPart p n b e) (d : Cell) → slice_get (gates_of q.kind (n.start q.part)) q.place ≡ Some d
-        → with_renamed (naming q.kind (n.start q.part) (incoming_at p n q.part)) d ≡ e
-        → (x : ℕ) → Contains (pins d.gate) x → naming q.kind (n.start q.part) (incoming_at p n q.part) x ≡ a
-        → IsKnown (part_contacts q.kind) (wires q.kind (n.start q.part)) (n.start q.part) (gates_of q.kind (n.start q.part)) q.place x
+    by_pin : (q : OfPart lay p n b e) (d : Cell) → slice_get (gates_of (lay.making q.part) q.kind (n.start q.part)) q.place ≡ Some d
+        → with_renamed (naming (lay.making q.part) q.kind (n.start q.part) (incoming_at p n q.part)) d ≡ e
+        → (x : ℕ) → Contains (pins d.gate) x → naming (lay.making q.part) q.kind (n.start q.part) (incoming_at p n q.part) x ≡ a
+        → IsKnown (part_contacts q.kind) (wires (lay.making q.part) q.kind (n.start q.part)) (n.start q.part) (gates_of (lay.making q.part) q.kind (n.start q.part)) q.place x
         → (IsRegister d.gate → ⊥)
-        → Inner p n a b ⊎ Entry keep p n a b
+        → Inner lay p n a b ⊎ Entry lay p n a b
     by_pin q d at named x has same (inl (h, low, goes)) no_register =
         let (k, is) = is_there (part_contacts q.kind) h low in
         let there : contact_at p (PartEnd q.part h) ≡ Some k =
         ap (λ (o : Option Part). slice_get (contacts_of_part o) h) q.there ∙ is in
-        let nets = arrived p n q.part h q.kind k x there is goes in
+        let nets = arrived lay p n q.part h q.kind k x there is goes in
         inr
         (record {
           part = q.part;
@@ -247,10 +247,10 @@ stride keep p cells n wired a b (c, e, at_a, at_b, free, pin) fed gate = by_plac
         })
       where
         crossed : (i h : ℕ) (k : Contact) → contact_at p (PartEnd i h) ≡ Some k
-            → (naming q.kind (n.start q.part) (incoming_at p n q.part) x ≡ (n.arrives (PartEnd i h)).pulse)
-            ⊎ ((0 < bits_taken (Some k)) × (naming q.kind (n.start q.part) (incoming_at p n q.part) x ≡ (n.arrives (PartEnd i h)).number))
-            → AreCut cells (bits_taken (Some k)) (n.arrives (PartEnd i h)) ⊎ ComesStraight keep p n (PartEnd i h)
-            → Crosses keep p n a (PartEnd i h)
+            → (naming (lay.making q.part) q.kind (n.start q.part) (incoming_at p n q.part) x ≡ (n.arrives (PartEnd i h)).pulse)
+            ⊎ ((0 < bits_taken (Some k)) × (naming (lay.making q.part) q.kind (n.start q.part) (incoming_at p n q.part) x ≡ (n.arrives (PartEnd i h)).number))
+            → AreCut cells (bits_taken (Some k)) (n.arrives (PartEnd i h)) ⊎ ComesStraight lay p n (PartEnd i h)
+            → Crosses lay p n a (PartEnd i h)
         crossed i h k there (inl pulse) (inl cut) =
             absurd (not_cut cells a c at_a free (fed c at_a) (subst (λ (m : ℕ). IsCutNet cells m) (sym pulse ∙ same) cut.pulse))
         crossed i h k there (inr (some, number)) (inl cut) =
@@ -258,15 +258,15 @@ stride keep p cells n wired a b (c, e, at_a, at_b, free, pin) fed gate = by_plac
         crossed i h k there nets (inr s) =
             let fits = joint_fits p [] p.joints s.joint s.passed wired.right s.stands in
             let sides = sides_of p s.passed s.way fits in
-            crossing keep p cells n wired a c at_a free (fed c at_a) (PartEnd i h) s sides (of_nets sides nets)
+            crossing lay p cells n wired a c at_a free (fed c at_a) (PartEnd i h) s sides (of_nets sides nets)
           where
             bits : (sides : Sides p s.passed s.way) → bits_put (contact_at p (source s.passed s.way)) ≡ bits_taken (Some k)
             bits sides =
                 ap bits_put sides.from_there ∙ (sym sides.same ∙ ap bits_taken (sym sides.to_there ∙ (ap (contact_at p) s.here ∙ there)))
 
             of_nets : (sides : Sides p s.passed s.way)
-                → (naming q.kind (n.start q.part) (incoming_at p n q.part) x ≡ (n.arrives (PartEnd i h)).pulse)
-                ⊎ ((0 < bits_taken (Some k)) × (naming q.kind (n.start q.part) (incoming_at p n q.part) x ≡ (n.arrives (PartEnd i h)).number))
+                → (naming (lay.making q.part) q.kind (n.start q.part) (incoming_at p n q.part) x ≡ (n.arrives (PartEnd i h)).pulse)
+                ⊎ ((0 < bits_taken (Some k)) × (naming (lay.making q.part) q.kind (n.start q.part) (incoming_at p n q.part) x ≡ (n.arrives (PartEnd i h)).number))
                 → (a ≡ (n.leaves (source s.passed s.way)).pulse)
                 ⊎ ((0 < bits_put (contact_at p (source s.passed s.way))) × (a ≡ (n.leaves (source s.passed s.way)).number))
             of_nets sides (inl pulse) = inl (sym same ∙ (pulse ∙ ap (λ (y : Nets). y.pulse) s.nets))
@@ -278,17 +278,17 @@ stride keep p cells n wired a b (c, e, at_a, at_b, free, pin) fed gate = by_plac
     by_pin q d at named x has same (inr (k, g, is, found, early)) no_register = by_early early
       where
         gates : List Cell
-        gates = gates_of q.kind (n.start q.part)
+        gates = gates_of (lay.making q.part) q.kind (n.start q.part)
 
-        within : k < part_size q.kind
-        within = let low = slice_get_within (gates_of q.kind (n.start q.part)) k g found in
-            let size = layout_length q.kind (n.start q.part) (wires q.kind (n.start q.part)) in omega (arith, low, size)
+        within : k < part_size (lay.making q.part) q.kind
+        within = let low = slice_get_within (gates_of (lay.making q.part) q.kind (n.start q.part)) k g found in
+            let size = layout_length (lay.making q.part) q.kind (n.start q.part) (wires (lay.making q.part) q.kind (n.start q.part)) in omega (arith, low, size)
 
         own : x ≡ a
         own =
-            sym (kept_below (n.start q.part + part_size q.kind) (incoming_at p n q.part) x (omega (arith, is, within))) ∙ same
+            sym (kept_below (n.start q.part + part_size (lay.making q.part) q.kind) (incoming_at p n q.part) x (omega (arith, is, within))) ∙ same
 
-        by_early : (k < q.place) ⊎ IsRegister g.gate → Inner p n a b ⊎ Entry keep p n a b
+        by_early : (k < q.place) ⊎ IsRegister g.gate → Inner lay p n a b ⊎ Entry lay p n a b
         by_early (inl low) =
             inl
             (record {
@@ -301,59 +301,59 @@ stride keep p cells n wired a b (c, e, at_a, at_b, free, pin) fed gate = by_plac
               to = q.number;
               up = low;
               drives =
-                  subst (λ (m : ℕ). Drives (n.start q.part) (gates_of q.kind (n.start q.part)) m b) own
+                  subst (λ (m : ℕ). Drives (n.start q.part) (gates_of (lay.making q.part) q.kind (n.start q.part)) m b) own
                   (q.place, d, q.number, at, no_register, has);
             })
         by_early (inr register) = absurd (free (register_here register))
           where
             register_here : IsRegister g.gate → IsRegister c.gate
             register_here r =
-                let f : ℕ → ℕ = naming q.kind (n.start q.part) (incoming_at p n q.part) in
-                let real : slice_get (layout q.kind (n.start q.part) (incoming_at p n q.part)) k ≡ Some (with_renamed f g) =
-                ap (λ (cs : List Cell). slice_get cs k) (cells_named q.kind (n.start q.part) (incoming_at p n q.part) (wired.paths q.part q.kind q.there))
-                ∙ cell_after f (gates_of q.kind (n.start q.part)) k g found in
+                let f : ℕ → ℕ = naming (lay.making q.part) q.kind (n.start q.part) (incoming_at p n q.part) in
+                let real : slice_get (layout (lay.making q.part) q.kind (n.start q.part) (incoming_at p n q.part)) k ≡ Some (with_renamed f g) =
+                ap (λ (cs : List Cell). slice_get cs k) (cells_named (lay.making q.part) q.kind (n.start q.part) (incoming_at p n q.part) (wired.paths q.part q.kind q.there))
+                ∙ cell_after f (gates_of (lay.making q.part) q.kind (n.start q.part)) k g found in
                 let stands = wired.gates q.part q.kind q.there k (with_renamed f g) real in
                 let at_x : slice_get cells a ≡ Some (with_renamed f g) =
                 subst (λ (m : ℕ). slice_get cells m ≡ Some (with_renamed f g)) (sym is ∙ own) stands in
                 subst (λ (y : Cell). IsRegister y.gate) (same_Some (with_renamed f g) c (sym at_x ∙ at_a)) (register_renamed f g.gate r)
 
-    by_cell : (q : OfPart p n b e) (d : Cell) → slice_get (gates_of q.kind (n.start q.part)) q.place ≡ Some d
-        → with_renamed (naming q.kind (n.start q.part) (incoming_at p n q.part)) d ≡ e
-        → Inner p n a b ⊎ Entry keep p n a b
+    by_cell : (q : OfPart lay p n b e) (d : Cell) → slice_get (gates_of (lay.making q.part) q.kind (n.start q.part)) q.place ≡ Some d
+        → with_renamed (naming (lay.making q.part) q.kind (n.start q.part) (incoming_at p n q.part)) d ≡ e
+        → Inner lay p n a b ⊎ Entry lay p n a b
     by_cell q d at named =
-        let f : ℕ → ℕ = naming q.kind (n.start q.part) (incoming_at p n q.part) in
+        let f : ℕ → ℕ = naming (lay.making q.part) q.kind (n.start q.part) (incoming_at p n q.part) in
         let b0 : ℕ = n.start q.part in
         let cs : List Contact = part_contacts q.kind in
-        let gs : List Cell = gates_of q.kind b0 in
+        let gs : List Cell = gates_of (lay.making q.part) q.kind b0 in
         let real : Contains (map f (pins d.gate)) a =
         subst (λ (xs : List ℕ). Contains xs a) (ap (λ (y : Cell). pins y.gate) (sym named) ∙ renamed_pins f d.gate) pin in
         let found = of_mapped f (pins d.gate) a real in
-        let all = pins_known cs (wires q.kind b0) b0 gs 0 gs q.place d ((wired.fits q.part q.kind q.there).order b0 (wires q.kind b0)) at in
-        let knows = All-contains (IsKnown cs (wires q.kind b0) b0 gs (reach_of d.gate (0 + q.place) (length gs))) (pins d.gate) found.0
-        (All-from_recursion (IsKnown cs (wires q.kind b0) b0 gs (reach_of d.gate (0 + q.place) (length gs))) (pins d.gate) all) found.1 in
+        let all = pins_known cs (wires (lay.making q.part) q.kind b0) b0 gs 0 gs q.place d ((wired.fits q.part q.kind q.there).order b0 (wires (lay.making q.part) q.kind b0)) at in
+        let knows = All-contains (IsKnown cs (wires (lay.making q.part) q.kind b0) b0 gs (reach_of d.gate (0 + q.place) (length gs))) (pins d.gate) found.0
+        (All-from_recursion (IsKnown cs (wires (lay.making q.part) q.kind b0) b0 gs (reach_of d.gate (0 + q.place) (length gs))) (pins d.gate) all) found.1 in
         by_register (register_or d.gate) found knows
       where
         no_register : IsRegister d.gate → ⊥
         no_register r =
-            gate e at_b (subst (λ (y : Cell). IsRegister y.gate) named (register_renamed (naming q.kind (n.start q.part) (incoming_at p n q.part)) d.gate r))
+            gate e at_b (subst (λ (y : Cell). IsRegister y.gate) named (register_renamed (naming (lay.making q.part) q.kind (n.start q.part) (incoming_at p n q.part)) d.gate r))
 
         by_register : IsRegister d.gate ⊎ ((m size : ℕ) → reach_of d.gate m size ≡ m)
-            → (found : (x : ℕ) × Contains (pins d.gate) x × (naming q.kind (n.start q.part) (incoming_at p n q.part) x ≡ a))
-            → IsKnown (part_contacts q.kind) (wires q.kind (n.start q.part)) (n.start q.part) (gates_of q.kind (n.start q.part))
-            (reach_of d.gate (0 + q.place) (length (gates_of q.kind (n.start q.part)))) found.0
-            → Inner p n a b ⊎ Entry keep p n a b
+            → (found : (x : ℕ) × Contains (pins d.gate) x × (naming (lay.making q.part) q.kind (n.start q.part) (incoming_at p n q.part) x ≡ a))
+            → IsKnown (part_contacts q.kind) (wires (lay.making q.part) q.kind (n.start q.part)) (n.start q.part) (gates_of (lay.making q.part) q.kind (n.start q.part))
+            (reach_of d.gate (0 + q.place) (length (gates_of (lay.making q.part) q.kind (n.start q.part)))) found.0
+            → Inner lay p n a b ⊎ Entry lay p n a b
         by_register (inl register) found knows = absurd (no_register register)
         by_register (inr reach) found knows =
             by_pin q d at named found.0 found.1 found.2
-            (subst (λ (m : ℕ). IsKnown (part_contacts q.kind) (wires q.kind (n.start q.part)) (n.start q.part) (gates_of q.kind (n.start q.part)) m found.0)
-            (reach (0 + q.place) (length (gates_of q.kind (n.start q.part))) ∙ omega arith) knows) no_register
+            (subst (λ (m : ℕ). IsKnown (part_contacts q.kind) (wires (lay.making q.part) q.kind (n.start q.part)) (n.start q.part) (gates_of (lay.making q.part) q.kind (n.start q.part)) m found.0)
+            (reach (0 + q.place) (length (gates_of (lay.making q.part) q.kind (n.start q.part))) ∙ omega arith) knows) no_register
 
-    by_place : IsCut e.gate ⊎ OfPart p n b e → Inner p n a b ⊎ Entry keep p n a b
+    by_place : IsCut e.gate ⊎ OfPart lay p n b e → Inner lay p n a b ⊎ Entry lay p n a b
     by_place (inl (inl register)) = absurd (gate e at_b register)
     by_place (inl (inr none)) = absurd (not_empty (pins e.gate) none pin)
     by_place (inr q) =
-        let f : ℕ → ℕ = naming q.kind (n.start q.part) (incoming_at p n q.part) in
-        let generic_cell = cell_before f (gates_of q.kind (n.start q.part)) q.place e
+        let f : ℕ → ℕ = naming (lay.making q.part) q.kind (n.start q.part) (incoming_at p n q.part) in
+        let generic_cell = cell_before f (gates_of (lay.making q.part) q.kind (n.start q.part)) q.place e
         (subst (λ (cs : List Cell). slice_get cs q.place ≡ Some e)
-        (cells_named q.kind (n.start q.part) (incoming_at p n q.part) (wired.paths q.part q.kind q.there)) q.cell) in
+        (cells_named (lay.making q.part) q.kind (n.start q.part) (incoming_at p n q.part) (wired.paths q.part q.kind q.there)) q.cell) in
         by_cell q generic_cell.0 generic_cell.1 generic_cell.2

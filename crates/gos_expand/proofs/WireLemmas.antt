@@ -5,7 +5,7 @@ use Rattle.gos_macro.specs.declared.gates.Wire.{Wire}
 use Rattle.gos_plan.specs.Kinds.{Part, Contact, part_contacts}
 use Rattle.gos_macro.specs.Wires.{nets_in, pulse_if, value_if, incoming_of}
 use Rattle.gos_plan.specs.Plans.{PartEnd, Plan, contact_at}
-use Rattle.gos_expand.specs.Starts.{Keep}
+use Rattle.gos_expand.specs.Starts.{Laying}
 use Rattle.gos_expand.specs.Laid.{arrives, known, incoming}
 
 pulse_same : (ws : List Wire) (cs : List Contact) (f : ℕ → ℕ) → length ws ≡ length cs → ((h : ℕ) (w : Wire) → slice_get ws h ≡ Some w → w.in_pulse.0 ≡ f h)
@@ -25,14 +25,14 @@ value_same (w ∷ ws) (c ∷ cs) f same each zero = each 0 w refl
 value_same (w ∷ ws) (c ∷ cs) f same each (suc h) = value_same ws cs (λ g. f (suc g)) (grind (arith, same)) (λ g v there. each (suc g) v there) h
 
 -- so they are what comes in at the part
-pub wires_hold : (keep : Keep) (p : Plan) (i : ℕ) (k : Part) (ws : List Wire) → slice_get p.parts i ≡ Some k → length ws ≡ length (part_contacts k)
-    → ((h : ℕ) (w : Wire) → slice_get ws h ≡ Some w → (w.in_pulse.0 ≡ (arrives keep p (PartEnd i h)).pulse) × (w.in_value.0 ≡ (arrives keep p (PartEnd i h)).number))
-    → incoming_of ws ≡ incoming keep p i
-wires_hold keep p i k ws there same each =
-    let pulses : (h : ℕ) → pulse_if (slice_get ws h) ≡ known (contact_at p (PartEnd i h)) (arrives keep p (PartEnd i h)).pulse = λ h.
-    rw there (pulse_same ws (part_contacts k) (λ g. (arrives keep p (PartEnd i g)).pulse) same (λ g w at. (each g w at).0) h) in
-    let values : (h : ℕ) → value_if (slice_get ws h) ≡ known (contact_at p (PartEnd i h)) (arrives keep p (PartEnd i h)).number = λ h.
-    rw there (value_same ws (part_contacts k) (λ g. (arrives keep p (PartEnd i g)).number) same (λ g w at. (each g w at).1) h) in
+pub wires_hold : (lay : Laying) (p : Plan) (i : ℕ) (k : Part) (ws : List Wire) → slice_get p.parts i ≡ Some k → length ws ≡ length (part_contacts k)
+    → ((h : ℕ) (w : Wire) → slice_get ws h ≡ Some w → (w.in_pulse.0 ≡ (arrives lay p (PartEnd i h)).pulse) × (w.in_value.0 ≡ (arrives lay p (PartEnd i h)).number))
+    → incoming_of ws ≡ incoming lay p i
+wires_hold lay p i k ws there same each =
+    let pulses : (h : ℕ) → pulse_if (slice_get ws h) ≡ known (contact_at p (PartEnd i h)) (arrives lay p (PartEnd i h)).pulse = λ h.
+    rw there (pulse_same ws (part_contacts k) (λ g. (arrives lay p (PartEnd i g)).pulse) same (λ g w at. (each g w at).0) h) in
+    let values : (h : ℕ) → value_if (slice_get ws h) ≡ known (contact_at p (PartEnd i h)) (arrives lay p (PartEnd i h)).number = λ h.
+    rw there (value_same ws (part_contacts k) (λ g. (arrives lay p (PartEnd i g)).number) same (λ g w at. (each g w at).1) h) in
     λ j. record { pulse = λ h. pulses h j; value = λ h. values h j }
 
 -- only the nets that come in matter

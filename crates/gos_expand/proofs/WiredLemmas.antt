@@ -13,8 +13,8 @@ use Rattle.gos_macro.specs.Gates.{Incoming}
 use Rattle.gos_macro.specs.Fit.{GatesFit}
 use Rattle.gos_macro.specs.Paths.{AreApart, Renames, renamed, with_renamed, KeepPaths}
 use Rattle.gos_expand.specs.Blocks.{Nets}
-use Rattle.gos_expand.specs.Gates.{layout, outs_of, late_of, passing_of, part_size}
-use Rattle.gos_expand.specs.Starts.{Keep, bits_taken}
+use Rattle.gos_expand.specs.Gates.{Making, layout, outs_of, late_of, passing_of, part_size}
+use Rattle.gos_expand.specs.Starts.{Laying, bits_taken}
 use Rattle.gos_expand.specs.Laid.{nets_out}
 use Rattle.gos_expand.specs.Facts.{Places, source, target, bits_put, incoming_at}
 use Rattle.gos_expand.proofs.StandLemmas.{StandAt}
@@ -23,13 +23,13 @@ use Rattle.gos_expand.proofs.GroupLemmas.{layout_length}
 use Rattle.gos_expand.proofs.GenericLemmas.{generic, named_for, generic_apart, generic_renames}
 
 -- net m is that of a cell at a place of part i
-pub record OfPart (p : Plan) (n : Places) (m : ℕ) (c : Cell) : Type 0 where
+pub record OfPart (lay : Laying) (p : Plan) (n : Places) (m : ℕ) (c : Cell) : Type 0 where
   pub part : ℕ
   pub kind : Part
   pub there : slice_get p.parts part ≡ Some kind
   pub place : ℕ
   pub number : m ≡ n.start part + place
-  pub cell : slice_get (layout kind (n.start part) (incoming_at p n part)) place ≡ Some c
+  pub cell : slice_get (layout (lay.making part) kind (n.start part) (incoming_at p n part)) place ≡ Some c
 
 -- a net is that of a register or of a cell without pins
 abbrev pub IsCutNet : List Cell → ℕ → Type 0
@@ -41,52 +41,52 @@ pub record AreCut (cells : List Cell) (bits : ℕ) (nets : Nets) : Type 0 where
   pub number : 0 < bits → IsCutNet cells nets.number
 
 -- what comes in at an end is what goes in at the other end of its joint
-pub record ComesStraight (keep : Keep) (p : Plan) (n : Places) (e : End) : Type 0 where
+pub record ComesStraight (lay : Laying) (p : Plan) (n : Places) (e : End) : Type 0 where
   pub joint : ℕ
   pub passed : Joint
   pub way : Direction
   pub stands : slice_get p.joints joint ≡ Some passed
-  pub straight : keep joint way ≡ false
+  pub straight : lay.keep joint way ≡ false
   pub here : target passed way ≡ e
   pub nets : n.arrives e ≡ n.leaves (source passed way)
 
 -- the netlist as parts see it
-pub record Wired (keep : Keep) (p : Plan) (cells : List Cell) (n : Places) : Type 0 where
+pub record Wired (lay : Laying) (p : Plan) (cells : List Cell) (n : Places) : Type 0 where
   pub right : IsRight p
-  pub fits : (i : ℕ) (k : Part) → slice_get p.parts i ≡ Some k → GatesFit k (layout k) (outs_of k)
-  pub paths : (i : ℕ) (k : Part) → slice_get p.parts i ≡ Some k → KeepPaths k (layout k) (outs_of k) (late_of k) (passing_of k)
-  pub gates : (i : ℕ) (k : Part) → slice_get p.parts i ≡ Some k → StandAt cells (n.start i) (layout k (n.start i) (incoming_at p n i))
-  pub fed : (m : ℕ) (c : Cell) → slice_get cells m ≡ Some c → IsCut c.gate ⊎ OfPart p n m c
+  pub fits : (i : ℕ) (k : Part) → slice_get p.parts i ≡ Some k → GatesFit k (layout (lay.making i) k) (outs_of (lay.making i) k)
+  pub paths : (i : ℕ) (k : Part) → slice_get p.parts i ≡ Some k → KeepPaths k (layout (lay.making i) k) (outs_of (lay.making i) k) (late_of (lay.making i) k) (passing_of (lay.making i) k)
+  pub gates : (i : ℕ) (k : Part) → slice_get p.parts i ≡ Some k → StandAt cells (n.start i) (layout (lay.making i) k (n.start i) (incoming_at p n i))
+  pub fed : (m : ℕ) (c : Cell) → slice_get cells m ≡ Some c → IsCut c.gate ⊎ OfPart lay p n m c
   pub apart :
-      (m : ℕ) (c d : Cell) (a : OfPart p n m c) (b : OfPart p n m d) → a.part ≡ b.part
-  pub leaving : (i h : ℕ) (k : Part) → slice_get p.parts i ≡ Some k → n.leaves (PartEnd i h) ≡ nets_out (slice_get (outs_of k (n.start i)) h)
+      (m : ℕ) (c d : Cell) (a : OfPart lay p n m c) (b : OfPart lay p n m d) → a.part ≡ b.part
+  pub leaving : (i h : ℕ) (k : Part) → slice_get p.parts i ≡ Some k → n.leaves (PartEnd i h) ≡ nets_out (slice_get (outs_of (lay.making i) k (n.start i)) h)
   pub straight :
-      (x : ℕ) (j : Joint) (way : Direction) → slice_get p.joints x ≡ Some j → keep x way ≡ false
+      (x : ℕ) (j : Joint) (way : Direction) → slice_get p.joints x ≡ Some j → lay.keep x way ≡ false
       → n.arrives (target j way) ≡ n.leaves (source j way)
   pub coming :
       (i h : ℕ) (c : Contact) → contact_at p (PartEnd i h) ≡ Some c
-      → AreCut cells (bits_taken (Some c)) (n.arrives (PartEnd i h)) ⊎ ComesStraight keep p n (PartEnd i h)
+      → AreCut cells (bits_taken (Some c)) (n.arrives (PartEnd i h)) ⊎ ComesStraight lay p n (PartEnd i h)
   pub given : (e : End) (c : Contact) → IsPortEnd e → contact_at p e ≡ Some c → AreCut cells (bits_put (Some c)) (n.leaves e)
 
 -- generic wires of a part that begins at b, and their renaming to those that it has
-abbrev pub wires : Part → ℕ → Incoming
-wires k b = generic (b + part_size k)
+abbrev pub wires : Making → Part → ℕ → Incoming
+wires m k b = generic (b + part_size m k)
 
-abbrev pub naming : Part → ℕ → Incoming → ℕ → ℕ
-naming k b i = named_for (b + part_size k) i
+abbrev pub naming : Making → Part → ℕ → Incoming → ℕ → ℕ
+naming m k b i = named_for (b + part_size m k) i
 
 -- the cells of a part are those of generic wires, renamed
-pub cells_named : (k : Part) (b : ℕ) (i : Incoming) → KeepPaths k (layout k) (outs_of k) (late_of k) (passing_of k)
-    → layout k b i ≡ map (with_renamed (naming k b i)) (layout k b (wires k b))
-cells_named k b i keeps =
-    keeps.named (naming k b i) b b (wires k b) i
-    (subst (λ (m : ℕ). Renames (part_contacts k) m (naming k b i) b b (wires k b) i) (sym (layout_length k b (wires k b)))
-    (generic_renames (part_contacts k) (part_size k) b i))
+pub cells_named : (m : Making) (k : Part) (b : ℕ) (i : Incoming) → KeepPaths k (layout m k) (outs_of m k) (late_of m k) (passing_of m k)
+    → layout m k b i ≡ map (with_renamed (naming m k b i)) (layout m k b (wires m k b))
+cells_named m k b i keeps =
+    keeps.named (naming m k b i) b b (wires m k b) i
+    (subst (λ (n : ℕ). Renames (part_contacts k) n (naming m k b i) b b (wires m k b) i) (sym (layout_length m k b (wires m k b)))
+    (generic_renames (part_contacts k) (part_size m k) b i))
 
-pub wires_apart : (k : Part) (b : ℕ) → AreApart (part_contacts k) b (length (layout k b (wires k b))) (wires k b)
-wires_apart k b =
-    subst (λ (m : ℕ). AreApart (part_contacts k) b m (wires k b)) (sym (layout_length k b (wires k b)))
-    (generic_apart (part_contacts k) (part_size k) b)
+pub wires_apart : (m : Making) (k : Part) (b : ℕ) → AreApart (part_contacts k) b (length (layout m k b (wires m k b))) (wires m k b)
+wires_apart m k b =
+    subst (λ (n : ℕ). AreApart (part_contacts k) b n (wires m k b)) (sym (layout_length m k b (wires m k b)))
+    (generic_apart (part_contacts k) (part_size m k) b)
 
 -- a renamed function names the renamed nets, and is a register where the function is
 pub renamed_pins : (f : ℕ → ℕ) (g : Function) → pins (renamed f g) ≡ map f (pins g)

@@ -19,7 +19,7 @@ use Rattle.gos_pace.specs.Cycles as cycles
 use Rattle.gos_pace.specs.AnyOrder.{EndsDiffer}
 use Rattle.gos_expand.specs.Gates.{layout, outs_of, late_of, pending_of, stands_of, passing_of}
 use Rattle.gos_expand.specs.Blocks.{Nets}
-use Rattle.gos_expand.specs.Starts.{Keep, bits_if, bits_taken, ports_of, port_ends}
+use Rattle.gos_expand.specs.Starts.{Laying, bits_if, bits_taken, ports_of, port_ends}
 use Rattle.gos_expand.specs.Laid.{nets_out, known}
 
 -- By end: the nets of what goes into the circuit, of what comes in there, and of what a port shows of it. By part:
@@ -89,15 +89,15 @@ given_elements p n v = elements In v (bits_in_at p) n.leaves (port_ends (ports_o
 -- What a cycle shows, with these values of nets, registers and next registers. Each direction of a joint that keeps its
 -- registers delays, and so does each output of a port; an end without a joint gets nothing; and what the outside gives is in
 -- range.
-pub record CycleFacts (keep : Keep) (p : Plan) (net : Netlist) (n : Places) (v regs after : Numbers) : Type 0 where
+pub record CycleFacts (lay : Laying) (p : Plan) (net : Netlist) (n : Places) (v regs after : Numbers) : Type 0 where
   pub outs : cycles.outs_of p (outputs net v) ≡ shown_elements p n v
   pub ins : cycles.ins_of p (inputs net v) ≡ given_elements p n v
   pub outs_apart : EndsDiffer p (outputs net v)
   pub ins_apart : EndsDiffer p (inputs net v)
   pub parts :
-      (i : ℕ) (k : Part) → slice_get p.parts i ≡ Some k → Settled v regs after (n.start i) 0 (layout k (n.start i) (incoming_at p n i))
+      (i : ℕ) (k : Part) → slice_get p.parts i ≡ Some k → Settled v regs after (n.start i) 0 (layout (lay.making i) k (n.start i) (incoming_at p n i))
   pub joints :
-      (x : ℕ) (j : Joint) (way : Direction) → slice_get p.joints x ≡ Some j → keep x way ≡ true
+      (x : ℕ) (j : Joint) (way : Direction) → slice_get p.joints x ≡ Some j → lay.keep x way ≡ true
       → Delays (width p j way) v regs after (n.leaves (source j way)) (n.arrives (target j way))
   pub loose :
       (e : End) (c : Contact) → contact_at p e ≡ Some c → places_of p e ≡ None
@@ -111,9 +111,9 @@ pub record CycleFacts (keep : Keep) (p : Plan) (net : Netlist) (n : Places) (v r
       × (0 < bits_put (Some c) → at v (n.leaves e).number < 2 ^ bits_put (Some c))
 
 -- cycles one after another, from these registers on
-abbrev pub Follow : Keep → Plan → Netlist → Places → Numbers → List Numbers → Type 0
-Follow keep p net n regs [] = Unit {0}
-Follow keep p net n regs (v ∷ vs) = (after : Numbers) × CycleFacts keep p net n v regs after × Follow keep p net n after vs
+abbrev pub Follow : Laying → Plan → Netlist → Places → Numbers → List Numbers → Type 0
+Follow lay p net n regs [] = Unit {0}
+Follow lay p net n regs (v ∷ vs) = (after : Numbers) × CycleFacts lay p net n v regs after × Follow lay p net n after vs
 
 -- how often an end stands in a list
 abbrev pub occurs : End → List End → ℕ
@@ -122,51 +122,54 @@ occurs e (d ∷ ds) = if same_end d e then suc (occurs e ds) else occurs e ds
 
 -- What is the same in all cycles: each end of a port is listed once, the nets that leave a part are those of its gates, and
 -- what comes in by a direction without registers is what goes in at the other end.
-pub record PlanFacts (keep : Keep) (p : Plan) (n : Places) : Type 0 where
+pub record PlanFacts (lay : Laying) (p : Plan) (n : Places) : Type 0 where
   pub once : (e : End) (c : Contact) → IsPortEnd e → contact_at p e ≡ Some c → occurs e (port_ends (ports_of p)) ≡ 1
   pub listed : (e : End) → 0 < occurs e (port_ends (ports_of p)) → IsPortEnd e × ((c : Contact) × (contact_at p e ≡ Some c))
-  pub leaving : (i h : ℕ) (k : Part) → slice_get p.parts i ≡ Some k → n.leaves (PartEnd i h) ≡ nets_out (slice_get (outs_of k (n.start i)) h)
+  pub leaving : (i h : ℕ) (k : Part) → slice_get p.parts i ≡ Some k → n.leaves (PartEnd i h) ≡ nets_out (slice_get (outs_of (lay.making i) k (n.start i)) h)
   pub straight :
-      (x : ℕ) (j : Joint) (way : Direction) → slice_get p.joints x ≡ Some j → keep x way ≡ false
+      (x : ℕ) (j : Joint) (way : Direction) → slice_get p.joints x ≡ Some j → lay.keep x way ≡ false
       → n.arrives (target j way) ≡ n.leaves (source j way)
 
 -- From handshake `from` of a part what comes in passes on to handshake `to`, and by a direction of a joint without registers
 -- to this end, all in one cycle.
-pub record PassesOn (keep : Keep) (p : Plan) (i from : ℕ) (to : End) : Type 0 where
+pub record PassesOn (lay : Laying) (p : Plan) (i from : ℕ) (to : End) : Type 0 where
   pub joint : ℕ
   pub passed : Joint
   pub way : Direction
   pub part : Part
   pub out : ℕ
   pub stands : slice_get p.joints joint ≡ Some passed
-  pub straight : keep joint way ≡ false
+  pub straight : lay.keep joint way ≡ false
   pub leaves : source passed way ≡ PartEnd i out
   pub there : slice_get p.parts i ≡ Some part
   pub from_there : from < length (part_contacts part)
   pub out_there : out < length (part_contacts part)
-  pub passes : passing_of part from out ≡ true
+  pub passes : passing_of (lay.making i) part from out ≡ true
   pub arrives : target passed way ≡ to
 
 -- Ranks go up wherever what comes in at an end passes on in one cycle. So there is no ring without registers.
-abbrev pub Rises : Keep → Plan → (End → ℕ) → Type 0
-Rises keep p rank = (i from : ℕ) (to : End) → PassesOn keep p i from to → rank (PartEnd i from) < rank to
+abbrev pub Rises : Laying → Plan → (End → ℕ) → Type 0
+Rises lay p rank = (i from : ℕ) (to : End) → PassesOn lay p i from to → rank (PartEnd i from) < rank to
 
 -- the order of a part's handshakes: the ranks of its ends
 abbrev pub order_at : (End → ℕ) → ℕ → Order
 order_at rank i h = rank (PartEnd i h)
 
 -- the gates of each part keep the laws in the order of its ends, and its literal fits
-pub record PartFacts (p : Plan) (rank : End → ℕ) : Type 0 where
+pub record PartFacts (lay : Laying) (p : Plan) (rank : End → ℕ) : Type 0 where
   pub gates :
       (i : ℕ) (k : Part) → slice_get p.parts i ≡ Some k
-      → KeepLaws k (layout k) (outs_of k) (late_of k) (pending_of k) (stands_of k) (order_at rank i)
-  pub paths : (i : ℕ) (k : Part) → slice_get p.parts i ≡ Some k → KeepPaths k (layout k) (outs_of k) (late_of k) (passing_of k)
+      → KeepLaws k (layout (lay.making i) k) (outs_of (lay.making i) k) (late_of (lay.making i) k) (pending_of (lay.making i) k)
+          (stands_of (lay.making i) k) (order_at rank i)
+  pub paths :
+      (i : ℕ) (k : Part) → slice_get p.parts i ≡ Some k
+      → KeepPaths k (layout (lay.making i) k) (outs_of (lay.making i) k) (late_of (lay.making i) k) (passing_of (lay.making i) k)
   pub literals : All LiteralFits p.parts
 
 -- Cycles of which this is so, from registers that are all 0, are lists of the plan, whichever directions keep registers, where
 -- no ring is left without one.
 abbrev pub FactsMakeLists : Type 0
 FactsMakeLists =
-    (keep : Keep) (p : Plan) (net : Netlist) (n : Places) (rank : End → ℕ) (regs : Numbers) (vs : List Numbers)
-    → IsRight p → PartFacts p rank → PlanFacts keep p n → Rises keep p rank → ((m : ℕ) → at regs m ≡ 0) → Follow keep p net n regs vs
+    (lay : Laying) (p : Plan) (net : Netlist) (n : Places) (rank : End → ℕ) (regs : Numbers) (vs : List Numbers)
+    → IsRight p → PartFacts lay p rank → PlanFacts lay p n → Rises lay p rank → ((m : ℕ) → at regs m ≡ 0) → Follow lay p net n regs vs
     → cycles.CyclesAreLists p net vs

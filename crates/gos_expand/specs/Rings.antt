@@ -6,8 +6,8 @@ use Rattle.std.specs.Prelude.{◌↔◌, ℕ, List, [], ◌∷◌}
 use Rattle.gos_netlist.specs.Cycles.{HasCycle}
 use Rattle.gos_plan.specs.Plans.{PartEnd, Plan}
 use Rattle.gos_plan.specs.Seen.{SeenPlan, plan_of}
-use Rattle.gos_expand.specs.Starts.{Keep}
-use Rattle.gos_expand.specs.Laid.{laid_cells}
+use Rattle.gos_expand.specs.Starts.{Laying}
+use Rattle.gos_expand.specs.Laid.{circuit_cells}
 use Rattle.gos_expand.specs.Facts.{PassesOn}
 use Rattle.gos_expand.specs.Acceptance.{CanBeLaid}
 
@@ -17,14 +17,14 @@ pub record Shake : Type 0 where
   pub number : ℕ
 
 -- what comes in at one passes on to another, by these
-abbrev pub PassesBy : Keep → Plan → Shake → List Shake → Shake → Type 0
-PassesBy keep p a [] b = PassesOn keep p a.part a.number (PartEnd b.part b.number)
-PassesBy keep p a (c ∷ cs) b = PassesOn keep p a.part a.number (PartEnd c.part c.number) × PassesBy keep p c cs b
+abbrev pub PassesBy : Laying → Plan → Shake → List Shake → Shake → Type 0
+PassesBy lay p a [] b = PassesOn lay p a.part a.number (PartEnd b.part b.number)
+PassesBy lay p a (c ∷ cs) b = PassesOn lay p a.part a.number (PartEnd c.part c.number) × PassesBy lay p c cs b
 
 -- what comes in at some handshake comes back there
-abbrev pub HasRing : Keep → Plan → Type 0
-HasRing keep p = (a : Shake) × (cs : List Shake) × PassesBy keep p a cs a
+abbrev pub HasRing : Laying → Plan → Type 0
+HasRing lay p = (a : Shake) × (cs : List Shake) × PassesBy lay p a cs a
 
 -- The netlist of a plan that can be laid out has a combinational cycle exactly where there is a ring.
 abbrev pub RingsAreCycles : Type 0
-RingsAreCycles = (keep : Keep) (p : SeenPlan) (root : List ℕ) → CanBeLaid p root → HasCycle (laid_cells keep (plan_of p)) ↔ HasRing keep (plan_of p)
+RingsAreCycles = (lay : Laying) (p : SeenPlan) (root : List ℕ) → CanBeLaid p root → HasCycle (circuit_cells lay (plan_of p)) ↔ HasRing lay (plan_of p)

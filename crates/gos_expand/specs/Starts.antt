@@ -10,7 +10,7 @@ use Rattle.gos_model.specs.Typing.{Imported}
 use Rattle.gos_plan.specs.Plans.{End, PartEnd, ImportEnd, ResultEnd, Joint, Plan, contact_at, same_end, is_free}
 use Rattle.gos_plan.specs.Tokens.{bits_of, way_taken}
 use Rattle.gos_expand.specs.Blocks.{token_size, total}
-use Rattle.gos_expand.specs.Gates.{part_size}
+use Rattle.gos_expand.specs.Gates.{Making, ForEach, part_size}
 
 -- whether joint x has registers in a direction
 abbrev pub Keep : Type 0
@@ -27,6 +27,15 @@ place_of x Answer = suc (x + x)
 -- the choice of these truth values, in this order; what has none is kept
 abbrev pub chosen : List Bool → Keep
 chosen keeps x way = get_or keeps (place_of x way) true
+
+-- How a plan is laid out: which directions of joints keep their registers, and for which order the gates of each part are made.
+pub record Laying : Type 0 where
+  pub keep : Keep
+  pub making : ℕ → Making
+
+-- with gates that are made for no order
+abbrev pub plain : Keep → Laying
+plain keep = record { keep = keep; making = λ i. ForEach }
 
 -- a port of the circuit: its handshakes, as the holder of a term of its type sees them, and the plan's ends there
 pub record Outer : Type 0 where
@@ -58,11 +67,11 @@ abbrev pub kept_size : Bool → ℕ → ℕ
 kept_size kept w = if kept then token_size w else 0
 
 -- how many registers a direction of a joint has, and a joint
-abbrev pub way_size : Keep → Plan → ℕ → Joint → Direction → ℕ
-way_size keep p x j way = kept_size (keep x way) (bits_if (contact_at p j.asking) way)
+abbrev pub way_size : Laying → Plan → ℕ → Joint → Direction → ℕ
+way_size lay p x j way = kept_size (lay.keep x way) (bits_if (contact_at p j.asking) way)
 
-abbrev pub joint_size : Keep → Plan → ℕ → Joint → ℕ
-joint_size keep p x j = way_size keep p x j Request + way_size keep p x j Answer
+abbrev pub joint_size : Laying → Plan → ℕ → Joint → ℕ
+joint_size lay p x j = way_size lay p x j Request + way_size lay p x j Answer
 
 -- the ends of a list of handshakes
 abbrev pub ends_at : (ℕ → End) → ℕ → List Contact → List End
@@ -101,17 +110,17 @@ port_start p k = total port_size 0 (take k (ports_of p))
 abbrev pub joints_start : Plan → ℕ
 joints_start p = total port_size 0 (ports_of p)
 
-abbrev pub joint_start : Keep → Plan → ℕ → ℕ
-joint_start keep p x = joints_start p + total (joint_size keep p) 0 (take x p.joints)
+abbrev pub joint_start : Laying → Plan → ℕ → ℕ
+joint_start lay p x = joints_start p + total (joint_size lay p) 0 (take x p.joints)
 
-abbrev pub loose_ends_start : Keep → Plan → ℕ
-loose_ends_start keep p = joints_start p + total (joint_size keep p) 0 p.joints
+abbrev pub loose_ends_start : Laying → Plan → ℕ
+loose_ends_start lay p = joints_start p + total (joint_size lay p) 0 p.joints
 
-abbrev pub loose_start : Keep → Plan → End → ℕ
-loose_start keep p e = start_among p (loose_ends_start keep p) (loose_ends p) e
+abbrev pub loose_start : Laying → Plan → End → ℕ
+loose_start lay p e = start_among p (loose_ends_start lay p) (loose_ends p) e
 
-abbrev pub parts_start : Keep → Plan → ℕ
-parts_start keep p = loose_ends_start keep p + total (loose_size p) 0 (loose_ends p)
+abbrev pub parts_start : Laying → Plan → ℕ
+parts_start lay p = loose_ends_start lay p + total (loose_size p) 0 (loose_ends p)
 
-abbrev pub part_start : Keep → Plan → ℕ → ℕ
-part_start keep p i = parts_start keep p + total (λ _ k. part_size k) 0 (take i p.parts)
+abbrev pub part_start : Laying → Plan → ℕ → ℕ
+part_start lay p i = parts_start lay p + total (λ n k. part_size (lay.making n) k) 0 (take i p.parts)

@@ -5,7 +5,7 @@ ghost use Rattle.gos_plan.specs.Plans.{PartEnd};
 ghost use Rattle.gos_plan.specs.Seen.{plan_of, part_of};
 ghost use Rattle.gos_plan.specs.Ranges.{IsInRange};
 ghost use Rattle.gos_plan.specs.Size.{plan_size};
-ghost use Rattle.gos_expand.specs.Gates.{passing_of};
+ghost use Rattle.gos_expand.specs.Gates.{ForEach, passing_of};
 ghost use Rattle.gos_expand.specs.inner.Arrivals.{AreAt};
 ghost use Rattle.gos_expand.specs.inner.Choosing.{joint_at, number_in, ways_at, ways_seen, HasSmallJoints, AreWithin, GoAcross, Adds, IsPassage, PassesTo, PassesFrom, PassesAt, AreFew, KeepsFewRings};
 
@@ -88,7 +88,7 @@ fn passes(kind: &Kind, count: u32, from: u32, to: u32) -> bool
     requires few { count ≤ 192 }
     requires from { from < length (part_contacts (part_of kind.now)) }
     requires to { to < length (part_contacts (part_of kind.now)) }
-    ensures { result ≡ passing_of (part_of kind.now) from to }
+    ensures { result ≡ passing_of ForEach (part_of kind.now) from to }
 {
     may_pass(kind, count, from, to) && gates_of(kind).passes(from, to)
 }
@@ -100,7 +100,7 @@ fn may_pass(kind: &Kind, count: u32, from: u32, to: u32) -> bool
     requires few { count ≤ 192 }
     requires from { from < count }
     requires to { to < count }
-    ensures { passing_of (part_of kind.now) from to ≡ Bool.true → result ≡ Bool.true }
+    ensures { passing_of ForEach (part_of kind.now) from to ≡ Bool.true → result ≡ Bool.true }
 {
     match kind {
         Kind::Share(_) => {

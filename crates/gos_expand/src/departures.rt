@@ -4,7 +4,7 @@ ghost use Rattle.gos_plan.specs.Ranges.{IsInRange};
 ghost use Rattle.gos_plan.specs.Contacts.{contact_held};
 ghost use Rattle.gos_plan.specs.Seen.{part_of};
 ghost use Rattle.gos_macro.specs.Gates.{bits_out};
-ghost use Rattle.gos_expand.specs.Gates.{part_size};
+ghost use Rattle.gos_expand.specs.Gates.{ForEach, part_size};
 ghost use Rattle.gos_expand.specs.inner.Tokens.{held_nets};
 ghost use Rattle.gos_expand.specs.inner.Departures.{nets_of_wire, nets_of_wires, part_departures, nets_in};
 
@@ -35,7 +35,7 @@ impl Departures {
 // The nets of what goes out of a part whose first cell is `base`, by handshake.
 pub(crate) fn part_departures(alloc: Global, kind: &Kind, base: u32) -> Result<Vec<Nets>, NoMemory>
     requires in_range { IsInRange kind.now }
-    requires numbered { base + part_size (part_of kind.now) ≤ 4294967295 }
+    requires numbered { base + part_size ForEach (part_of kind.now) ≤ 4294967295 }
     ensures { IfOk result (λ nets. map held_nets nets.items ≡ part_departures (part_of kind.now) base) }
 {
     let contacts = part_contacts(alloc, kind)?;

@@ -1,20 +1,21 @@
 // What the definitions give for every plan, and for a small one. Each theorem is the contract of a function that does
 // nothing.
-ghost use Rattle.gos_expand.specs.Acceptance.{LaidIsAccepted, AllCutCycles, LaidIsSmall};
+ghost use Rattle.gos_expand.specs.Acceptance.{CircuitIsAccepted, CircuitIsSmall, LaidIsAccepted, AllCutCycles, LaidIsSmall};
 ghost use Rattle.gos_expand.specs.Choices.{LaidByIsOne};
 ghost use Rattle.gos_expand.specs.Facts.{FactsMakeLists};
 ghost use Rattle.gos_expand.specs.Into.{LaysIntoNone};
-ghost use Rattle.gos_expand.specs.Kept.{AllKeep, AllKeepPaths, AreFew};
+ghost use Rattle.gos_expand.specs.Kept.{AllKeep, AllFit, AllKeepPaths, AreFew};
 ghost use Rattle.gos_expand.specs.Rings.{RingsAreCycles};
-ghost use Rattle.gos_expand.specs.Runs.{LaidMakesLists, LaidStaysSilent};
+ghost use Rattle.gos_expand.specs.Runs.{CircuitMakesLists, CircuitStaysSilent, LaidMakesLists, LaidStaysSilent};
 ghost use Rattle.gos_expand.specs.SmallChoices.{SkipKeepsNone, AllAreTooMany, RingKeepsOne, NoneAreTooFew};
 ghost use Rattle.gos_expand.specs.SmallNets.{SkipIsLaid, SkipIsChosen, RingIsLeft, SkipCanBeLaid};
 ghost use Rattle.gos_expand.specs.SmallPools.{SkipIsRaised, SkipIsNotTwice, PortIsNotTwice};
 
-/// The gates of each kind in range keep the laws, and what is asked of paths without registers. They are few for the
-/// handshakes of their part.
+/// The gates of each kind in range keep the laws, by each order that they are made for, what is asked of an accepted netlist,
+/// and what is asked of paths without registers. They are few for the handshakes of their part.
 pub fn gates_keep()
     ensures keep { AllKeep }
+    ensures fit { AllFit }
     ensures paths { AllKeepPaths }
     ensures few { AreFew }
 {}
@@ -52,6 +53,13 @@ pub fn into_pools()
     ensures ports { PortIsNotTwice }
 {}
 
+/// The netlist of a plan is accepted where it has no combinational cycle, however it is laid out. It has no more cells than the
+/// plan's size, where each order that gates are made for is of as many handshakes as the part has.
+pub fn circuits_are_accepted()
+    ensures accepted { CircuitIsAccepted }
+    ensures few { CircuitIsSmall }
+{}
+
 /// The netlist of a plan is accepted where it has no combinational cycle, whichever directions of joints keep their
 /// registers: its nets are there, and widths and ports are right. It has no combinational cycle where all keep them. It
 /// has no more cells than the plan's size.
@@ -71,6 +79,13 @@ pub fn lists_of_facts()
 /// joints keep their registers, where it has no combinational cycle.
 pub fn cycles_are_lists()
     ensures { LaidMakesLists }
+{}
+
+/// The cycles of the netlist of a plan are lists of the plan, and prompt, where ranks go up wherever what comes in passes on in one
+/// cycle, and each order that gates are made for is that of the ranks. Its outputs are silent, where its inputs are clean.
+pub fn circuits_make_lists()
+    ensures lists { CircuitMakesLists }
+    ensures silent { CircuitStaysSilent }
 {}
 
 /// No number goes out of such a netlist without its pulse, where none comes in so: then each output's number is 0 in a

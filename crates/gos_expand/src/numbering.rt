@@ -8,10 +8,10 @@ ghost use Rattle.gos_plan.specs.Seen.{plan_of, part_of, end_of, joint_of};
 ghost use Rattle.gos_plan.specs.Size.{plan_size, shakes_of};
 ghost use Rattle.gos_plan.specs.Ranges.{IsInRange};
 ghost use Rattle.gos_expand.specs.Blocks.{total};
-ghost use Rattle.gos_expand.specs.Gates.{part_size};
+ghost use Rattle.gos_expand.specs.Gates.{ForEach, part_size};
 ghost use Rattle.gos_expand.specs.Starts.{
-  Keep,
-  chosen,
+  Laying,
+  chosen, plain,
   kept_size,
   shake_size,
   port_size,
@@ -139,8 +139,8 @@ fn number_joints(arrivals: &mut Arrivals, plan: &Plan, keep: &[bool], from: u32)
     requires table { AreAt (plan_of plan.now) (λ e. None) arrivals.old }
     requires from { from ≡ joints_start (plan_of plan.now) }
     requires room { from + 4 * length plan.now.joints ≤ 4294967295 }
-    ensures table { AreAt (plan_of plan.now) (joined_start (chosen keep.now) (plan_of plan.now)) arrivals.new }
-    ensures next { result ≡ loose_ends_start (chosen keep.now) (plan_of plan.now) }
+    ensures table { AreAt (plan_of plan.now) (joined_start (plain (chosen keep.now)) (plan_of plan.now)) arrivals.new }
+    ensures next { result ≡ loose_ends_start (plain (chosen keep.now)) (plan_of plan.now) }
     ensures few { result ≤ from + 4 * length plan.now.joints }
     ensures right { IsRight (plan_of plan.now) }
 {
@@ -166,11 +166,11 @@ fn origin(kept: bool, start: u32, other: End) -> Origin
 // Numbers the registers of a joint that are kept: first those of the request. Gives what comes behind them.
 fn number_joint(arrivals: &mut Arrivals, joint: Joint, kept: (bool, bool), from: u32) -> u32
     requires { from + 4 ≤ 4294967295 }
-    ensures table { (keep : Keep) (p : APlan) (x : ℕ) (f : AnEnd → Option AnOrigin)
-        → keep x Request ≡ kept.0 → keep x Answer ≡ kept.1 → AreAt p f arrivals.old
-        → AreAt p (λ e. or_else (f e) (start_by keep p x from (joint_of joint) e)) arrivals.new }
-    ensures next { (keep : Keep) (p : APlan) (x : ℕ) (f : AnEnd → Option AnOrigin)
-        → keep x Request ≡ kept.0 → keep x Answer ≡ kept.1 → AreAt p f arrivals.old → result ≡ from + joint_size keep p x (joint_of joint) }
+    ensures table { (lay : Laying) (p : APlan) (x : ℕ) (f : AnEnd → Option AnOrigin)
+        → lay.keep x Request ≡ kept.0 → lay.keep x Answer ≡ kept.1 → AreAt p f arrivals.old
+        → AreAt p (λ e. or_else (f e) (start_by lay p x from (joint_of joint) e)) arrivals.new }
+    ensures next { (lay : Laying) (p : APlan) (x : ℕ) (f : AnEnd → Option AnOrigin)
+        → lay.keep x Request ≡ kept.0 → lay.keep x Answer ≡ kept.1 → AreAt p f arrivals.old → result ≡ from + joint_size lay p x (joint_of joint) }
     ensures few { result ≤ from + 4 }
 {
     let (request, answer) = joint_sizes(arrivals, joint, kept);
@@ -208,7 +208,7 @@ fn kept_size(kept: bool, bits: u32) -> u32
 fn loose_ends(alloc: Global, plan: &Plan, arrivals: &Arrivals) -> Result<Vec<End>, NoMemory>
     requires ports { HasGroundPorts plan.now }
     requires size { plan_size (plan_of plan.now) ≤ 5000000 }
-    requires table { (keep : Keep) × AreAt (plan_of plan.now) (joined_start keep (plan_of plan.now)) arrivals.now }
+    requires table { (lay : Laying) × AreAt (plan_of plan.now) (joined_start lay (plan_of plan.now)) arrivals.now }
     ensures ends { IfOk result (λ ends. map end_of ends.items ≡ loose_ends (plan_of plan.now)) }
     ensures few { IfOk result (λ ends. length ends.items ≤ 2 * (length plan.now.imports + 1) + shakes_of (plan_of plan.now).parts) }
 {
@@ -219,7 +219,7 @@ fn loose_ends(alloc: Global, plan: &Plan, arrivals: &Arrivals) -> Result<Vec<End
 
 // Those of these ends at which nothing comes in by a joint.
 fn free_ends(alloc: Global, ends: &[End], arrivals: &Arrivals) -> Result<Vec<End>, NoMemory>
-    ensures free { IfOk result (λ free. (keep : Keep) (p : APlan) → AreAt p (joined_start keep p) arrivals.now → Exist p (map end_of ends.now)
+    ensures free { IfOk result (λ free. (lay : Laying) (p : APlan) → AreAt p (joined_start lay p) arrivals.now → Exist p (map end_of ends.now)
         → map end_of free.items ≡ filter (λ e. is_free e p.joints) (map end_of ends.now)) }
     ensures few { IfOk result (λ free. length free.items ≤ length ends.now) }
 {
@@ -275,7 +275,7 @@ fn number_parts(alloc: Global, plan: &Plan, from: u32) -> Result<(Departures, u3
     requires size { plan_size (plan_of plan.now) ≤ 5000000 }
     requires room { from ≤ 1000000000 }
     ensures departures { IfOk result (λ r. map (λ s. map held_nets s.items) r.0.parts.items ≡ departures_from from (plan_of plan.now).parts) }
-    ensures next { IfOk result (λ r. r.1 ≡ from + total (λ _ k. part_size k) 0 (plan_of plan.now).parts) }
+    ensures next { IfOk result (λ r. r.1 ≡ from + total (λ _ k. part_size ForEach k) 0 (plan_of plan.now).parts) }
     ensures few { IfOk result (λ r. r.1 ≤ from + 24 * (length plan.now.parts + shakes_of (plan_of plan.now).parts)) }
 {
     let mut parts = Vec::new(alloc);
@@ -291,7 +291,7 @@ fn number_parts(alloc: Global, plan: &Plan, from: u32) -> Result<(Departures, u3
 // How many cells a part has.
 fn part_cells(kind: &Kind) -> u32
     requires in_range { IsInRange kind.now }
-    ensures is { result ≡ part_size (part_of kind.now) }
+    ensures is { result ≡ part_size ForEach (part_of kind.now) }
     ensures few { result ≤ 24 * (length (part_contacts (part_of kind.now)) + 1) }
 {
     gates_of(kind).size()

@@ -7,7 +7,7 @@ ghost use Rattle.gos_plan.specs.Plans.{contact_at, IsRight};
 ghost use Rattle.gos_plan.specs.Seen.{plan_of, joint_of, end_of};
 ghost use Rattle.gos_macro.specs.Wires.{incoming_of};
 ghost use Rattle.gos_expand.specs.Blocks.{blocks};
-ghost use Rattle.gos_expand.specs.Gates.{part_size};
+ghost use Rattle.gos_expand.specs.Gates.{ForEach, part_size};
 ghost use Rattle.gos_expand.specs.Starts.{kept_size, shake_size, joint_size, ports_of, taken_ports, loose_ends, part_start, parts_start};
 ghost use Rattle.gos_expand.specs.Laid.{registers_if, leaves, side_cells, port_cells, joint_cells, loose_cells, part_cells, incoming};
 ghost use Rattle.gos_expand.specs.inner.Tokens.{held_nets, Places};
@@ -247,7 +247,7 @@ fn place_part(pool: &mut NetPool, plan: &Plan, numbering: &Numbering<'_>, index:
     requires there { index < length plan.now.parts }
     requires begun { pool.old.begun ≡ None }
     requires start { length pool.old.cells ≡ part_start (keep_in numbering.now) (plan_of plan.now) index }
-    requires spare { (k : Part) → slice_get (plan_of plan.now).parts index ≡ Some k → part_size k + 1 ≤ pool.old.spare }
+    requires spare { (k : Part) → slice_get (plan_of plan.now).parts index ≡ Some k → part_size ForEach k + 1 ≤ pool.old.spare }
     ensures { (k : Part) → slice_get (plan_of plan.now).parts index ≡ Some k
         → Places pool.old pool.new (part_cells (keep_in numbering.now) (plan_of plan.now) index k) 1 }
 {

@@ -2,6 +2,7 @@
 pub mod Thread
 pub mod Fast
 pub mod Made
+pub mod Layout
 pub mod Order
 pub mod SmallFast
 pub mod inner

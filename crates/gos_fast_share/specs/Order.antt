@@ -10,6 +10,7 @@ use Rattle.gos_plan.specs.Tokens.{shake_of}
 use Rattle.gos_macro.specs.Gates.{nothing_pending}
 use Rattle.gos_macro.specs.Law.{Order, IsAbove, early_in_order, LawInOrder}
 use Rattle.gos_macro.specs.Kept.{KeepLaws}
+use Rattle.gos_macro.specs.Fit.{GatesFit}
 use Rattle.gos_macro.specs.Paths.{KeepPaths}
 use Rattle.gos_fast_share.specs.Made.{Made}
 use Rattle.gos_fast_share.specs.Fast.{fast_cells, fast_outs, fast_passing, FastStands}
@@ -36,7 +37,11 @@ FastLaw t order rank = LawInOrder (Share t) (fast_cells (contacts_of t) order) (
 abbrev pub FastKeep : Type 0
 FastKeep = (t : Ty) (order : List ℕ) (rank : Order) → IsSmall t → IsByRank (type_of t) order rank → FastGates (type_of t) order rank
 
--- Those that are made for any order keep what is asked of paths.
+-- Those that are made for any order keep what is asked of an accepted netlist, and of paths.
+abbrev pub FastFit : Type 0
+FastFit =
+    (t : Ty) (order : List ℕ) → IsSmall t → GatesFit (Share (type_of t)) (fast_cells (contacts_of (type_of t)) order) (fast_outs (contacts_of (type_of t)) order)
+
 abbrev pub FastPaths : Type' → List ℕ → Type 0
 FastPaths t order =
     KeepPaths (Share t) (fast_cells (contacts_of t) order) (fast_outs (contacts_of t) order) [] (fast_passing (contacts_of t) order)

@@ -1,11 +1,12 @@
 // What the definitions give. Each theorem is the contract of a function that does nothing.
-ghost use Rattle.gos_fast_share.specs.Order.{OneTopTells, FastKeep, FastKeepPaths};
+ghost use Rattle.gos_fast_share.specs.Order.{OneTopTells, FastKeep, FastFit, FastKeepPaths};
 ghost use Rattle.gos_fast_share.specs.SmallFast.{BranchFollows, CommandIsLaid, AnswerIsLaid, RequestsAreFirst, AnswerIsNotFirst, CommandKeeps, OtherOrderFails, FixedOrderFails, LastAnswerLoops};
 
 /// The gates of a Share by order keep the laws at each type, where the ranks of its handshakes are those of the order that
 /// they were made for, and in each order what is asked of paths. One number above all ranks tells whether they are.
 pub fn fast_shares_keep()
     ensures keep { FastKeep }
+    ensures fit { FastFit }
     ensures paths { FastKeepPaths }
     ensures top { OneTopTells }
 {}

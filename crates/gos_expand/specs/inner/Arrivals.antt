@@ -15,7 +15,7 @@ use Rattle.gos_expand.specs.declared.arrivals.Origin.TheVariants.{Cells, Other}
 use Rattle.gos_expand.specs.declared.arrivals.Arrival.{Arrival}
 use Rattle.gos_expand.specs.declared.arrivals.Arrivals.{Arrivals}
 use Rattle.gos_expand.specs.Blocks.{Nets, nets_from}
-use Rattle.gos_expand.specs.Starts.{Keep, way_size, joint_size, loose_size, joints_start, loose_ends_start, loose_ends}
+use Rattle.gos_expand.specs.Starts.{Laying, way_size, joint_size, loose_size, joints_start, loose_ends_start, loose_ends}
 
 -- an end, as the program holds it
 abbrev pub held_end : End → declared.End
@@ -73,15 +73,15 @@ by_way true n other = Cells n
 by_way false n other = Other (held_end other)
 
 -- where what comes in at an end begins by joint x whose first cell is n
-abbrev pub start_by : Keep → Plan → ℕ → ℕ → Joint → End → Option Origin
-start_by keep p x n j e =
-    or_else (some_if (same_end e j.asking) (by_way (keep x Answer) (n + way_size keep p x j Request) j.serving))
-    (some_if (same_end e j.serving) (by_way (keep x Request) n j.asking))
+abbrev pub start_by : Laying → Plan → ℕ → ℕ → Joint → End → Option Origin
+start_by lay p x n j e =
+    or_else (some_if (same_end e j.asking) (by_way (lay.keep x Answer) (n + way_size lay p x j Request) j.serving))
+    (some_if (same_end e j.serving) (by_way (lay.keep x Request) n j.asking))
 
 -- by these joints, of which the first is joint x
-abbrev pub start_by_joints : Keep → Plan → ℕ → ℕ → List Joint → End → Option Origin
-start_by_joints keep p x n [] e = None
-start_by_joints keep p x n (j ∷ js) e = or_else (start_by keep p x n j e) (start_by_joints keep p (suc x) (n + joint_size keep p x j) js e)
+abbrev pub start_by_joints : Laying → Plan → ℕ → ℕ → List Joint → End → Option Origin
+start_by_joints lay p x n [] e = None
+start_by_joints lay p x n (j ∷ js) e = or_else (start_by lay p x n j e) (start_by_joints lay p (suc x) (n + joint_size lay p x j) js e)
 
 -- where it begins among these ends, of which the first begins at net n
 abbrev pub start_by_ends : Plan → ℕ → List End → End → Option Origin
@@ -89,11 +89,11 @@ start_by_ends p n [] e = None
 start_by_ends p n (d ∷ ds) e = or_else (some_if (same_end e d) (Cells n)) (start_by_ends p (n + loose_size p 0 d) ds e)
 
 -- by the plan's joints, and at all ends
-abbrev pub joined_start : Keep → Plan → End → Option Origin
-joined_start keep p = start_by_joints keep p 0 (joints_start p) p.joints
+abbrev pub joined_start : Laying → Plan → End → Option Origin
+joined_start lay p = start_by_joints lay p 0 (joints_start p) p.joints
 
-abbrev pub start_at : Keep → Plan → End → Option Origin
-start_at keep p e = or_else (joined_start keep p e) (start_by_ends p (loose_ends_start keep p) (loose_ends p) e)
+abbrev pub start_at : Laying → Plan → End → Option Origin
+start_at lay p e = or_else (joined_start lay p e) (start_by_ends p (loose_ends_start lay p) (loose_ends p) e)
 
 -- The nets of what comes in, of so many bits, where these leave at other ends; `rest` is where it begins if that isn't known.
 abbrev pub nets_by : (End → Nets) → ℕ → ℕ → Option Origin → Nets

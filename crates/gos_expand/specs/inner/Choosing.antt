@@ -13,10 +13,10 @@ use Rattle.gos_expand.specs.declared.arrivals.Origin.TheVariants.{Cells, Other}
 use Rattle.gos_expand.specs.declared.arrivals.Arrival.{Arrival}
 use Rattle.gos_expand.specs.declared.arrivals.Arrivals.{Arrivals}
 use Rattle.gos_expand.specs.declared.choosing.Directions as declared
-use Rattle.gos_expand.specs.Gates.{passing_of}
+use Rattle.gos_expand.specs.Gates.{ForEach, passing_of}
 use Rattle.gos_expand.specs.declared.whole.Policy.{Policy}
 use Rattle.gos_expand.specs.declared.whole.Policy.TheVariants as policies
-use Rattle.gos_expand.specs.Starts.{keep_all, chosen, place_of}
+use Rattle.gos_expand.specs.Starts.{keep_all, chosen, plain, place_of}
 use Rattle.gos_expand.specs.Choices.{left_out_at}
 use Rattle.gos_expand.specs.Rings.{HasRing}
 use Rattle.gos_expand.specs.inner.Arrivals.{or_else, some_if, arrival_at}
@@ -90,7 +90,7 @@ pub record IsPassage (d : ℕ) (table : Arrivals) (part from to a b : ℕ) : Typ
 
 -- where the kind of the part passes it on, to the first n handshakes, from the first n, or of the first n parts
 abbrev pub PassesTo : ℕ → Arrivals → Part → ℕ → ℕ → ℕ → ℕ → ℕ → Type 0
-PassesTo d table k part from n a b = (to : ℕ) × (to < n) × (passing_of k from to ≡ true) × IsPassage d table part from to a b
+PassesTo d table k part from n a b = (to : ℕ) × (to < n) × (passing_of ForEach k from to ≡ true) × IsPassage d table part from to a b
 
 abbrev pub PassesFrom : ℕ → Arrivals → Part → ℕ → ℕ → ℕ → ℕ → Type 0
 PassesFrom d table k part n a b = (from : ℕ) × (from < n) × PassesTo d table k part from (length (part_contacts k)) a b
@@ -113,9 +113,9 @@ pub record AreFew (d : ℕ) (edges : List Edge) (keeps : List Bool) : Type 0 whe
 -- so it is of all directions of a plan, in terms of its rings
 pub record KeepsFewRings (p : Plan) (keeps : List Bool) : Type 0 where
   pub all : length keeps ≡ directions p
-  pub kept : (n : ℕ) → slice_get keeps n ≡ Some true → HasRing (left_out_at (chosen keeps) n) p
-  pub left_out : (n : ℕ) → slice_get keeps n ≡ Some false → HasRing (left_out_at (chosen keeps) n) p → ⊥
-  pub ringless : HasRing (chosen keeps) p → ⊥
+  pub kept : (n : ℕ) → slice_get keeps n ≡ Some true → HasRing (plain (left_out_at (chosen keeps) n)) p
+  pub left_out : (n : ℕ) → slice_get keeps n ≡ Some false → HasRing (plain (left_out_at (chosen keeps) n)) p → ⊥
+  pub ringless : HasRing (plain (chosen keeps)) p → ⊥
 
 -- the choice of a policy
 abbrev pub IsChoiceOf : Policy → Plan → List Bool → Type 0

@@ -8,7 +8,7 @@ use Rattle.gos_plan.specs.Contacts.{contact_held}
 use Rattle.gos_macro.specs.declared.gates.Wire.{Wire}
 use Rattle.gos_macro.specs.Gates.{Outgoing, bits_out}
 use Rattle.gos_expand.specs.Blocks.{Nets}
-use Rattle.gos_expand.specs.Gates.{outs_of, part_size}
+use Rattle.gos_expand.specs.Gates.{ForEach, outs_of, part_size}
 use Rattle.gos_expand.specs.Laid.{nets_out}
 
 -- the nets of what goes out by a wire at a handshake
@@ -29,12 +29,12 @@ nets_of_outs (c ∷ cs) (o ∷ os) = nets_out (Some o) ∷ nets_of_outs cs os
 
 -- the nets of what goes out of a part whose first cell is net n, by handshake
 abbrev pub part_departures : Part → ℕ → List Nets
-part_departures k n = nets_of_outs (part_contacts k) (outs_of k n)
+part_departures k n = nets_of_outs (part_contacts k) (outs_of ForEach k n)
 
 -- those of parts, the first of which begins at net n
 abbrev pub departures_from : ℕ → List Part → List (List Nets)
 departures_from n [] = []
-departures_from n (k ∷ ks) = part_departures k n ∷ departures_from (n + part_size k) ks
+departures_from n (k ∷ ks) = part_departures k n ∷ departures_from (n + part_size ForEach k) ks
 
 -- the nets at a handshake of a part
 abbrev pub nets_in : Option (List Nets) → ℕ → Option Nets

@@ -6,7 +6,7 @@ use Rattle.std.specs.Prelude.{◌≡◌, ◌+◌, ◌<◌, ℕ, false, true, len
 use Rattle.gos_types.specs.Events.{Direction}
 use Rattle.gos_plan.specs.Kinds.{Part, part_contacts}
 use Rattle.gos_plan.specs.Plans.{End, PartEnd, Joint, Plan}
-use Rattle.gos_expand.specs.Gates.{passing_of}
+use Rattle.gos_expand.specs.Gates.{ForEach, passing_of}
 use Rattle.gos_expand.specs.Starts.{Keep, place_of}
 use Rattle.gos_expand.specs.Facts.{source, target}
 
@@ -40,7 +40,7 @@ pub record PassesThrough (p : Plan) (first second : ℕ) : Type 0 where
   pub to : ℕ
   pub to_there : to < length (part_contacts kind)
   pub leaves : LeavesAt p second (PartEnd part to)
-  pub passes : passing_of kind from to ≡ true
+  pub passes : passing_of ForEach kind from to ≡ true
 
 -- an edge through a part, and one along a direction without registers
 abbrev pub IsInner : Plan → ℕ → ℕ → Type 0

@@ -10,7 +10,7 @@ use Rattle.gos_expand.specs.declared.places.Place.TheVariants as places
 use Rattle.gos_expand.specs.declared.numbering.Numbering.{Numbering}
 use Rattle.gos_expand.specs.Blocks.{total}
 use Rattle.gos_expand.specs.Gates.{part_size}
-use Rattle.gos_expand.specs.Starts.{Keep, chosen, port_size, ports_of, loose_ends, parts_start}
+use Rattle.gos_expand.specs.Starts.{Laying, chosen, plain, port_size, ports_of, loose_ends, parts_start}
 use Rattle.gos_expand.specs.inner.Tokens.{held_nets}
 use Rattle.gos_expand.specs.inner.Arrivals.{AreAt, start_at}
 use Rattle.gos_expand.specs.inner.Departures.{departures_from}
@@ -32,12 +32,12 @@ ends_from end h zero = []
 ends_from end h (suc n) = end h ∷ ends_from end (suc h) n
 
 -- how many cells there are
-abbrev pub laid_size : Keep → Plan → ℕ
-laid_size keep p = parts_start keep p + total (λ _ k. part_size k) 0 p.parts
+abbrev pub laid_size : Laying → Plan → ℕ
+laid_size lay p = parts_start lay p + total (λ n k. part_size (lay.making n) k) 0 p.parts
 
 -- which directions of joints keep their registers
-abbrev pub keep_in : Numbering → Keep
-keep_in n = chosen n.keep.now
+abbrev pub keep_in : Numbering → Laying
+keep_in n = plain (chosen n.keep.now)
 
 -- the program's numbers are those of the plan
 pub record IsNumbered (p : Plan) (n : Numbering) : Type 0 where

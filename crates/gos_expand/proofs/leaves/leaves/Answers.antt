@@ -8,7 +8,7 @@ use Rattle.gos_plan.specs.declared.plan.PlanImport.{PlanImport}
 use Rattle.gos_plan.specs.Kinds.{contacts_of}
 use Rattle.gos_plan.specs.Plans.{Plan, contact_at}
 use Rattle.gos_plan.specs.Seen.{SeenPlan, plan_of, import_of, end_of}
-use Rattle.gos_expand.specs.Starts.{Keep, port_start}
+use Rattle.gos_expand.specs.Starts.{chosen, Laying, port_start}
 use Rattle.gos_expand.specs.inner.Arrivals.{start_at}
 use Rattle.gos_expand.specs.Laid.{leaves, request_start}
 use Rattle.gos_expand.proofs.ArriveLemmas.{entry_holds}
@@ -27,7 +27,7 @@ part_departs : (plan : SeenPlan) (n : Numbering) (e : declared.End) (i h : ℕ) 
     → nets_in (slice_get (map (λ s. map held_nets s.items) n.departures.parts.items) i) h ≡ Some (leaves (keep_in n) (plan_of plan) (end_of e))
 part_departs plan n e i h numbered some is =
     let here = subst (λ (d : declared.End). IsSome (contact_at (plan_of plan) (end_of d))) is some in
-    departs (keep_in n) (plan_of plan) (map (λ s. map held_nets s.items) n.departures.parts.items) i h numbered.of_departures here
+    departs (chosen n.keep.now) (plan_of plan) (map (λ s. map held_nets s.items) n.departures.parts.items) i h numbered.of_departures here
     ∙ sym (ap (λ (d : declared.End). Some (leaves (keep_in n) (plan_of plan) (end_of d))) is)
 
 pub bounds-starts-import : goal.bounds-starts-import
@@ -77,7 +77,7 @@ nets_from-requires c =
 
 pub returns-in-Import : goal.returns-in-Import
 returns-in-Import c =
-    let keep : Keep = keep_in c.args.numbering.now in
+    let lay : Laying = keep_in c.args.numbering.now in
     let p : Plan = plan_of c.args.plan.now in
     let e = end_of c.args.end in
     let i = c.in-Import.import in
@@ -87,13 +87,13 @@ returns-in-Import c =
     let here = this_import c.args.plan.now c.args.numbering.now c.args.end i h c.imports.result.now x c.requires.numbered c.requires.there c.in-Import.is c.imports.ensures c.index-imports-import.is in
     let base = import_base starts here c.as_slice-starts.ensures.value in
     let seen : contact_at p e ≡ Some here.contact = ap (λ (y : declared.End). contact_at p (end_of y)) c.in-Import.is ∙ (rw (here.there) (here.shake)) in
-    let holds = entry_holds (start_at keep p e) (contact_at p e) c.in-Some.entry here.contact (sym c.in-Some.is ∙ (c.get.ensures ∙ c.requires.numbered.of_arrivals e)) seen in
+    let holds = entry_holds (start_at lay p e) (contact_at p e) c.in-Some.entry here.contact (sym c.in-Some.is ∙ (c.get.ensures ∙ c.requires.numbered.of_arrivals e)) seen in
     let answer = ap (λ (d : held.Contact). d.answer_bits) holds in
     let ask = ap (λ (d : held.Contact). d.ask_bits) holds in
     let request = c.request_start-request.ensures.is ∙ ap (λ (y : PlanImport). request_start (get_or starts (i + 1) 0) (contacts_of (type_of y.ty)) h) (sym c.index-imports-import.is) in
     c.nets_from.ensures
-    ∙ (import_leaves_here keep p i h (get_or starts (i + 1) 0) c.request_start-request.result c.token_size.result c.in-Some.entry.contact.answer_bits c.in-Some.entry.contact.ask_bits (import_of x) here.contact here.there here.shake answer ask base request c.token_size.ensures.is
-    ∙ sym (ap (λ (y : declared.End). leaves keep p (end_of y)) c.in-Import.is))
+    ∙ (import_leaves_here lay p i h (get_or starts (i + 1) 0) c.request_start-request.result c.token_size.result c.in-Some.entry.contact.answer_bits c.in-Some.entry.contact.ask_bits (import_of x) here.contact here.there here.shake answer ask base request c.token_size.ensures.is
+    ∙ sym (ap (λ (y : declared.End). leaves lay p (end_of y)) c.in-Import.is))
 
 pub unreachable-requires-in_default-get : goal.unreachable-requires-in_default-get
 unreachable-requires-in_default-get c =

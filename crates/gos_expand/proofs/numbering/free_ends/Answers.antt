@@ -21,10 +21,10 @@ loop-end-preserved c =
     let end : declared.End = get_or c.args.ends.now i (ends.Part 0 0) in
     let there = there_mapped end_of i c.args.ends.now end (slice_get-get_or c.args.ends.now i (ends.Part 0 0) c.loop-end-test.true) in
     let low = c.loop-end.invariant.1 in (
-      (λ keep p are exist.
+      (λ lay p are exist.
           let test : c.is_loose.result ≡ is_free (end_of end) p.joints =
-          c.is_loose.ensures p (joined_start keep p) are (one_exists p ds i (end_of end) exist there) ∙ free_of_joints keep p 0 (joints_start p) p.joints (end_of end) in
-          let so_far = c.loop-end.invariant.0 keep p are exist in
+          c.is_loose.ensures p (joined_start lay p) are (one_exists p ds i (end_of end) exist there) ∙ free_of_joints lay p 0 (joints_start p) p.joints (end_of end) in
+          let so_far = c.loop-end.invariant.0 lay p are exist in
           elim c.if-is_loose.branch [
             | then-is_loose+in_ok-push w ↦ tested_in (λ e. is_free e p.joints) i ds end c.loop-end.free.items c.if-is_loose.free.items there (sym test ∙ w.if-is_loose.true) so_far (ap (λ (v : Vec declared.End Global). v.items) w.free-is ∙ w.in_ok-push.ensures.items)
             | else-is_loose w ↦ ap (λ (v : Vec declared.End Global). map end_of v.items) w.free-is ∙ tested_out (λ e. is_free e p.joints) i ds end c.loop-end.free.items there (sym test ∙ w.if-is_loose.false) so_far
@@ -38,6 +38,6 @@ loop-end-preserved c =
     )
 
 pub returns-clause-free : goal.returns-clause-free
-returns-clause-free c = λ keep p are exist.
-    c.loop-end.invariant.0 keep p are exist
+returns-clause-free c = λ lay p are exist.
+    c.loop-end.invariant.0 lay p are exist
     ∙ ap (filter (λ e. is_free e p.joints)) (all_mapped end_of c.loop-end.end-index c.args.ends.now c.loop-end-test.false)

@@ -5,22 +5,22 @@ use Rattle.gos_plan.specs.Size.{shakes_of}
 use Rattle.std.proofs.lemmas.List.{length-map}
 use Rattle.gos_expand.specs.Blocks.{total}
 use Rattle.gos_expand.specs.Gates.{part_size}
-use Rattle.gos_expand.specs.Starts.{Keep, chosen, loose_size, loose_ends, loose_ends_start, parts_start}
+use Rattle.gos_expand.specs.Starts.{Laying, plain, chosen, loose_size, loose_ends, loose_ends_start, parts_start}
 use Rattle.gos_expand.specs.inner.Arrivals.{AreAt, or_else, start_by_ends, joined_start}
 use Rattle.gos_expand.specs.inner.Departures.{departures_from}
 use Rattle.gos_expand.proofs.numbering.number.Goals as goal
 
 pub returns-clause-numbered : goal.returns-clause-numbered
 returns-clause-numbered c =
-    let keep : Keep = chosen c.args.keep.now in
+    let lay : Laying = plain (chosen c.args.keep.now) in
     let p : Plan = plan_of c.args.plan.now in
     let from = c.number_joints-loose_start.ensures.next in
     let ends : map end_of c.deref.result.now ≡ loose_ends p = rw (c.deref.ensures.value) c.in_ok-loose.ensures.ends in
     let joined = c.number_joints-loose_start.ensures.table in
-    let first : c.number_loose-parts_start.result ≡ parts_start keep p =
-    c.number_loose-parts_start.ensures.next p (joined_start keep p) joined
+    let first : c.number_loose-parts_start.result ≡ parts_start lay p =
+    c.number_loose-parts_start.ensures.next p (joined_start lay p) joined
     ∙ (ap (λ (n : ℕ). n + total (loose_size p) 0 (map end_of c.deref.result.now)) from
-    ∙ ap (λ (es : List End). loose_ends_start keep p + total (loose_size p) 0 es) ends) in
+    ∙ ap (λ (es : List End). loose_ends_start lay p + total (loose_size p) 0 es) ends) in
     let ports = c.in_ok-ports.ensures.few in
     let joints = c.number_joints-loose_start.ensures.few in
     let loose = c.number_loose-parts_start.ensures.few in
@@ -29,14 +29,14 @@ returns-clause-numbered c =
     let size = c.requires.size in
     record {
       of_arrivals =
-          subst (λ (n : ℕ). AreAt p (λ e. or_else (joined_start keep p e) (start_by_ends p n (loose_ends p) e)) c.number_loose-parts_start.new.arrivals) from
-          (subst (λ (es : List End). AreAt p (λ e. or_else (joined_start keep p e) (start_by_ends p c.number_joints-loose_start.result es e)) c.number_loose-parts_start.new.arrivals) ends
-          (c.number_loose-parts_start.ensures.table p (joined_start keep p) joined));
+          subst (λ (n : ℕ). AreAt p (λ e. or_else (joined_start lay p e) (start_by_ends p n (loose_ends p) e)) c.number_loose-parts_start.new.arrivals) from
+          (subst (λ (es : List End). AreAt p (λ e. or_else (joined_start lay p e) (start_by_ends p c.number_joints-loose_start.result es e)) c.number_loose-parts_start.new.arrivals) ends
+          (c.number_loose-parts_start.ensures.table p (joined_start lay p) joined));
       of_loose = c.in_ok-loose.ensures.ends;
       of_ports = c.in_ok-ports.ensures.starts;
       of_departures = c.in_ok-departures.ensures.departures ∙ ap (λ (n : ℕ). departures_from n p.parts) first;
       first_part = first;
       room = omega (arith, ports, joints, loose, all_loose, parts, size, length-map c.args.plan.now.parts part_of, length-map c.args.plan.now.joints joint_of, length-map c.args.plan.now.imports import_of);
       few = omega (arith, ports, joints, loose, all_loose, parts, length-map c.args.plan.now.parts part_of, length-map c.args.plan.now.joints joint_of, length-map c.args.plan.now.imports import_of);
-      whole = c.in_ok-departures.ensures.next ∙ ap (λ (n : ℕ). n + total (λ _ k. part_size k) 0 p.parts) first;
+      whole = c.in_ok-departures.ensures.next ∙ ap (λ (n : ℕ). n + total (λ n k. part_size (lay.making n) k) 0 p.parts) first;
     }

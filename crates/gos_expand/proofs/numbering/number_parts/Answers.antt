@@ -3,7 +3,7 @@ use Rattle.std.proofs.lemmas.List.{length-map, map-append}
 use Rattle.gos_plan.specs.Kinds.{Part}
 use Rattle.gos_plan.specs.Seen.{part_of}
 use Rattle.gos_expand.specs.Blocks.{Nets}
-use Rattle.gos_expand.specs.Gates.{part_size}
+use Rattle.gos_expand.specs.Gates.{ForEach, part_size}
 use Rattle.gos_expand.specs.inner.Tokens.{held_nets}
 use Rattle.gos_expand.specs.inner.Departures.{part_departures, departures_from}
 use Rattle.gos_expand.proofs.BlockLemmas.{item_mapped, total_more}
@@ -21,7 +21,7 @@ loop-kind-preserved c =
     let low = c.loop-kind.invariant.2 in
     let size = c.part_cells-size.ensures.is in
     let few = c.part_cells-size.ensures.few in
-    let more = total_more (λ _ k. part_size k) 0 i ks k there in
+    let more = total_more (λ _ k. part_size ForEach k) 0 i ks k there in
     let shakes = shakes_more i ks k there in
     let nets : List Nets = map held_nets c.in_ok-part_departures.field-0.items in (
       ap (map (λ s. map held_nets s.items)) c.in_ok-push.ensures.items

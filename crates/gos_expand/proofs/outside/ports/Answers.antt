@@ -7,7 +7,7 @@ use Rattle.gos_plan.specs.Kinds.{contacts_of}
 use Rattle.gos_plan.specs.Plans.{Plan}
 use Rattle.gos_plan.specs.Seen.{plan_of, import_of}
 use Rattle.gos_expand.specs.Blocks.{nets_on, total}
-use Rattle.gos_expand.specs.Starts.{Keep, shake_size, port_start}
+use Rattle.gos_expand.specs.Starts.{Laying, shake_size, port_start}
 use Rattle.gos_expand.specs.Laid.{laid_port}
 use Rattle.gos_expand.proofs.BlockLemmas.{item_mapped}
 use Rattle.gos_expand.proofs.EndLemmas.{import_begins, import_ends_within, port_added}
@@ -30,7 +30,7 @@ bounds-starts-index c =
 
 pub port-requires-in-loop-index-clause-room : goal.port-requires-in-loop-index-clause-room
 port-requires-in-loop-index-clause-room c =
-    let keep : Keep = keep_in c.args.numbering.now in
+    let lay : Laying = keep_in c.args.numbering.now in
     let p : Plan = plan_of c.args.plan.now in
     let i : ℕ = c.loop-index.index in
     let x : PlanImport = c.index-imports-index.result in
@@ -38,7 +38,7 @@ port-requires-in-loop-index-clause-room c =
     let begins = import_begins p c.args.numbering.now.ports.items i (import_of x) c.requires.numbered.of_ports there in
     let start : get_or c.as_slice-starts.result.now (i + 1) 0 ≡ port_start p (i + 1) =
     rw (c.as_slice-starts.ensures.value) (get_or_from_slice_get c.args.numbering.now.ports.items (i + 1) (port_start p (i + 1)) 0 begins) in
-    let within = import_ends_within keep p i (import_of x) there in
+    let within = import_ends_within lay p i (import_of x) there in
     let whole = c.requires.numbered.whole in
     let room = c.requires.numbered.room in
     omega (arith, start, within, whole, room)

@@ -5,7 +5,7 @@ use Rattle.gos_plan.specs.declared.plan.Joint as declared
 use Rattle.gos_plan.specs.declared.plan.End.TheVariants as ends
 use Rattle.gos_plan.specs.Plans.{Joint, Plan}
 use Rattle.gos_plan.specs.Seen.{plan_of, joint_of}
-use Rattle.gos_expand.specs.Starts.{Keep, joint_size}
+use Rattle.gos_expand.specs.Starts.{Laying, joint_size}
 use Rattle.gos_expand.specs.Laid.{joint_cells}
 use Rattle.gos_expand.proofs.CountLemmas.{indexed_mapped, asking_there, serving_there}
 use Rattle.gos_expand.proofs.GroupLemmas.{joint_length}
@@ -39,7 +39,7 @@ place_joint-requires-clause-serves c =
 
 pub place_joint-requires-clause-spare : goal.place_joint-requires-clause-spare
 place_joint-requires-clause-spare c =
-    let keep : Keep = keep_in c.args.numbering.now in
+    let lay : Laying = keep_in c.args.numbering.now in
     let p : Plan = plan_of c.args.plan.now in
     let i : ℕ = c.loop-index.index in
     let none : declared.Joint = record { asks = ends.Part 0 0; serves = ends.Part 0 0 } in
@@ -47,18 +47,18 @@ place_joint-requires-clause-spare c =
     let there = indexed_mapped joint_of i c.joints-joints.result.now c.args.plan.now.joints none c.joints-joints.ensures.value c.loop-index-test.true in
     let same = ap (λ (q : Pool). q.spare) c.begin-region.ensures.begun in
     let spare = c.requires.spare in
-    let size : length (joint_cells keep p i joint) ≡ joint_size keep p i joint = joint_length keep p i joint in
-    let fits = block_fits (joint_cells keep p) i 0 1 p.joints joint c.begin-region.new.self c.loop-index.pool there c.loop-index.invariant.0 (omega (arith, same, spare)) in
+    let size : length (joint_cells lay p i joint) ≡ joint_size lay p i joint = joint_length lay p i joint in
+    let fits = block_fits (joint_cells lay p) i 0 1 p.joints joint c.begin-region.new.self c.loop-index.pool there c.loop-index.invariant.0 (omega (arith, same, spare)) in
     omega (arith, fits, size)
 
 pub loop-index-preserved : goal.loop-index-preserved
 loop-index-preserved c =
-    let keep : Keep = keep_in c.args.numbering.now in
+    let lay : Laying = keep_in c.args.numbering.now in
     let p : Plan = plan_of c.args.plan.now in
     let i : ℕ = c.loop-index.index in
     let none : declared.Joint = record { asks = ends.Part 0 0; serves = ends.Part 0 0 } in
     let joint : Joint = joint_of (slice_index_or c.joints-joints.result.now i none) in
     let there = indexed_mapped joint_of i c.joints-joints.result.now c.args.plan.now.joints none c.joints-joints.ensures.value c.loop-index-test.true in (
-      block_placed (joint_cells keep p) i 0 0 p.joints joint c.begin-region.new.self c.loop-index.pool c.place_joint.new.pool there c.loop-index.invariant.0 c.place_joint.ensures.placed,
+      block_placed (joint_cells lay p) i 0 0 p.joints joint c.begin-region.new.self c.loop-index.pool c.place_joint.new.pool there c.loop-index.invariant.0 c.place_joint.ensures.placed,
       c.place_joint.ensures.region ∙ c.loop-index.invariant.1,
     )

@@ -7,10 +7,10 @@ use Rattle.gos_macro.specs.Gates.{Incoming}
 use Rattle.gos_plan.specs.Plans.{Plan}
 use Rattle.gos_macro.specs.Wires.{incoming_of}
 use Rattle.gos_plan.specs.Seen.{plan_of, part_of}
+use Rattle.gos_expand.specs.Starts.{Laying}
 use Rattle.gos_expand.specs.declared.gates.Gates.{Gates}
-use Rattle.gos_expand.specs.Gates.{layout, part_size}
+use Rattle.gos_expand.specs.Gates.{ForEach, layout, part_size}
 use Rattle.gos_expand.specs.inner.Dispatch.{gates_for, cells_in}
-use Rattle.gos_expand.specs.Starts.{Keep}
 use Rattle.gos_expand.specs.inner.Tokens.{Places}
 use Rattle.gos_expand.specs.Laid.{incoming, part_cells}
 use Rattle.gos_expand.proofs.BlockLemmas.{item_mapped}
@@ -23,20 +23,20 @@ use Rattle.gos_expand.specs.inner.Numbering.{keep_in}
 use Rattle.gos_expand.proofs.placing.place_part.Goals as goal
 
 -- the cells of these gates, and their number
-laid : (g : Gates) (k : Kind) (b : ℕ) (i : Incoming) → g ≡ gates_for k → cells_in g b i ≡ layout (part_of k) b i
+laid : (g : Gates) (k : Kind) (b : ℕ) (i : Incoming) → g ≡ gates_for k → cells_in g b i ≡ layout ForEach (part_of k) b i
 laid g k b i is = ap (λ (h : Gates). cells_in h b i) is ∙ ap (λ (f : ℕ → Incoming → List Cell). f b i) (cells_for k)
 
-sized : (g : Gates) (k : Kind) (b : ℕ) (i : Incoming) → g ≡ gates_for k → length (cells_in g b i) ≡ part_size (part_of k)
-sized g k b i is = ap (λ (cs : List Cell). length cs) (laid g k b i is) ∙ layout_length (part_of k) b i
+sized : (g : Gates) (k : Kind) (b : ℕ) (i : Incoming) → g ≡ gates_for k → length (cells_in g b i) ≡ part_size ForEach (part_of k)
+sized g k b i is = ap (λ (cs : List Cell). length cs) (laid g k b i is) ∙ layout_length ForEach (part_of k) b i
 
 pub outs-requires-clause-numbered : goal.outs-requires-clause-numbered
 outs-requires-clause-numbered c =
-    let keep : Keep = keep_in c.args.numbering.now in
+    let lay : Laying = keep_in c.args.numbering.now in
     let k : Kind = c.index-parts-index.result in
     let p : Plan = plan_of c.args.plan.now in
     let there = item_mapped part_of c.args.index c.parts.result.now c.args.plan.now.parts k c.parts.ensures.value (rw (c.parts.ensures.value) c.requires.there) c.index-parts-index.is in
     let size = sized c.gates_of-gates.result k c.start.result (incoming_of c.wire_part.new.wires) c.gates_of-gates.ensures.is in
-    let within = part_ends_within keep p c.args.index (part_of k) there in
+    let within = part_ends_within lay p c.args.index (part_of k) there in
     let first = c.start.ensures in
     let begin = c.begin-region.ensures.start in
     let start = c.requires.start in
@@ -55,12 +55,12 @@ place-requires-clause-spare c =
 
 pub place-requires-clause-numbered : goal.place-requires-clause-numbered
 place-requires-clause-numbered c =
-    let keep : Keep = keep_in c.args.numbering.now in
+    let lay : Laying = keep_in c.args.numbering.now in
     let k : Kind = c.index-parts-index.result in
     let p : Plan = plan_of c.args.plan.now in
     let there = item_mapped part_of c.args.index c.parts.result.now c.args.plan.now.parts k c.parts.ensures.value (rw (c.parts.ensures.value) c.requires.there) c.index-parts-index.is in
     let size = sized c.gates_of-gates.result k c.begin-region.result (incoming_of c.outs.new.wires) c.gates_of-gates.ensures.is in
-    let within = part_ends_within keep p c.args.index (part_of k) there in
+    let within = part_ends_within lay p c.args.index (part_of k) there in
     let begin = c.begin-region.ensures.start in
     let start = c.requires.start in
     let whole = c.requires.numbered.whole in
@@ -79,7 +79,7 @@ finish-requires-clause-spare c =
 
 pub returns : goal.returns
 returns c = λ part at.
-    let keep : Keep = keep_in c.args.numbering.now in
+    let lay : Laying = keep_in c.args.numbering.now in
     let k : Kind = c.index-parts-index.result in
     let p : Plan = plan_of c.args.plan.now in
     let there = item_mapped part_of c.args.index c.parts.result.now c.args.plan.now.parts k c.parts.ensures.value (rw (c.parts.ensures.value) c.requires.there) c.index-parts-index.is in
@@ -89,18 +89,18 @@ returns c = λ part at.
     let same = ap (λ (q : Pool). q.spare) c.begin-region.ensures.begun in
     let spare = c.requires.spare (part_of k) there in
     let placed = c.place.ensures.spare in
-    let nets : incoming_of c.outs.new.wires ≡ incoming keep p c.args.index = same_nets c.outs.new.wires c.wire_part.new.wires c.outs.ensures.rest ∙ c.wire_part.ensures.nets in
-    let cells : cells_in c.gates_of-gates.result c.begin-region.result (incoming_of c.outs.new.wires) ≡ part_cells keep p c.args.index (part_of k) =
+    let nets : incoming_of c.outs.new.wires ≡ incoming lay p c.args.index = same_nets c.outs.new.wires c.wire_part.new.wires c.outs.ensures.rest ∙ c.wire_part.ensures.nets in
+    let cells : cells_in c.gates_of-gates.result c.begin-region.result (incoming_of c.outs.new.wires) ≡ part_cells lay p c.args.index (part_of k) =
     laid c.gates_of-gates.result k c.begin-region.result (incoming_of c.outs.new.wires) c.gates_of-gates.ensures.is
-    ∙ (ap (λ (i : Incoming). layout (part_of k) c.begin-region.result i) nets
-    ∙ ap (λ (b : ℕ). layout (part_of k) b (incoming keep p c.args.index)) (c.begin-region.ensures.start ∙ c.requires.start)) in
+    ∙ (ap (λ (i : Incoming). layout ForEach (part_of k) c.begin-region.result i) nets
+    ∙ ap (λ (b : ℕ). layout ForEach (part_of k) b (incoming lay p c.args.index)) (c.begin-region.ensures.start ∙ c.requires.start)) in
     let counts = ap (λ (cs : List Cell). length cs) cells in
-    let inner : Places c.begin-region.new.self c.place.new.pool (part_cells keep p c.args.index (part_of k)) 0 =
+    let inner : Places c.begin-region.new.self c.place.new.pool (part_cells lay p c.args.index (part_of k)) 0 =
     record {
       cells = c.place.ensures.cells ∙ ap (λ (cs : List Cell). c.begin-region.new.self.cells ++ cs) cells;
       spare = omega (arith, placed, counts);
       begun = c.place.ensures.begun;
     } in
-    subst (λ (q : Part). Places c.args.pool.now c.finish.new.self (part_cells keep p c.args.index q) 1) is
-    (region_placed c.args.pool.now c.begin-region.new.self c.place.new.pool c.finish.new.self c.begin-region.result _ (part_cells keep p c.args.index (part_of k)) c.begin-region.ensures.begun inner
+    subst (λ (q : Part). Places c.args.pool.now c.finish.new.self (part_cells lay p c.args.index q) 1) is
+    (region_placed c.args.pool.now c.begin-region.new.self c.place.new.pool c.finish.new.self c.begin-region.result _ (part_cells lay p c.args.index (part_of k)) c.begin-region.ensures.begun inner
     c.finish.ensures.closed (omega (arith, size, same, spare, placed)) c.requires.begun)
