@@ -12,12 +12,13 @@ The first program builds the design. The entries of the folder's pulse file are 
 behind the first time without those that run the root, where it never comes to its end. Something has to happen up to the end; in
 some folders it doesn't, as where a loop is entered at another entry than the first.
 A peer is given the inputs of the trace in their cycles, and has to show its outputs. In a first run all of them are compared in
-each cycle; in the runs that are measured, in the cycles in which the trace has a pulse. Other programs have to write that trace.
+each cycle; in the runs that are measured, in the cycles in which the trace has a pulse. vvp, which is slow, runs the first tenth of
+the cycles. Other programs have to write that trace.
 
 Times are of the processor. That of a run which ends after one cycle is taken from that of the whole, so what is read and made
 before isn't in it; in that of gos is that the trace is written, in a peer's that inputs are given and outputs compared. All take
-turns, five times, or ROUNDS times where the environment says so, and the least time of each counts. vvp runs a tenth of the cycles
-in these turns. The status is 3 where a trace or outputs differ.
+turns, five times, or ROUNDS times where the environment says so, and the least time of each counts. The status is 3 where a trace
+or outputs differ.
 """
 
 import argparse
@@ -114,7 +115,7 @@ def long_pulses(design, programs, cycles):
 def peer_command(peer, design, pulses, cycles):
     """The command of a peer, which shows what the trace says in each cycle."""
     command = SIMULATORS[peer].made_by(Replay(design.folder, design.verilog, design.pins, pulses))
-    said = called(command(cycles, each=True), design.folder).strip().splitlines()
+    said = called(command(max(2, cycles // SIMULATORS[peer].share), each=True), design.folder).strip().splitlines()
     if said[-1:] != ['agrees']:
         raise manners.Wrong(f'{design.name}: {peer} {said[-1] if said else "says nothing"}', builds.RUN_IS_WRONG)
     return command
