@@ -46,7 +46,7 @@ LaidIsAccepted =
 abbrev pub AllCutCycles : Type 0
 AllCutCycles = (p : SeenPlan) (root : List ℕ) → CanBeLaid p root → HasCycle (laid keep_all (plan_of p) root).cells → ⊥
 
--- and has no more cells than the plan's size, where each order is of as many handshakes as its part has
+-- And it has no more cells than the plan's size, where each order is of as many handshakes as its Share has.
 abbrev pub AreWhole : Laying → Plan → Type 0
 AreWhole lay p = (i : ℕ) (k : Part) → slice_get p.parts i ≡ Some k → IsWhole (lay.making i) k
 

@@ -44,10 +44,10 @@ KindKeepsPaths m k =
 abbrev pub AllKeepPaths : Type 0
 AllKeepPaths = (m : Making) (k : Kind) → IsInRange k → KindKeepsPaths m k
 
--- the order that the gates of a part are made for, if they are made for one, is of as many handshakes as it has
+-- the order that a Share's gates are made for, if they are made for one, is of as many handshakes as it has
 abbrev pub IsWhole : Making → Part → Type 0
-IsWhole ForEach k = Unit {0}
-IsWhole (ForOrder order) k = length order ≡ length (part_contacts k)
+IsWhole (ForOrder order) (Share t) = length order ≡ length (part_contacts (Share t))
+IsWhole m k = Unit {0}
 
 -- no part has more than 24 cells for each of its handshakes, 8 for each number of an array, and 24 besides
 abbrev pub AreFew : Type 0

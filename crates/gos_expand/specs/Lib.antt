@@ -9,6 +9,8 @@ pub mod Facts
 pub mod Acceptance
 pub mod Rings
 pub mod Runs
+pub mod Fast
+pub mod FastRuns
 pub mod SmallNets
 pub mod SmallChoices
 pub mod Into

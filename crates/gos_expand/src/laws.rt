@@ -3,6 +3,7 @@
 ghost use Rattle.gos_expand.specs.Acceptance.{CircuitIsAccepted, CircuitIsSmall, LaidIsAccepted, AllCutCycles, LaidIsSmall};
 ghost use Rattle.gos_expand.specs.Choices.{LaidByIsOne};
 ghost use Rattle.gos_expand.specs.Facts.{FactsMakeLists};
+ghost use Rattle.gos_expand.specs.FastRuns.{FollowersRise, FastIsAccepted, FastIsSmall, FastMakesLists, FastStaysSilent, FastIsOne};
 ghost use Rattle.gos_expand.specs.Into.{LaysIntoNone};
 ghost use Rattle.gos_expand.specs.Kept.{AllKeep, AllFit, AllKeepPaths, AreFew};
 ghost use Rattle.gos_expand.specs.Rings.{RingsAreCycles};
@@ -86,6 +87,17 @@ pub fn cycles_are_lists()
 pub fn circuits_make_lists()
     ensures lists { CircuitMakesLists }
     ensures silent { CircuitStaysSilent }
+{}
+
+/// A fast circuit of a plan that can be laid out: ranks go up along all its passages, so that it is accepted; it has no more cells
+/// than the plan's size; its cycles are lists of the plan, and prompt; and its outputs are silent, where its inputs are clean.
+pub fn fast_circuits()
+    ensures rise { FollowersRise }
+    ensures accepted { FastIsAccepted }
+    ensures few { FastIsSmall }
+    ensures lists { FastMakesLists }
+    ensures silent { FastStaysSilent }
+    ensures one { FastIsOne }
 {}
 
 /// No number goes out of such a netlist without its pulse, where none comes in so: then each output's number is 0 in a

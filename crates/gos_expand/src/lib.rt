@@ -27,8 +27,8 @@ mod whole;
 
 pub use into::expand_into;
 pub use laws::{
-    circuits_are_accepted, circuits_make_lists, cycles_are_lists, gates_keep, into_pools,
-    laid_is_accepted, lists_of_facts, one_layout, outputs_are_silent, rings_are_cycles,
+    circuits_are_accepted, circuits_make_lists, cycles_are_lists, fast_circuits, gates_keep,
+    into_pools, laid_is_accepted, lists_of_facts, one_layout, outputs_are_silent, rings_are_cycles,
     small_choices, small_nets,
 };
 pub use whole::{Policy, expand, expand_with};
