@@ -10,20 +10,20 @@ The modules make a chain: each serves the next one's import. There are two sorts
     wide      each passes on a function whose argument has 31 handshakes, and uses it and its argument twice, so that
               the parts that share them have up to 96 handshakes
 
-The modules are compiled first. Then two builds are timed, each the best of five runs: `refused` is refused since the last
-module serves none, after all objects were read, which is the time to read them; `linked` is the whole command, which reads,
+The modules are compiled first. Then two builds are timed by the processor, each the best of five runs: `refused` is refused since the
+last module serves none, after all objects were read, which is the time to read them; `linked` is the whole command, which reads,
 links, lays out the circuit and writes the netlist and its Verilog text. Icarus Verilog reads and elaborates that text once, for
 a minute at most. It prints a line for each sort.
 """
 
 import os
 import shutil
-import signal
 import subprocess
 import sys
 import tempfile
-import time
 from pathlib import Path
+
+from simulation import TooLong, run
 
 sys.path.append(str(Path(__file__).resolve().parent.parent / 'tools'))
 
@@ -102,25 +102,16 @@ def make(gos, sort, modules, weight, folder):
     return lines + [f'bind m{k} next m{k + 1}' for k in range(modules - 1)]
 
 
-def best(command, folder):
-    times = []
-    for _ in range(RUNS):
-        start = time.perf_counter()
-        subprocess.run(command, cwd=folder, stdout=subprocess.DEVNULL, stderr=subprocess.DEVNULL)
-        times.append(time.perf_counter() - start)
-    return min(times)
+def best(command, folder, status=0):
+    """The least time of the processor of a command that ends with a status."""
+    return min(run(command, folder, status).seconds for _ in range(RUNS))
 
 
 def icarus(folder):
-    start = time.perf_counter()
-    run = subprocess.Popen(['iverilog', '-t', 'null', 'out.v'], cwd=folder, start_new_session=True)
     try:
-        run.wait(LIMIT)
-    except subprocess.TimeoutExpired:
-        os.killpg(run.pid, signal.SIGKILL)
-        run.wait()
+        return f'{run(["iverilog", "-t", "null", "out.v"], folder, limit=LIMIT).seconds:6.2f} s'
+    except TooLong:
         return f'more than {LIMIT} s'
-    return f'{time.perf_counter() - start:6.2f} s'
 
 
 def measure(gos, sort, modules, weight, folder):
@@ -129,7 +120,7 @@ def measure(gos, sort, modules, weight, folder):
     write(folder, 'b.txt', '\n'.join(lines + ['root m0'] + files))
     write(folder, 'refused.txt', '\n'.join(lines[:-1] + ['root m0'] + files))
     told = words([gos, 'link', 'b.txt'], folder)
-    refused, linked = best([gos, 'link', 'refused.txt'], folder), best([gos, 'link', 'b.txt'], folder)
+    refused, linked = best([gos, 'link', 'refused.txt'], folder, 2), best([gos, 'link', 'b.txt'], folder)
     size = sum(os.path.getsize(os.path.join(folder, name)) for name in os.listdir(folder) if name.endswith('.obj'))
     with open(os.path.join(folder, 'out.net')) as net:
         cells = int(net.read(64).split()[3])

@@ -26,7 +26,8 @@ import ports
 
 sys.path.append(str(built.TOP / "bench"))
 
-import replays  # noqa: E402  (it stands in the folder of benches)
+import linking  # noqa: E402  (these stand in the folder of benches)
+import replays  # noqa: E402
 
 EXAMPLES, VERILOG = built.TOP / "examples", built.TOP / "docs" / "VERILOG.md"
 MOST_LINES = 20
@@ -122,6 +123,14 @@ class Verilog(built.Case):
         ran = self.room.run("iverilog", "-o", "bench", "bench.v", "top.v", "out.v")
         self.assertEqual((ran.returncode, ran.stdout + ran.stderr), (0, ""))
         self.assertEqual(self.room.run("vvp", "-n", "bench").stdout, "0\n1\n0\n")
+
+
+class Links(unittest.TestCase):
+    """bench/linking.py."""
+
+    def test_times_are_of_the_processor(self):
+        for status in (0, 2):
+            self.assertLess(linking.best(["sh", "-c", f"sleep 0.5; exit {status}"], ".", status), 0.4)
 
 
 # A program that does what gos does, but for lines of the traces of `sim`.
