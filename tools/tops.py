@@ -11,6 +11,8 @@ PARTS_OF_SECOND = {"s": 1, "ms": 1_000, "us": 1_000_000}
 MOST, MOST_PLACES = 2**31 - 1, 16
 # The least cycles of the reset after power on, and its least part of a second, in which memories of some chips aren't filled yet.
 LEAST_RESET, RESETS_IN_SECOND = 64, 100_000
+# The bits of a register of a bus, and how many there may be of them.
+BUS_BITS, MOST_REGISTERS = 32, 256
 FILE_NAME = re.compile(r"[\w./-]+", re.A)
 # How far a serial line's bit may be from the time that its baud wants, as a part of it.
 MOST_SKEW = 0.02
@@ -19,7 +21,8 @@ SAYINGS = {
     "give": ["{} runs once", "{} runs for ever"],
     "com": ["{} beats every 1 ms", "{} takes 5 ms", "{} answers"],
     "exp": ["{} is pin 3", "{} is 5", "{} receives 115200 baud at pin 3", "{} tells OTHER", "{} is stream"],
-    "var": ["{} is pin 3", "{} is register", "{} sends 115200 baud at pin 3", "{} feeds OTHER of 16", "{} is stream", "WORD is ram at {}"],
+    "var": ["{} is pin 3",
+            "{} is register", "{} is register 0 of wishbone", "{} sends 115200 baud at pin 3", "{} feeds OTHER of 16", "{} is stream", "WORD is ram at {}"],
 }
 
 
@@ -38,6 +41,23 @@ BOARDS = {
     "hx8k": Board("ice40", "--hx8k --package ct256", "J3", 12_000_000),
     "ulx3s": Board("ecp5", "--85k --package CABGA381", "G2", 25_000_000),
     "none": Board("", "", "", 0),
+}
+
+
+@dataclass
+class Bus:
+    """A bus: the module of its slave, and the slave's ports there, each with its bits beside those of a register's place."""
+
+    module: str
+    inputs: dict
+    outputs: dict
+
+
+# (a name with `+` has the bits of a place, too)
+BUSES = {
+    "wishbone": Bus("rtl_wishbone", {"cyc": 1, "stb": 1, "we": 1, "adr+": 0, "sel": 4, "dat_w": 32}, {"ack": 1, "dat_r": 32}),
+    "axi": Bus("rtl_axi_lite", {"awvalid": 1, "awaddr+": 2, "wvalid": 1, "wdata": 32, "wstrb": 4, "bready": 1, "arvalid": 1, "araddr+": 2, "rready": 1},
+               {"awready": 1, "wready": 1, "bvalid": 1, "bresp": 2, "arready": 1, "rvalid": 1, "rdata": 32, "rresp": 2}),
 }
 
 
@@ -123,6 +143,8 @@ class Top:
     assigns: list = field(default_factory=list)
     wires: list = field(default_factory=list)
     taken: dict = field(default_factory=dict)
+    # by a bus's name the ports at its registers, by their numbers
+    buses: dict = field(default_factory=dict)
 
     @property
     def resets(self):
@@ -324,7 +346,55 @@ def variable(top, line, place):
             memory(top, line, place, "rtl_ram", file(line) if line.kind == "text" else '""')
         else:
             line.want("register")
-            top.add("rtl_register", place, {"value": "", **nets}, WIDTH=place.bits, FIRST=first(line, place))
+            if line.kind == "number":
+                on_bus(top, line, place)
+            else:
+                top.add("rtl_register", place, {"value": "", **nets}, WIDTH=place.bits, FIRST=first(line, place))
+
+
+def on_bus(top, line, place):
+    """Takes a register of a bus for a port."""
+    number = line.number(0, MOST_REGISTERS - 1, "a register's number")
+    line.want("of")
+    bus = next((it for it in BUSES if line.may(it)), None)
+    if bus is None:
+        raise line.misfit()
+    if top.board is not BOARDS["none"]:
+        raise line.wrong("a bus has no pins: it wants `board none`")
+    if place.bits > BUS_BITS:
+        raise line.wrong(f"`{place.port.name}` is {place.said()}, and a register of a bus has {BUS_BITS} bits", 0)
+    registers = top.buses.setdefault(bus, {})
+    if number in registers:
+        raise line.wrong(f"register {number} of {bus} is taken by line {registers[number].line.place}", 0)
+    registers[number] = place
+
+
+def add_bus(top, name, registers):
+    """The slave of a bus, and what connects its registers to their ports. Registers below the highest one that has no port have none."""
+    bus, address = BUSES[name], max(1, max(registers).bit_length())
+    count, line = 1 << address, next(iter(registers.values())).line
+    nets = {}
+    for side, ports in (("input", bus.inputs), ("output", bus.outputs)):
+        for port, bits in ports.items():
+            own = port.rstrip("+")
+            nets[own] = top.port(line, side, f"{name}_{own}", bits + address * (own != port), [])
+    from_ports = {number: place.nets() for number, place in registers.items()}
+    for event, bits in (("read", 1), ("write", 1), ("writevalue", BUS_BITS)):
+        nets[event] = concatenated([widened(from_ports[it][event], registers[it].bits if bits > 1 else 1, bits) if it in registers else f"{bits}'d0"
+                                    for it in range(count)])
+    for event, bits in (("ans", 1), ("ansvalue", BUS_BITS), ("done", 1)):
+        nets[event] = top.wire(f"{name}_{event}", bits * count)
+        top.assigns += [(own[event], f"{nets[event]}[{bits * it} +: {registers[it].bits if bits > 1 else 1}]") for it, own in from_ports.items()]
+    top.parts.append(Part(bus.module, name, {"ADDRESS": address, "WIDTH": BUS_BITS}, {"clk": "clock", "rst": "rst", **nets}))
+
+
+def widened(net, bits, wanted):
+    return net if bits == wanted else f"{{{wanted - bits}'d0, {net}}}"
+
+
+def concatenated(nets):
+    """Nets side by side, the first one lowest."""
+    return f"{{{', '.join(reversed(nets))}}}"
 
 
 def first(line, place):
@@ -479,6 +549,8 @@ def finish(top, file, begun):
             raise place.line.wrong(f"something is said of `{place.port.name}` already", 0)
         KINDS[place.kind](top, place.line, place)
         place.line.end()
+    for name, registers in top.buses.items():
+        add_bus(top, name, registers)
     for place in top.places:
         if not place.line and not place.served:
             such = "\n".join(f"    {it.format(place.port.name)}" for it in SAYINGS[place.kind])

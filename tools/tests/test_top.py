@@ -60,6 +60,8 @@ REFUSED = [
     ("button is pins 1 2", "button receives 115200 baud at pin 3", r"6:1: `button` is of `exp 2`, and 8 bits are wanted"),
     ("button is pins 1 2", "button is stream", r"6:17: a stream has no pins: it wants `board none`"),
     ("byte receives 115200 baud at pin 9", "byte receives 5000000 baud at pin 9", r"7:15: a bit is 2.4 cycles at 5000000 baud.*"),
+    ("out sends 115200 baud at pin 8", "out is register 2 of wishbone", r"10:30: a bus has no pins: it wants `board none`"),
+    ("out sends 115200 baud at pin 8", "out is register 2 of i2c", r"10:22: `i2c` can't stand here; what can: `wishbone`, `axi`"),
     ("missed tells tick", "missed tells half", r"8:18: `half` has nothing to tell.*"),
     ("word is ram at place", "word is ram at out", r"9:16: something is said of `out` already"),
     ("word is ram at place", "word is ram at byte", r"9:16: `byte` is of `exp 8`, and the place in a memory is a variable"),
@@ -109,6 +111,8 @@ TRIED = {
     "v is pin 3 from 1": (1, "icestick", ""),
     "v is register": (1, "icestick", ""),
     "v is register from 7": (8, "icestick", ""),
+    "v is register 2 of wishbone": (8, "none", "clock 10 MHz\nx is register 0 of wishbone"),
+    "v is register 2 of axi": (8, "none", "clock 10 MHz"),
     "v sends 115200 baud at pin 8": (8, "icestick", ""),
     "v is ram at x": (8, "icestick", "x"),
     'v is ram "words.hex" at x': (8, "icestick", "x"),
@@ -183,6 +187,12 @@ class Described(built.Case):
         for wanted in ("rtl_reset #(.CYCLES(120)) from_power_on", "rtl_timer #(.CYCLES(104), .KEEP(1), .MISSED(4)) at_main_tick", ".restart(main__half__done)",
                        "rtl_ram #(.ADDRESS(4), .WIDTH(8), .FILE(\"\")) at_main_word", "assign main__main__run = start | main__main__done;"):
             self.assertIn(wanted, text)
+
+    def test_a_register_of_a_bus_is_taken_once(self):
+        self.link(self.room, "main", EACH.format(W=8))
+        text = description("v is register 2 of wishbone").replace("x is register 0", "x is register 2")
+        ran = self.top(text)
+        self.assertEqual((ran.returncode, ran.stderr), (2, "top.txt:9:1: register 2 of wishbone is taken by line 8\n"), text)
 
     @unittest.skipIf(not shutil.which("iverilog"), "iverilog isn't installed")
     def test_the_whole_compiles(self):

@@ -1,0 +1,1 @@
+root main from main

@@ -1,0 +1,2 @@
+root main from main
+serve debounce by debounce
