@@ -70,3 +70,6 @@ pub mod RankedCellLemmas
 pub mod SmallChoiceLemmas
 pub mod IntoLemmas
 pub mod OneLayoutLemmas
+pub mod FastOrderLemmas
+pub mod FastRiseLemmas
+pub mod FastLemmas
