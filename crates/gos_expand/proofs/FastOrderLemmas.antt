@@ -70,7 +70,6 @@ stand_there these n (c ∷ cs) h low high chosen = by_place (nat_eq n h) refl (�
         by_test true = inr behind
         by_test false = behind
 
-
 -- the numbers in the order of ranks below r
 abbrev pub by_rank : Order → ℕ → (ℕ → Bool) → List Contact → List ℕ
 by_rank rank r these cs = map shake_of (in_order rank r these cs)
@@ -90,7 +89,6 @@ ranked_stand rank (suc r) cs h here low =
     by_test true is go = among_right h (by_rank rank r (λ m. true) cs) (numbers_of (λ m. nat_eq (rank m) r) 0 cs) (stand_there (λ m. nat_eq (rank m) r) 0 cs h (omega arith) (omega (arith, here)) is)
     by_test false other go =
         among_left h (by_rank rank r (λ m. true) cs) (numbers_of (λ m. nat_eq (rank m) r) 0 cs) (go (below (rank h) r (omega (arith, low)) (eqb-false (rank h) r other)))
-
 
 -- what stands before another number stands in the list
 before_stands : (e j : ℕ) (xs : List ℕ) → stands_before e j xs ≡ true → Among e xs
@@ -128,8 +126,8 @@ no_higher rank (suc r) cs e j here before =
     (ap (stands_before e j) (sym (map-append (in_order rank r (λ m. true) cs) (slots_of (λ m. nat_eq (rank m) r) 0 cs))) ∙ before)) [
       | inl first ↦ no_higher rank r cs e j here first
       | inr (none, behind) ↦
-        (let is = eqb-true (rank e) r (chosen_ones (λ m. nat_eq (rank m) r) 0 cs e (before_stands e j (numbers_of (λ m. nat_eq (rank m) r) 0 cs) behind)) in
-        not_below (rank j) r is (λ low. none (ranked_stand rank r cs j here low)))
+          (let is = eqb-true (rank e) r (chosen_ones (λ m. nat_eq (rank m) r) 0 cs e (before_stands e j (numbers_of (λ m. nat_eq (rank m) r) 0 cs) behind)) in
+          not_below (rank j) r is (λ low. none (ranked_stand rank r cs j here low)))
     ]
   where
     not_below : (m k : ℕ) → rank e ≡ k → (m < k → ⊥) → rank e ≤ m
@@ -221,4 +219,3 @@ all_below rank (suc n) h low = by_place (nat_eq h n) refl (all_below rank n h)
     by_place false other go =
         let rest = go (below h n (omega (arith, low)) (eqb-false h n other)) in
         omega (arith, rest)
-

@@ -160,7 +160,7 @@ pub record PartFacts (lay : Laying) (p : Plan) (rank : End → ℕ) : Type 0 whe
   pub gates :
       (i : ℕ) (k : Part) → slice_get p.parts i ≡ Some k
       → KeepLaws k (layout (lay.making i) k) (outs_of (lay.making i) k) (late_of (lay.making i) k) (pending_of (lay.making i) k)
-          (stands_of (lay.making i) k) (order_at rank i)
+      (stands_of (lay.making i) k) (order_at rank i)
   pub paths :
       (i : ℕ) (k : Part) → slice_get p.parts i ≡ Some k
       → KeepPaths k (layout (lay.making i) k) (outs_of (lay.making i) k) (late_of (lay.making i) k) (passing_of (lay.making i) k)

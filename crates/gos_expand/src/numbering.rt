@@ -11,7 +11,8 @@ ghost use Rattle.gos_expand.specs.Blocks.{total};
 ghost use Rattle.gos_expand.specs.Gates.{ForEach, part_size};
 ghost use Rattle.gos_expand.specs.Starts.{
   Laying,
-  chosen, plain,
+  chosen,
+  plain,
   kept_size,
   shake_size,
   port_size,

@@ -40,7 +40,8 @@ FastKeep = (t : Ty) (order : List ℕ) (rank : Order) → IsSmall t → IsByRank
 -- Those that are made for any order keep what is asked of an accepted netlist, and of paths.
 abbrev pub FastFit : Type 0
 FastFit =
-    (t : Ty) (order : List ℕ) → IsSmall t → GatesFit (Share (type_of t)) (fast_cells (contacts_of (type_of t)) order) (fast_outs (contacts_of (type_of t)) order)
+    (t : Ty) (order : List ℕ) → IsSmall t
+    → GatesFit (Share (type_of t)) (fast_cells (contacts_of (type_of t)) order) (fast_outs (contacts_of (type_of t)) order)
 
 abbrev pub FastPaths : Type' → List ℕ → Type 0
 FastPaths t order =
