@@ -2,18 +2,17 @@
 -- a plan has one.
 --
 -- Read first: Fast, FastRuns; FastRiseLemmas, RunLemmas.
-use Rattle.std.proofs.Common.{◌≡◌, ◌⊎◌, ℕ, zero, suc, ◌+◌, ◌<◌, ◌≤◌, List, [], ◌∷◌, Option, Some, None, length, slice_get, inl, inr, refl, sym, ◌∙◌, ap, subst, arith}
-use Rattle.std.specs.Prelude.{map}
+use Rattle.std.proofs.Common.{◌≡◌, ◌⊎◌, ℕ, zero, suc, ◌≤◌, List, Option, Some, None, length, slice_get, inl, inr, refl, sym, ◌∙◌, ap, subst, arith}
 use Rattle.gos_types.specs.Types.{Type'}
 use Rattle.gos_netlist.specs.Nets.{Netlist}
-use Rattle.gos_netlist.specs.Settling.{Numbers, IsRun}
+use Rattle.gos_netlist.specs.Settling.{IsRun}
 use Rattle.gos_netcheck.specs.Accepted.{IsAccepted}
 use Rattle.gos_pace.specs.RunProtocol.{InputsInRange}
 use Rattle.gos_pace.specs.Silence.{InputsAreClean, OutputsAreSilent}
 use Rattle.gos_pace.specs.Cycles.{CyclesAreLists}
 use Rattle.gos_plan.specs.Kinds.{Part, Skip, Lit, Seq, Par, If, While, Op, Not, Assign, Deref, Local, Array, Share, part_contacts}
 use Rattle.gos_plan.specs.Plans.{End, PartEnd, Plan}
-use Rattle.gos_plan.specs.Seen.{SeenPlan, plan_of}
+use Rattle.gos_plan.specs.Seen.{plan_of}
 use Rattle.gos_plan.specs.Size.{plan_size}
 use Rattle.gos_macro.specs.Law.{Order}
 use Rattle.gos_fast_share.specs.Order.{IsByRank}
@@ -22,7 +21,7 @@ use Rattle.gos_expand.specs.Kept.{IsMadeFor, IsWhole}
 use Rattle.gos_expand.specs.Starts.{Keep, Laying}
 use Rattle.gos_expand.specs.Laid.{Seat, seat_of, circuit_cells, circuit}
 use Rattle.gos_expand.specs.Facts.{PassesOn, Rises, order_at}
-use Rattle.gos_expand.specs.Acceptance.{CanBeLaid, AreWhole}
+use Rattle.gos_expand.specs.Acceptance.{AreWhole}
 use Rattle.gos_expand.specs.Runs.{AreMadeFor}
 use Rattle.gos_expand.specs.Fast.{by_number, AreDepths, SharesFollow, IsFast}
 use Rattle.gos_expand.specs.FastRuns.{FastIsAccepted, FastIsSmall, FastMakesLists, FastStaysSilent, FastIsOne}

@@ -2,11 +2,9 @@
 --
 -- Read first: Fast, FastRuns; FastOrderLemmas; Pairs of gos_fast_share. A Share that follows ranks passes on where one made by number
 -- does, and from a request to what passes on from a source's side behind it.
-use Rattle.std.proofs.Common.{◌≡◌, ◌⊎◌, ℕ, zero, suc, ◌+◌, ◌<◌, ◌≤◌, Bool, true, false, List, [], ◌∷◌, ◌++◌, Option, Some, None, length, slice_get, inl, inr, refl, sym, ◌∙◌, ap, subst, arith}
-use Rattle.std.specs.Prelude.{map}
+use Rattle.std.proofs.Common.{◌≡◌, ℕ, suc, ◌+◌, ◌<◌, ◌≤◌, true, List, [], ◌∷◌, ◌++◌, Option, Some, length, slice_get, refl, sym, ◌∙◌, ap, subst, arith}
 use Rattle.std.proofs.lemmas.Bool.{and_parts}
 use Rattle.std.proofs.lemmas.List.{length-map, length-append}
-use Rattle.std.proofs.lemmas.Option.{same_Some}
 use Rattle.gos_types.specs.Types.{Type'}
 use Rattle.gos_plan.specs.Kinds.{Part, Skip, Lit, Seq, Par, If, While, Op, Not, Assign, Deref, Local, Array, Share, Contact, contacts_of, part_contacts, other_side, turned_contact}
 use Rattle.gos_plan.specs.Plans.{End, PartEnd, Plan}
@@ -15,12 +13,12 @@ use Rattle.gos_fast_share.specs.Thread.{asker, stands_before}
 use Rattle.gos_fast_share.specs.Fast.{sets, fast_passing}
 use Rattle.gos_fast_share.specs.Order.{IsByRank}
 use Rattle.gos_fast_share.specs.laws.Pairs.{AtPairs, AtAllPairs, Passes, where_it_passes, all_pass}
-use Rattle.gos_expand.specs.Gates.{Making, ForEach, ForOrder, passing_of}
+use Rattle.gos_expand.specs.Gates.{Making, passing_of}
 use Rattle.gos_expand.specs.Starts.{Laying}
-use Rattle.gos_expand.specs.Facts.{PassesOn, Rises, order_at}
-use Rattle.gos_expand.specs.Fast.{numbers_from, making_by_number, by_number, SharesFollow}
+use Rattle.gos_expand.specs.Facts.{PassesOn, order_at}
+use Rattle.gos_expand.specs.Fast.{numbers_from, making_by_number, by_number}
 use Rattle.gos_expand.specs.FastRuns.{FollowersRise}
-use Rattle.gos_expand.proofs.FastOrderLemmas.{by_rank, no_higher, above_all, all_below}
+use Rattle.gos_expand.proofs.FastOrderLemmas.{no_higher, above_all, all_below}
 
 -- a Share has three handshakes for each of its type
 pub three_sides : (t : Type') → length (part_contacts (Share t)) ≡ length (contacts_of t) + (length (contacts_of t) + length (contacts_of t))

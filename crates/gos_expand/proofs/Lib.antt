@@ -73,3 +73,4 @@ pub mod OneLayoutLemmas
 pub mod FastOrderLemmas
 pub mod FastRiseLemmas
 pub mod FastLemmas
+pub mod SmallFastLemmas

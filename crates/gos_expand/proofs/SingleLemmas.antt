@@ -13,7 +13,7 @@ use Rattle.gos_types.specs.Events.{Direction}
 use Rattle.gos_plan.specs.Kinds.{Part, Contact, part_contacts}
 use Rattle.gos_plan.specs.Firing.{State, Slot, Req, Ans, Token, Row, same_slot, firing}
 use Rattle.gos_plan.specs.Plans.{End, PartEnd, Joint, Plan, contact_at}
-use Rattle.gos_plan.specs.Tokens.{Tokens, Element, shake_of, Does, way_taken}
+use Rattle.gos_plan.specs.Tokens.{Tokens, Element, shake_of, way_taken}
 use Rattle.gos_plan.specs.Orderly.{Open, OrderlyFrom}
 use Rattle.gos_plan.specs.Firings.{due, Asked, after_taking, after_putting, Fires, times}
 use Rattle.gos_plan.specs.Projection.{firings_of, asked_by, TakesValues}
@@ -24,13 +24,13 @@ use Rattle.gos_macro.specs.Gates.{is_among, slot_in, slots_of, pulse_in, value_i
 use Rattle.gos_macro.specs.Law.{Order, in_order, pulsed}
 use Rattle.gos_macro.specs.laws.Counting.{times-append, shake_in, times_pulsed}
 use Rattle.gos_macro.proofs.causal.FiringLemmas.{pulsed-append}
-use Rattle.gos_expand.specs.Gates.{late_of, passing_of}
+use Rattle.gos_expand.specs.Gates.{late_of}
 use Rattle.gos_expand.specs.Starts.{Laying}
-use Rattle.gos_expand.specs.Facts.{Places, source, target, incoming_at, PassesOn, Rises, order_at}
+use Rattle.gos_expand.specs.Facts.{Places, source, target, incoming_at, Rises, order_at}
 use Rattle.gos_expand.proofs.TallyLemmas.{Split, fires_split, due-append}
 use Rattle.gos_expand.proofs.ChainLemmas.{Parted, orderly_parts}
-use Rattle.gos_expand.proofs.StandingLemmas.{pending_at, shown_at, held_pulse, Lies, Now, filled, values, values_if, small_count}
-use Rattle.gos_expand.proofs.ScheduleLemmas.{is_early, at_rank, below_rank, chosen_from, early_below, late_ones, top, with_pulse, early_made, made_firings, firings_pulsed, with_pulse-append, early_listed, below_top}
+use Rattle.gos_expand.proofs.StandingLemmas.{pending_at, shown_at, held_pulse, Now, filled, values, values_if, small_count}
+use Rattle.gos_expand.proofs.ScheduleLemmas.{is_early, at_rank, chosen_from, early_below, late_ones, top, with_pulse, early_made, made_firings, firings_pulsed, with_pulse-append, early_listed, below_top}
 use Rattle.gos_expand.proofs.PossibleLemmas.{listing, listing-append, firings_listed}
 use Rattle.gos_expand.proofs.CauseLemmas.{untaken_below}
 use Rattle.gos_expand.proofs.RankLemmas.{Whole}

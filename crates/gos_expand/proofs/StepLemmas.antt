@@ -16,7 +16,7 @@ use Rattle.gos_plan.specs.Orderly.{Open}
 use Rattle.gos_plan.specs.Firings.{due, value_due, times}
 use Rattle.gos_plan.specs.Accounts.{count, outs_at, outs_sum, put_at, sum_put, taken_at, sum_taken, AddsUp, PartsPut}
 use Rattle.gos_plan.proofs.JointLemmas.{fits}
-use Rattle.gos_expand.specs.Gates.{outs_of, pending_of}
+use Rattle.gos_expand.specs.Gates.{pending_of}
 use Rattle.gos_expand.specs.Blocks.{Nets}
 use Rattle.gos_expand.specs.Starts.{Laying, bits_taken}
 use Rattle.gos_expand.specs.Facts.{Places, Delays, source, target, width, bits_put, bits_out_at, Rises}

@@ -13,7 +13,7 @@ use Rattle.gos_macro.specs.Kept.{KeepLaws}
 use Rattle.gos_macro.specs.Fit.{GatesFit}
 use Rattle.gos_macro.specs.Paths.{KeepPaths}
 use Rattle.gos_fast_share.specs.Order.{IsByRank}
-use Rattle.gos_expand.specs.Gates.{Making, ForEach, ForOrder, layout, outs_of, late_of, pending_of, stands_of, passing_of}
+use Rattle.gos_expand.specs.Gates.{Making, ForOrder, layout, outs_of, late_of, pending_of, stands_of, passing_of}
 
 -- the order of ranks is the one that the gates of a part are made for, if they are made for one
 abbrev pub IsMadeFor : Making → Part → Order → Type 0

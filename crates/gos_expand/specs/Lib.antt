@@ -14,5 +14,6 @@ pub mod FastRuns
 pub mod SmallNets
 pub mod SmallChoices
 pub mod Into
+pub mod SmallFast
 pub mod SmallPools
 pub mod inner

@@ -9,6 +9,7 @@ ghost use Rattle.gos_expand.specs.Kept.{AllKeep, AllFit, AllKeepPaths, AreFew};
 ghost use Rattle.gos_expand.specs.Rings.{RingsAreCycles};
 ghost use Rattle.gos_expand.specs.Runs.{CircuitMakesLists, CircuitStaysSilent, LaidMakesLists, LaidStaysSilent};
 ghost use Rattle.gos_expand.specs.SmallChoices.{SkipKeepsNone, AllAreTooMany, RingKeepsOne, NoneAreTooFew};
+ghost use Rattle.gos_expand.specs.SmallFast.{SkipIsFast, RegistersAreNotFast, SkipHasDepths, OneIsNoDepth, NoneIsNoDepth};
 ghost use Rattle.gos_expand.specs.SmallNets.{SkipIsLaid, SkipIsChosen, RingIsLeft, SkipCanBeLaid};
 ghost use Rattle.gos_expand.specs.SmallPools.{SkipIsRaised, SkipIsNotTwice, PortIsNotTwice};
 
@@ -98,6 +99,16 @@ pub fn fast_circuits()
     ensures lists { FastMakesLists }
     ensures silent { FastStaysSilent }
     ensures one { FastIsOne }
+{}
+
+/// The fast circuit of the plan of `skip` is the netlist without registers in its joint, and not the one with both. Its part has depth 1,
+/// and its result 2.
+pub fn small_fast()
+    ensures fast { SkipIsFast }
+    ensures slow { RegistersAreNotFast }
+    ensures depths { SkipHasDepths }
+    ensures one { OneIsNoDepth }
+    ensures none { NoneIsNoDepth }
 {}
 
 /// No number goes out of such a netlist without its pulse, where none comes in so: then each output's number is 0 in a

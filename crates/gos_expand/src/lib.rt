@@ -29,6 +29,6 @@ pub use into::expand_into;
 pub use laws::{
     circuits_are_accepted, circuits_make_lists, cycles_are_lists, fast_circuits, gates_keep,
     into_pools, laid_is_accepted, lists_of_facts, one_layout, outputs_are_silent, rings_are_cycles,
-    small_choices, small_nets,
+    small_choices, small_fast, small_nets,
 };
 pub use whole::{Policy, expand, expand_with};
