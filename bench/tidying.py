@@ -1,24 +1,31 @@
 #!/usr/bin/env python3
-"""Measures `gos tidy` on circuits of bench/circuits.py, and how many cells it leaves of the examples.
+"""Measures `gos tidy` on circuits of bench/circuits.py and on others, and how many cells it leaves of the examples.
 
     bench/tidying.py GOS [NAME]..
 
 GOS is the program. It prints a row of the tables of docs/PERFORMANCE.md for each circuit, or for each of those named:
 
-    active-1000000, active-5000000, or any other number
-              gates of all kinds, of which few are equal
-    shifts-1000000, or any other number
-              two shift registers that read one input, and are one
-    waves-1000000, late-1000000, fans-1000000, zeros-1000000, peels-1000000, or any other number
-              registers that become equal stage by stage, beside a chain of gates that each read another one of them;
-              two equal shift registers whose far ends stand first; equal registers each of which a gate reads beside one
-              net that they all read; registers that hold each other at 0; and registers of which each stays 0 only once
-              two others are one
+    active-1000000, or any other kind and number
+              a circuit of this kind, of so many cells
     controllers
               ten controllers of examples, one after another, and all of them
 
+The kinds are those in which something could take more time than in proportion to the cells:
+
+    active    gates of all kinds, of which few are equal
+    shifts    two shift registers that read one input, and are one
+    late      the same with their far ends first
+    waves     registers that become equal stage by stage, and a chain of gates each of which is looked at again after each stage
+    fans      equal registers, each of which a gate reads beside one net that they all read
+    mixes     a Xor with many readers, one of whose nets goes to another class again and again
+    passing   a Xor that is known to be one for a while, and a net once registers are one, beside two shift registers
+    turned    the same, where a gate with its nets turned around was read by it
+    zeros     registers that hold each other at 0
+    peels     registers of which each stays 0 only once two others are one
+
 Times are of the processor, with all that the command does: it reads the netlist, accepts it, makes it tidy and writes it. Each
-is the least of three runs, and the memory the most that they have.
+is the least of three runs, and the memory the most that they have. `growth` is how many times as long as a circuit of half the
+cells it takes: 2 where the time is linear.
 """
 
 import argparse
@@ -38,9 +45,6 @@ import manners  # noqa: E402  (it stands in the folder of tools)
 
 TOP = Path(__file__).resolve().parent.parent
 CONTROLLERS = ['calculator', 'debounce', 'dma', 'elevator', 'i2c', 'mutex', 'spi', 'traffic', 'uart', 'vending']
-NAMES = ['active-1000000', 'active-5000000', 'shifts-1000000', 'waves-1000000', 'late-1000000', 'fans-1000000',
-         'zeros-1000000', 'peels-1000000', 'controllers']
-AIMS = {'active-1000000': '2 s, 200 B', 'active-5000000': '15 s', 'all ten': '0.66'}
 LINE = re.compile(r'ok cells (\d+) to (\d+)\n')
 
 
@@ -60,18 +64,19 @@ def answers(circuit, net):
 
 
 def waves(size):
-    """Registers in a tree, of which those of each stage become equal after those before, and gates that read the last ones."""
+    """Registers in a tree, of which those of each stage become equal after those before, and a chain of gates that read its last
+    ones, and each of which is looked at again after each stage."""
     circuit = circuits.Circuit(None)
     ask = circuit.add('input', 1)
     pairs = [circuit.add('reg', 1, ask) for _ in range(2)]
-    while len(pairs) < size // 9:
+    while len(pairs) < size // 11:
         pairs += [circuit.add('reg', 1, pairs[-2]) for _ in range(2)]
-    stage, width = [ask], max(2, round((size * 2 // 9) ** 0.25))
+    stage = [ask]
     for _ in range(4):
-        stage = [circuit.add('reg', 1, net) for net in stage for _ in range(width)]
+        stage = [circuit.add('reg', 1, net) for net in stage for _ in range(4)]
     net = circuit.add('not', 1, ask)
     for n in range((size - len(circuit.cells) - 1) // 2):
-        net = circuit.add('reg', 1, circuit.add('mux', 1, stage[n % len(stage)], pairs[n % len(pairs)], net))
+        net = circuit.add('reg', 1, circuit.add('mux', 1, stage[n % len(stage)], pairs[n] if n < len(pairs) else ask, net))
     return answers(circuit, net)
 
 
@@ -93,6 +98,44 @@ def fans(size):
         both = circuit.add('xor', 1, circuit.add('and', 1, 0, first), circuit.add('or', 1, 0, second))
         net, last = second, circuit.add('xor', 1, last, both)
     return answers(circuit, last)
+
+
+def mixes(size):
+    """A Xor that half of the cells read. The net that it reads becomes one with others, each of which more cells read than all before."""
+    circuit = circuits.Circuit(None)
+    last = ask = circuit.add('input', 1)
+    own = circuit.add('reg', 1, ask)
+    mixed = circuit.add('xor', 1, own, ask)
+    first = second = own
+    for doubling in range(max(1, (size // 4).bit_length() - 1)):
+        first, second = circuit.add('reg', 1, first), circuit.add('reg', 1, second)
+        same = circuit.add('xor', 1, circuit.add('xor', 1, own, first), second)
+        for _ in range(2 ** doubling):
+            last = circuit.add('and', 1, same, last)
+    while len(circuit.cells) < size - 1:
+        last = circuit.add('or', 1, mixed, last)
+    return answers(circuit, last)
+
+
+def passing(size, turned=False):
+    """Two shift registers that read one input, and a Xor that is a net once two registers are one, but is read before."""
+    circuit = circuits.Circuit(None)
+    first = second = ask = circuit.add('input', 1)
+    for _ in range((size - 12) // 2):
+        first, second = circuit.add('reg', 1, first), circuit.add('reg', 1, second)
+    own = circuit.add('reg', 1, circuit.add('xor', 1, first, second))
+    net = circuit.add('and', 1, own, ask) if turned else circuit.add('not', 1, own)
+    one, other = circuit.add('reg', 1, ask), circuit.add('reg', 1, ask)
+    mixed = circuit.add('xor', 1, net, one)
+    again = circuit.add('xor', 1, mixed, other)
+    last = circuit.add('xor', 1, other, again) if turned else circuit.add('not', 1, again)
+    for net in (own, mixed, ask):
+        last = circuit.add('and', 1, circuit.add('or', 1, again, net), last)
+    return answers(circuit, last)
+
+
+def turned(size):
+    return passing(size, turned=True)
 
 
 def zeros(size):
@@ -117,7 +160,10 @@ def peels(size):
     return answers(circuit, net)
 
 
-CIRCUITS = {'active': circuits.tiled, 'shifts': shifts, 'waves': waves, 'late': late, 'fans': fans, 'zeros': zeros, 'peels': peels}
+CIRCUITS = {'active': circuits.tiled, 'shifts': shifts, 'late': late, 'waves': waves, 'fans': fans, 'mixes': mixes, 'passing': passing,
+            'turned': turned, 'zeros': zeros, 'peels': peels}
+NAMES = ['active-1000000', *(f'{kind}-5000000' for kind in CIRCUITS), 'controllers']
+AIMS = {'active-1000000': '2 s, 200 B', **{f'{kind}-5000000': '15 s' for kind in CIRCUITS}, 'all ten': '0.66'}
 
 
 def counts(gos, folder, net):
@@ -126,13 +172,18 @@ def counts(gos, folder, net):
     return [int(number) for number in LINE.fullmatch(said).groups()]
 
 
+def spent_on(gos, circuit, folder):
+    """What a circuit takes."""
+    (folder / 'a.net').write_text(circuits.netlist(circuit))
+    return best([gos, 'tidy', 'a.net', 'tidy.net'], folder)
+
+
 def circuit_row(gos, name, folder):
     kind, size = name.split('-')
-    circuit = CIRCUITS[kind](int(size))
-    (folder / 'a.net').write_text(circuits.netlist(circuit))
+    half, spent = (spent_on(gos, CIRCUITS[kind](cells), folder) for cells in (int(size) // 2, int(size)))
     before, after = counts(gos, folder, 'a.net')
-    spent = best([gos, 'tidy', 'a.net', 'tidy.net'], folder)
-    took = [f'{round_off(spent.seconds)} s', f'{spent.memory / before:.0f} B']
+    growth = f'{spent.seconds / half.seconds:.1f}' if half.seconds > 0.02 else ''
+    took = [f'{round_off(spent.seconds)} s', growth, f'{spent.memory / before:.0f} B']
     return [name, f'{before:,}', f'{after:,}', f'{after / before:.2f}', *took, AIMS.get(name, '')]
 
 
@@ -149,7 +200,7 @@ def controller_rows(gos, folder):
     both = [controller_counts(gos, name, folder) for name in CONTROLLERS]
     both.append([sum(pair[0] for pair in both), sum(pair[1] for pair in both)])
     for name, (before, after) in zip([*CONTROLLERS, 'all ten'], both):
-        yield [name, f'{before:,}', f'{after:,}', f'{after / before:.2f}', '', '', AIMS.get(name, '')]
+        yield [name, f'{before:,}', f'{after:,}', f'{after / before:.2f}', '', '', '', AIMS.get(name, '')]
 
 
 def circuit_name(word):
@@ -166,7 +217,7 @@ def main(words):
     parser.add_argument('names', metavar='NAME', type=circuit_name, nargs='*', default=[])
     asked = parser.parse_args(words)
     gos, names = manners.program(asked.gos), asked.names or NAMES
-    print('| circuit | cells | after | of them | time | memory a cell | aim |\n' + '|---' * 7 + '|')
+    print('| circuit | cells | after | of them | time | growth | memory a cell | aim |\n' + '|---' * 8 + '|')
     for name in names:
         with tempfile.TemporaryDirectory() as folder:
             rows = controller_rows if name == 'controllers' else lambda gos, folder, name=name: [circuit_row(gos, name, folder)]

@@ -18,6 +18,15 @@ pub(crate) enum Known {
     Mixed(NetId, NetId),
 }
 
+// Which gates are read as a net by what their own nets show.
+#[derive(Debug, Clone, Copy)]
+pub(crate) enum Rules {
+    // A Not of a Not, and a Xor of a Xor: what the other gate shows may be known for a while alone.
+    All,
+    // Neither. So a gate that is read as a net stays so.
+    Fewer,
+}
+
 // What a cell is, read by classes.
 #[derive(Debug, Clone, Copy)]
 pub(crate) enum Form {
@@ -34,11 +43,12 @@ pub(crate) struct Classes {
     pub(crate) class: Vec<u32>,
     // What is known of each class.
     pub(crate) known: Vec<Known>,
+    pub(crate) rules: Rules,
 }
 
 impl Classes {
     // Of so many nets, each in a class of its own.
-    pub(crate) fn new(alloc: Global, count: usize) -> Result<Classes, NoMemory> {
+    pub(crate) fn new(alloc: Global, count: usize, rules: Rules) -> Result<Classes, NoMemory> {
         let mut class = Vec::with_capacity(alloc, count)?;
         let mut next = 0u32;
         for _ in 0..count {
@@ -46,7 +56,11 @@ impl Classes {
             next = next.wrapping_add(1);
         }
         let known = vec![in alloc; Known::Nothing; count]?;
-        Ok(Classes { class, known })
+        Ok(Classes {
+            class,
+            known,
+            rules,
+        })
     }
 
     // The class of a net.
@@ -170,7 +184,7 @@ impl Classes {
 
     // Notes what a class is known for, where one of its nets is this cell. Says whether that is new.
     pub(crate) fn learn(&mut self, class: u32, whole: Cell) -> bool {
-        let known = known_by(whole.gate);
+        let known = known_by(self.rules, whole.gate);
         let news = self.is_news(class, known);
         if news {
             self.know(class, known);
@@ -180,11 +194,22 @@ impl Classes {
 }
 
 // What is known of a net whose cell has this gate.
-fn known_by(gate: Gate) -> Known {
-    match gate {
-        Gate::Const(k) => Known::Number(k),
-        Gate::Not(a) => Known::Complement(a),
-        Gate::Xor(a, b) => Known::Mixed(a, b),
+fn known_by(rules: Rules, gate: Gate) -> Known {
+    match (rules, gate) {
+        (_, Gate::Const(k)) => Known::Number(k),
+        (Rules::All, Gate::Not(a)) => Known::Complement(a),
+        (Rules::All, Gate::Xor(a, b)) => Known::Mixed(a, b),
         _ => Known::Nothing,
+    }
+}
+
+// Whether the same is known.
+pub(crate) fn same_known(one: Known, other: Known) -> bool {
+    match (one, other) {
+        (Known::Nothing, Known::Nothing) => true,
+        (Known::Number(a), Known::Number(b)) => a == b,
+        (Known::Complement(a), Known::Complement(b)) => a.0 == b.0,
+        (Known::Mixed(a, b), Known::Mixed(c, d)) => a.0 == c.0 && b.0 == d.0,
+        _ => false,
     }
 }

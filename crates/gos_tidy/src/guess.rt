@@ -4,7 +4,7 @@
 // to the class that it shows, and one that another net's cell is read as goes to that net's class. Where two classes
 // become one, the cells that name a net of the smaller one are looked at again, and all that name the class where it
 // becomes known to be a constant. This goes through registers too.
-use crate::classes::{Classes, Form, Known};
+use crate::classes::{Classes, Form, Known, Rules, same_known};
 use crate::renaming::entry;
 use crate::shape::{same_cell, shape_of};
 use crate::slots::{Slot, Slots, spread, tag_of};
@@ -32,8 +32,13 @@ struct Guess {
 const LOOKS: usize = 64;
 
 // A class for each net of these cells, which can be evaluated in this order.
-pub(crate) fn guessed(alloc: Global, cells: &[Cell], order: &[NetId]) -> Result<Classes, NoMemory> {
-    let mut guess = Guess::new(alloc, cells, order)?;
+pub(crate) fn guessed(
+    alloc: Global,
+    cells: &[Cell],
+    order: &[NetId],
+    rules: Rules,
+) -> Result<Classes, NoMemory> {
+    let mut guess = Guess::new(alloc, cells, order, rules)?;
     for _ in 0..cells.len().saturating_mul(LOOKS) {
         let Some(net) = guess.todo.pop() else {
             break;
@@ -82,9 +87,14 @@ fn is_computed(cells: &[Cell], net: NetId) -> bool {
 
 impl Guess {
     // Where nothing has been looked at.
-    fn new(alloc: Global, cells: &[Cell], order: &[NetId]) -> Result<Guess, NoMemory> {
+    fn new(
+        alloc: Global,
+        cells: &[Cell],
+        order: &[NetId],
+        rules: Rules,
+    ) -> Result<Guess, NoMemory> {
         let count = cells.len();
-        let classes = Classes::new(alloc, count)?;
+        let classes = Classes::new(alloc, count, rules)?;
         let users = Users::new(alloc, cells)?;
         let mut ring = Vec::with_capacity(alloc, count)?;
         let mut weight = Vec::with_capacity(alloc, count)?;
@@ -135,7 +145,7 @@ impl Guess {
         match self.classes.form(cell) {
             Form::Short(class) => {
                 let own = self.classes.of(net);
-                self.unite(own, class.0)
+                self.join(own, class.0)
             }
             Form::Whole(whole) => self.file(cells, net, whole),
         }
@@ -189,6 +199,19 @@ impl Guess {
             self.wake(class)?;
         }
         Ok(())
+    }
+
+    // Makes a class one with another one that it shows. Of both, what is known of the other one stays true of the merged cells.
+    fn join(&mut self, own: u32, class: u32) -> Result<(), NoMemory> {
+        if own == class {
+            return Ok(());
+        }
+        let known = self.classes.known_of(NetId(class));
+        if !same_known(self.classes.known_of(NetId(own)), known) {
+            self.wake(own)?;
+            self.classes.know(own, known);
+        }
+        self.unite(own, class)
     }
 
     // Makes two classes one: the one of less weight goes to the other.

@@ -9,7 +9,7 @@ ghost use Rattle.gos_netcheck.specs.CellRules.{NetsExist};
 ghost use Rattle.gos_tidy.specs.Reduced.{IsQuotient};
 ghost use Rattle.gos_tidy.specs.inner.Roots.{AreAll};
 
-use crate::classes::{Classes, Form, Known};
+use crate::classes::{Classes, Form, Known, Rules};
 use crate::guess::guessed;
 use crate::quotient::Quotient;
 use crate::renaming::{entry, renamed_cell};
@@ -20,7 +20,8 @@ use std::alloc::Global;
 // The number of a class that has none.
 const NONE: u32 = u32::MAX;
 
-// The cells, which can be evaluated in this order, merged by a guess of classes; None where the guess is wrong.
+// The cells, which can be evaluated in this order, merged by a guess of classes, or where that is wrong by one with fewer rules; None
+// where both are wrong.
 pub(crate) fn merged(
     alloc: Global,
     cells: &[Cell],
@@ -30,7 +31,24 @@ pub(crate) fn merged(
     ensures right { IfOk result (λ merged. IfSome merged (λ q. IsQuotient (map cell_of cells.now) (map cell_of q.cells.items) (at q.map.items) q.roots.items)) }
     ensures few { IfOk result (λ merged. IfSome merged (λ q. length q.cells.items ≤ length cells.now)) }
 {
-    let quotient = guessed_quotient(alloc, cells, order)?;
+    match merged_by(alloc, cells, order, Rules::All)? {
+        Some(quotient) => Ok(Some(quotient)),
+        None => merged_by(alloc, cells, order, Rules::Fewer),
+    }
+}
+
+// The cells merged by a guess of classes; None where it is wrong.
+fn merged_by(
+    alloc: Global,
+    cells: &[Cell],
+    order: &[NetId],
+    rules: Rules,
+) -> Result<Option<Quotient>, NoMemory>
+    requires { length cells.now < 2 ^ 32 }
+    ensures right { IfOk result (λ merged. IfSome merged (λ q. IsQuotient (map cell_of cells.now) (map cell_of q.cells.items) (at q.map.items) q.roots.items)) }
+    ensures few { IfOk result (λ merged. IfSome merged (λ q. length q.cells.items ≤ length cells.now)) }
+{
+    let quotient = guessed_quotient(alloc, cells, order, rules)?;
     if quotient.cells.len() > cells.len() || !quotient.is_right(cells) {
         return Ok(None);
     }
@@ -38,8 +56,13 @@ pub(crate) fn merged(
 }
 
 // The cells merged by a guess of classes, right or not.
-fn guessed_quotient(alloc: Global, cells: &[Cell], order: &[NetId]) -> Result<Quotient, NoMemory> {
-    let classes = guessed(alloc, cells, order)?;
+fn guessed_quotient(
+    alloc: Global,
+    cells: &[Cell],
+    order: &[NetId],
+    rules: Rules,
+) -> Result<Quotient, NoMemory> {
+    let classes = guessed(alloc, cells, order, rules)?;
     let classes = known_anew(alloc, cells, order, classes)?;
     by_classes(alloc, cells, &classes)
 }
@@ -55,6 +78,7 @@ fn known_anew(
     let mut anew = Classes {
         class: classes.class,
         known: vec![in alloc; Known::Nothing; cells.len()]?,
+        rules: classes.rules,
     };
     for net in order {
         if let Some(cell) = cells.get(net.0 as usize) {
