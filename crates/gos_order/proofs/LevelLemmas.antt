@@ -74,7 +74,7 @@ room_level edges levels before from to limit rising are_before other high =
       apart = parted edges levels before [] from to limit rising are_before none (λ a b edge among. absurd (none_in a among)) other;
     }
 
-in_or_not : (items : List ℕ) (node : ℕ) → IsIn items node ⊎ (IsIn items node → ⊥)
+pub in_or_not : (items : List ℕ) (node : ℕ) → IsIn items node ⊎ (IsIn items node → ⊥)
 in_or_not [] node = inr (none_in node)
 in_or_not (x ∷ items) node = by (cases_eq x node) (in_or_not items node)
   where

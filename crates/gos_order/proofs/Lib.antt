@@ -7,4 +7,12 @@ pub mod RingLemmas
 pub mod LevelLemmas
 pub mod RoomLemmas
 pub mod RaiseLemmas
+pub mod TotalLemmas
+pub mod AmongLemmas
+pub mod ReadyLemmas
+pub mod SortingLemmas
+pub mod AmidLemmas
+pub mod TakeLemmas
+pub mod DepthLemmas
 pub mod SmallLemmas
+pub mod SmallDepthLemmas

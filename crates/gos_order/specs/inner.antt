@@ -7,4 +7,5 @@ pub mod Links
 pub mod Searches
 pub mod Tasks
 pub mod Levels
+pub mod Sortings
 pub mod Orders

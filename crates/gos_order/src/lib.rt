@@ -5,6 +5,7 @@
 // how room is made for an edge, `search.rt`, `links.rt` (the edges) and `nodes.rt` (what a search has reached).
 #![tactic(auto)]
 
+mod depths;
 mod laws;
 mod levels;
 mod links;
@@ -12,5 +13,5 @@ mod nodes;
 mod order;
 mod search;
 
-pub use laws::small_rings;
+pub use laws::{small_depths, small_rings};
 pub use order::Order;

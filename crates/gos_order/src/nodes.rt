@@ -53,6 +53,13 @@ impl Nodes {
         self.items.len()
     }
 
+    /// The bound that they are below.
+    pub fn bound(&self) -> u32
+        ensures { result ≡ self.now.bound }
+    {
+        self.places.len() as u32
+    }
+
     /// The node at a place.
     pub fn node(&self, place: usize) -> u32
         requires { place < length self.now.items }

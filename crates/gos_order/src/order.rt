@@ -1,8 +1,10 @@
 // A graph whose edges come one by one, each only if it closes no ring.
 ghost use Rattle.std.specs.Prelude.{◌≡◌, ◌<◌, [], length, IfOk, if◌then◌else◌, Bool};
 ghost use Rattle.gos_order.specs.Rings.{HasRing, IsInRange, and_edge};
+ghost use Rattle.gos_order.specs.Depths.{AreDepths};
 ghost use Rattle.gos_order.specs.Added.{is_added};
 
+use crate::depths::depths_of;
 use crate::levels::{raise, room};
 use crate::links::Links;
 use crate::nodes::Nodes;
@@ -57,6 +59,14 @@ impl Order {
     {
         let _levels = &self.levels;
         self.links.len()
+    }
+
+    /// How deep each node lies: the number of edges on the longest path that leads to it. `Err` is want of memory alone.
+    pub fn depths(&self, alloc: Global) -> Result<Vec<u32>, NoMemory>
+        ensures { IfOk result (λ depths. AreDepths self.now depths.items) }
+    {
+        // What a search reaches is below the count of nodes.
+        depths_of(alloc, &self.links, self.before.bound())
     }
 
     /// Adds an edge behind the others if it closes no ring, and tells whether it did. `Err` is want of memory alone.
