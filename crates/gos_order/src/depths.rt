@@ -2,7 +2,7 @@
 //
 // Nodes are taken one by one, each when all edges to it are followed, and then the edges from it are (Kahn, Topological
 // sorting of large networks, 1962). Without a ring each node is taken.
-ghost use Rattle.std.specs.Prelude.{◌≡◌, ◌<◌, ◌≢◌, ◌+◌, ◌-◌, ◌++◌, ◌∷◌, [], ℕ, length, max, set, IfOk};
+ghost use Rattle.std.specs.Prelude.{◌≡◌, ◌<◌, ◌≤◌, ◌≢◌, ◌+◌, ◌-◌, ◌++◌, ◌∷◌, [], ℕ, length, max, set, IfOk};
 ghost use Rattle.gos_order.specs.Rings.{HasRing, IsInRange};
 ghost use Rattle.gos_order.specs.Depths.{AreDepths};
 ghost use Rattle.gos_order.specs.inner.NodeLists.{IsIn, at};
@@ -39,7 +39,7 @@ pub fn depths_of(alloc: Global, links: &Links, nodes: u32) -> Result<Vec<u32>, N
         waits,
         ready,
     };
-    sorting.run(links, nodes);
+    sorting.run(links);
     let Sorting {
         depths,
         waits: _,
@@ -82,8 +82,8 @@ fn without_edges(alloc: Global, waits: &[usize], nodes: u32) -> Result<Nodes, No
 
 impl Sorting {
     // Takes nodes until none is ready.
-    fn run(&mut self, links: &Links, nodes: u32)
-        requires nodes { nodes ≡ links.now.nodes }
+    fn run(&mut self, links: &Links)
+        requires few { links.now.nodes ≤ 4294967295 }
         requires bound { self.old.ready.bound ≡ links.now.nodes }
         requires range { IsInRange links.now }
         requires ringless { HasRing links.now.edges → ⊥ }
