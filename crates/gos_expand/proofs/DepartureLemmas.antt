@@ -13,8 +13,8 @@ use Rattle.gos_macro.specs.Fit.{AllGoOut}
 use Rattle.gos_macro.specs.Wires.{HoldNets}
 use Rattle.gos_expand.specs.declared.tokens.Nets as nets
 use Rattle.gos_expand.specs.Blocks.{Nets, total}
-use Rattle.gos_expand.specs.Gates.{ForEach, outs_of, part_size}
-use Rattle.gos_expand.specs.Starts.{Keep, plain, parts_start}
+use Rattle.gos_expand.specs.Gates.{Making, outs_of, part_size}
+use Rattle.gos_expand.specs.Starts.{Laying, parts_start}
 use Rattle.gos_expand.specs.Laid.{nets_out, outs_if, leaves}
 use Rattle.gos_expand.specs.inner.Tokens.{held_nets}
 use Rattle.gos_expand.specs.inner.Departures.{nets_of_wire, nets_of_wires, nets_of_outs, part_departures, departures_from, nets_in}
@@ -77,19 +77,31 @@ wires_added i cs ws c w before n within wired so_far is =
     ∙ sym (wires_more i cs ws (slice_index_or cs i c) (slice_index_or ws i w) (read_there cs i c within) (read_there ws i w wired))))
 
 -- one part more
-departures_suc : (m n i : ℕ) (ks : List Part) (k : Part) → slice_get ks i ≡ Some k
-    → departures_from n (take (suc i) ks) ≡ departures_from n (take i ks) ++ part_departures k (n + total (λ _ k. part_size ForEach k) m (take i ks)) ∷ []
-departures_suc m n i [] k there = absurd (cc there)
-departures_suc m n zero (l ∷ ks) k there = let is : l ≡ k = cc there in rw (is, here n) refl
-departures_suc m n (suc i) (l ∷ ks) k there =
-    let sum : n + part_size ForEach l + total (λ _ k. part_size ForEach k) (suc m) (take i ks) ≡ n + (part_size ForEach l + total (λ _ k. part_size ForEach k) (suc m) (take i ks)) = omega arith in
-    ap (λ (ns : List (List Nets)). part_departures l n ∷ ns)
-    (departures_suc (suc m) (n + part_size ForEach l) i ks k there
-    ∙ ap (λ (s : ℕ). departures_from (n + part_size ForEach l) (take i ks) ++ part_departures k s ∷ []) sum)
+departures_suc : (making : ℕ → Making) (m n i : ℕ) (ks : List Part) (k : Part) → slice_get ks i ≡ Some k
+    → departures_from making m n (take (suc i) ks)
+    ≡ departures_from making m n (take i ks) ++ part_departures (making (m + i)) k (n + total (λ j l. part_size (making j) l) m (take i ks)) ∷ []
+departures_suc making m n i [] k there = absurd (cc there)
+departures_suc making m n zero (l ∷ ks) k there = let is : l ≡ k = cc there in rw (is, here n, here m) refl
+departures_suc making m n (suc i) (l ∷ ks) k there =
+    let first : ℕ = part_size (making m) l in
+    let rest : ℕ = total (λ j l. part_size (making j) l) (suc m) (take i ks) in
+    let sum : n + first + rest ≡ n + (first + rest) = omega arith in
+    let part : suc m + i ≡ m + suc i = omega arith in
+    ap (λ (ns : List (List Nets)). part_departures (making m) l n ∷ ns)
+    (departures_suc making (suc m) (n + first) i ks k there
+    ∙ (λ x. departures_from making (suc m) (n + first) (take i ks) ++ part_departures (making (part x)) k (sum x) ∷ []))
 
-pub departures_more : (n i : ℕ) (ks : List Part) (k : Part) → slice_get ks i ≡ Some k
-    → departures_from n (take (i + 1) ks) ≡ departures_from n (take i ks) ++ part_departures k (n + total (λ _ k. part_size ForEach k) 0 (take i ks)) ∷ []
-departures_more n i ks k there = ap (λ (m : ℕ). departures_from n (take m ks)) (up i) ∙ departures_suc 0 n i ks k there
+pub departures_more : (making : ℕ → Making) (n i : ℕ) (ks : List Part) (k : Part) → slice_get ks i ≡ Some k
+    → departures_from making 0 n (take (i + 1) ks)
+    ≡ departures_from making 0 n (take i ks) ++ part_departures (making i) k (n + total (λ j l. part_size (making j) l) 0 (take i ks)) ∷ []
+departures_more making n i ks k there =
+    let first : 0 + i ≡ i = omega arith in
+    ap (λ (m : ℕ). departures_from making 0 n (take m ks)) (up i)
+    ∙ (departures_suc making 0 n i ks k there
+    ∙ ap
+    (λ (m : ℕ).
+    departures_from making 0 n (take i ks) ++ part_departures (making m) k (n + total (λ j l. part_size (making j) l) 0 (take i ks)) ∷ [])
+    first)
 
 -- what goes out at a handshake that there is
 outs_there : (cs : List Contact) (os : List Outgoing) (h : ℕ) → IsSome (slice_get cs h) → slice_get (nets_of_outs cs os) h ≡ Some (nets_out (slice_get os h))
@@ -99,16 +111,24 @@ outs_there (c ∷ cs) [] (suc h) some = outs_there cs [] h some
 outs_there (c ∷ cs) (o ∷ os) zero some = refl
 outs_there (c ∷ cs) (o ∷ os) (suc h) some = outs_there cs os h some
 
-departs_at : (m n i h : ℕ) (ks : List Part) → IsSome (slice_get (contacts_of_part (slice_get ks i)) h)
-    → nets_in (slice_get (departures_from n ks) i) h ≡ Some (nets_out (slice_get (outs_if ForEach (slice_get ks i) (n + total (λ _ k. part_size ForEach k) m (take i ks))) h))
-departs_at m n i h [] some = absurd (cc some)
-departs_at m n zero h (k ∷ ks) some = rw (here n) (outs_there (part_contacts k) (outs_of ForEach k n) h some)
-departs_at m n (suc i) h (k ∷ ks) some =
-    let sum : n + part_size ForEach k + total (λ _ k. part_size ForEach k) (suc m) (take i ks) ≡ n + (part_size ForEach k + total (λ _ k. part_size ForEach k) (suc m) (take i ks)) = omega arith in
-    departs_at (suc m) (n + part_size ForEach k) i h ks some ∙ ap (λ (b : ℕ). Some (nets_out (slice_get (outs_if ForEach (slice_get ks i) b) h))) sum
+departs_at : (making : ℕ → Making) (m n i h : ℕ) (ks : List Part) → IsSome (slice_get (contacts_of_part (slice_get ks i)) h)
+    → nets_in (slice_get (departures_from making m n ks) i) h
+    ≡ Some (nets_out (slice_get (outs_if (making (m + i)) (slice_get ks i) (n + total (λ j l. part_size (making j) l) m (take i ks))) h))
+departs_at making m n i h [] some = absurd (cc some)
+departs_at making m n zero h (k ∷ ks) some = rw (here n, here m) (outs_there (part_contacts k) (outs_of (making m) k n) h some)
+departs_at making m n (suc i) h (k ∷ ks) some =
+    let first : ℕ = part_size (making m) k in
+    let rest : ℕ = total (λ j l. part_size (making j) l) (suc m) (take i ks) in
+    let sum : n + first + rest ≡ n + (first + rest) = omega arith in
+    let part : suc m + i ≡ m + suc i = omega arith in
+    departs_at making (suc m) (n + first) i h ks some ∙ (λ x. Some (nets_out (slice_get (outs_if (making (part x)) (slice_get ks i) (sum x)) h)))
 
 -- the table has what leaves at an end of a part
-pub departs : (keep : Keep) (p : Plan) (table : List (List Nets)) (i h : ℕ) → table ≡ departures_from (parts_start (plain keep) p) p.parts → IsSome (contact_at p (PartEnd i h))
-    → nets_in (slice_get table i) h ≡ Some (leaves (plain keep) p (PartEnd i h))
-departs keep p table i h is some =
-    ap (λ (t : List (List Nets)). nets_in (slice_get t i) h) is ∙ departs_at 0 (parts_start (plain keep) p) i h p.parts some
+pub departs : (lay : Laying) (p : Plan) (table : List (List Nets)) (i h : ℕ) → table ≡ departures_from lay.making 0 (parts_start lay p) p.parts
+    → IsSome (contact_at p (PartEnd i h)) → nets_in (slice_get table i) h ≡ Some (leaves lay p (PartEnd i h))
+departs lay p table i h is some =
+    let first : 0 + i ≡ i = omega arith in
+    let start : ℕ = parts_start lay p + total (λ j l. part_size (lay.making j) l) 0 (take i p.parts) in
+    ap (λ (t : List (List Nets)). nets_in (slice_get t i) h) is
+    ∙ (departs_at lay.making 0 (parts_start lay p) i h p.parts some
+    ∙ ap (λ (m : ℕ). Some (nets_out (slice_get (outs_if (lay.making m) (slice_get p.parts i) start) h))) first)

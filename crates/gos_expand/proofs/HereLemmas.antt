@@ -11,7 +11,7 @@ use Rattle.gos_plan.specs.Plans.{contact_at}
 use Rattle.gos_plan.specs.Seen.{SeenPlan, plan_of, import_of, end_of}
 use Rattle.gos_expand.specs.declared.numbering.Numbering.{Numbering}
 use Rattle.gos_expand.specs.Starts.{port_start}
-use Rattle.gos_expand.specs.inner.Numbering.{IsNumbered, keep_in}
+use Rattle.gos_expand.specs.inner.Numbering.{IsNumbered, laying_in}
 use Rattle.gos_expand.proofs.BlockLemmas.{there_mapped}
 use Rattle.gos_expand.proofs.EndLemmas.{import_known, import_here, import_begins, import_ends_within}
 
@@ -54,5 +54,5 @@ import_base {plan} {n} {i} {h} {x} items here same =
 pub import_low : {plan : SeenPlan} {n : Numbering} {i h : ℕ} {x : PlanImport} (items : List ℕ) → ImportHere plan n i h x → items ≡ n.ports.items → IsNumbered (plan_of plan) n → get_or items (i + 1) 0 ≤ 4000000000
 import_low {plan} {n} {i} {h} {x} items here same numbered =
     let base = import_base items here same in
-    let within = import_ends_within (keep_in n) (plan_of plan) i (import_of x) here.there in
+    let within = import_ends_within (laying_in n) (plan_of plan) i (import_of x) here.there in
     omega (arith, base, within, numbered.whole, numbered.room)

@@ -8,23 +8,29 @@ use Rattle.gos_macro.specs.Gates.{Incoming, Outgoing}
 use Rattle.gos_macro.specs.Fit.{AllGoOut}
 use Rattle.gos_plan.specs.Seen.{part_of}
 use Rattle.gos_expand.specs.Laid.{laid}
-use Rattle.gos_expand.specs.Gates.{ForEach, outs_of}
-use Rattle.gos_expand.specs.inner.Dispatch.{gates_for, part_in, cells_in, outs_in, IsLaidOut, gates_keep}
+use Rattle.gos_expand.specs.Gates.{Making, ForEach, ForOrder, outs_of}
+use Rattle.gos_expand.specs.inner.Dispatch.{gates_for, part_in, cells_in, outs_in, IsLaidOut, gates_fit}
 
 -- the part and the nets of its gates, whichever crate lays them out
-pub part_for : (k : Kind) → part_in (gates_for k) ≡ part_of k
-part_for kinds.Skip = refl
-part_for k = refl
+pub part_for : (m : Making) (k : Kind) → part_in (gates_for m k) ≡ part_of k
+part_for m kinds.Skip = refl
+part_for ForEach (kinds.Share t) = refl
+part_for (ForOrder order) (kinds.Share t) = refl
+part_for m k = refl
 
-pub outs_for : (k : Kind) → outs_in (gates_for k) ≡ outs_of ForEach (part_of k)
-outs_for kinds.Skip = refl
-outs_for k = refl
+pub outs_for : (m : Making) (k : Kind) → outs_in (gates_for m k) ≡ outs_of m (part_of k)
+outs_for m kinds.Skip = refl
+outs_for ForEach (kinds.Share t) = refl
+outs_for (ForOrder order) (kinds.Share t) = refl
+outs_for m k = refl
 
 -- they go out
-pub nets_go_out : (k : Kind) (b : ℕ) → IsLaidOut (gates_for k) → (i : Incoming) → AllGoOut b (cells_in (gates_for k) b i) (part_contacts (part_of k)) (outs_of ForEach (part_of k) b)
-nets_go_out k b laid i =
-    subst (λ (os : ℕ → List Outgoing). AllGoOut b (cells_in (gates_for k) b i) (part_contacts (part_of k)) (os b)) (outs_for k)
-    (subst (λ (p : Part). AllGoOut b (cells_in (gates_for k) b i) (part_contacts p) (outs_in (gates_for k) b)) (part_for k) ((gates_keep (gates_for k) laid (λ h. 0)).fits.outgoing b i))
+pub nets_go_out : (m : Making) (k : Kind) (b : ℕ) → IsLaidOut (gates_for m k) → (i : Incoming)
+    → AllGoOut b (cells_in (gates_for m k) b i) (part_contacts (part_of k)) (outs_of m (part_of k) b)
+nets_go_out m k b laid i =
+    subst (λ (os : ℕ → List Outgoing). AllGoOut b (cells_in (gates_for m k) b i) (part_contacts (part_of k)) (os b)) (outs_for m k)
+    (subst (λ (p : Part). AllGoOut b (cells_in (gates_for m k) b i) (part_contacts p) (outs_in (gates_for m k) b)) (part_for m k)
+    ((gates_fit (gates_for m k) laid).outgoing b i))
 
 -- an element that there is
 pub some_there : {A : Type 0} (xs : List A) (i : ℕ) → i < length xs → (x : A) × (slice_get xs i ≡ Some x)

@@ -13,7 +13,7 @@ use Rattle.gos_macro.specs.Gates.{Incoming}
 use Rattle.gos_expand.specs.declared.arrivals.Origin.{Origin}
 use Rattle.gos_expand.specs.declared.arrivals.Origin.TheVariants.{Cells}
 use Rattle.gos_expand.specs.declared.arrivals.Arrivals.{Arrivals}
-use Rattle.gos_expand.specs.Gates.{ForEach, layout, part_size}
+use Rattle.gos_expand.specs.Gates.{Making, ForEach, ForOrder, layout, part_size}
 use Rattle.gos_expand.specs.inner.Dispatch.{gates_for, cells_in}
 use Rattle.gos_expand.specs.Blocks.{total}
 use Rattle.gos_expand.specs.Starts.{Laying, way_size, joint_size, loose_size}
@@ -82,14 +82,16 @@ ends_more p k n (x ∷ xs) d e =
     ∙ ap (λ (m : ℕ). or_else (or_else (some_if (same_end e x) (Cells n)) (start_by_ends p (n + loose_size p 0 x) xs e)) (some_if (same_end e d) (Cells m))) sum)
 
 -- the cells of a part, whichever crate lays it out
-pub cells_for : (k : Kind) → cells_in (gates_for k) ≡ layout ForEach (part_of k)
-cells_for kinds.Skip = refl
-cells_for k = refl
+pub cells_for : (m : Making) (k : Kind) → cells_in (gates_for m k) ≡ layout m (part_of k)
+cells_for m kinds.Skip = refl
+cells_for ForEach (kinds.Share t) = refl
+cells_for (ForOrder order) (kinds.Share t) = refl
+cells_for m k = refl
 
-pub size_for : (k : Kind) (n : ℕ) → ((b : ℕ) (i : Incoming) → length (cells_in (gates_for k) b i) ≡ n) → n ≡ part_size ForEach (part_of k)
-size_for k n each =
+pub size_for : (m : Making) (k : Kind) (n : ℕ) → ((b : ℕ) (i : Incoming) → length (cells_in (gates_for m k) b i) ≡ n) → n ≡ part_size m (part_of k)
+size_for m k n each =
     let nothing : Incoming = record { pulse = λ h. 0; value = λ h. 0 } in
-    sym (each 0 nothing) ∙ ap (λ (f : ℕ → Incoming → List Cell). length (f 0 nothing)) (cells_for k)
+    sym (each 0 nothing) ∙ ap (λ (f : ℕ → Incoming → List Cell). length (f 0 nothing)) (cells_for m k)
 
 -- the origins by the first joints, with one more
 pub joints_step : (lay : Laying) (p : Plan) (n i : ℕ) (js : List Joint) (j : Joint) (table : Arrivals) → slice_get js i ≡ Some j

@@ -1,5 +1,6 @@
 -- What stands between this crate's own functions and lemmas, and no public clause cites. In reading order: a file uses only
 -- files above it.
+pub mod Orders
 pub mod Dispatch
 pub mod Tokens
 pub mod Arrivals

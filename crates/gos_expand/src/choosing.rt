@@ -90,7 +90,7 @@ fn passes(kind: &Kind, count: u32, from: u32, to: u32) -> bool
     requires to { to < length (part_contacts (part_of kind.now)) }
     ensures { result ≡ passing_of ForEach (part_of kind.now) from to }
 {
-    may_pass(kind, count, from, to) && gates_of(kind).passes(from, to)
+    may_pass(kind, count, from, to) && gates_of(kind, None).passes(from, to)
 }
 
 // Whether it may, as far as is told at once. A Share has the source's handshakes and as many of each caller, and passes

@@ -1,10 +1,12 @@
 // The nets of what goes out of each part of a plan.
 ghost use Rattle.std.specs.Prelude.{◌≡◌, ◌≤◌, ◌+◌, map, option_map, length, slice_get, IfOk};
+ghost use Rattle.std.specs.Option.{option_copied};
 ghost use Rattle.gos_plan.specs.Ranges.{IsInRange};
 ghost use Rattle.gos_plan.specs.Contacts.{contact_held};
 ghost use Rattle.gos_plan.specs.Seen.{part_of};
 ghost use Rattle.gos_macro.specs.Gates.{bits_out};
-ghost use Rattle.gos_expand.specs.Gates.{ForEach, part_size};
+ghost use Rattle.gos_expand.specs.Gates.{part_size};
+ghost use Rattle.gos_expand.specs.inner.Orders.{making_of, IsOrderOf};
 ghost use Rattle.gos_expand.specs.inner.Tokens.{held_nets};
 ghost use Rattle.gos_expand.specs.inner.Departures.{nets_of_wire, nets_of_wires, part_departures, nets_in};
 
@@ -33,15 +35,21 @@ impl Departures {
 }
 
 // The nets of what goes out of a part whose first cell is `base`, by handshake.
-pub(crate) fn part_departures(alloc: Global, kind: &Kind, base: u32) -> Result<Vec<Nets>, NoMemory>
+pub(crate) fn part_departures(
+    alloc: Global,
+    kind: &Kind,
+    order: Option<&[u32]>,
+    base: u32,
+) -> Result<Vec<Nets>, NoMemory>
     requires in_range { IsInRange kind.now }
-    requires numbered { base + part_size ForEach (part_of kind.now) ≤ 4294967295 }
-    ensures { IfOk result (λ nets. map held_nets nets.items ≡ part_departures (part_of kind.now) base) }
+    requires order { IsOrderOf (making_of (option_copied order)) (part_of kind.now) }
+    requires numbered { base + part_size (making_of (option_copied order)) (part_of kind.now) ≤ 4294967295 }
+    ensures { IfOk result (λ nets. map held_nets nets.items ≡ part_departures (making_of (option_copied order.entry)) (part_of kind.now) base) }
 {
     let contacts = part_contacts(alloc, kind)?;
     let mut wires = no_wires();
     let wires = &mut wires[..shakes(kind) as usize];
-    gates_of(kind).outs(NetId(base), wires);
+    gates_of(kind, order).outs(NetId(base), wires);
     let nets = nets_of_wires(alloc, &contacts, wires)?;
     Ok(nets)
 }

@@ -1,22 +1,45 @@
 // The gates of a part, whichever crate lays them out.
 ghost use Rattle.std.specs.Prelude.{◌≡◌};
-ghost use Rattle.gos_plan.specs.Ranges.{IsInRange};
-ghost use Rattle.gos_expand.specs.inner.Dispatch.{gates_for, part_in, cells_in, outs_in, late_in, pending_in, stands_in, passing_in, IsLaidOut, gates_keep, gates_pass};
+ghost use Rattle.std.specs.Option.{option_copied};
+ghost use Rattle.gos_types.specs.Types.{type_of};
+ghost use Rattle.gos_plan.specs.Kinds.{Share};
+ghost use Rattle.gos_plan.specs.Seen.{part_of};
+ghost use Rattle.gos_plan.specs.Ranges.{IsInRange, IsSmall};
+ghost use Rattle.gos_expand.specs.inner.Orders.{making_of, IsOrderOf};
+ghost use Rattle.gos_expand.specs.inner.Dispatch.{
+  sharing_for,
+  gates_for,
+  part_in,
+  cells_in,
+  outs_in,
+  late_in,
+  pending_in,
+  stands_in,
+  passing_in,
+  IsLaidOut,
+  Suits,
+  gates_keep,
+  gates_pass,
+};
 
 use gos_control::Control;
 use gos_data::Arith;
+use gos_fast_share::FastSharing;
 use gos_macro::{Macro, Wire};
 use gos_netlist::NetId;
 use gos_plan::Kind;
 use gos_pool::{NetPool, Region};
 use gos_share::Sharing;
+use gos_types::Ty;
 
-// The gates of a part: it passes control on, it computes, or two callers use one source by it.
+// The gates of a part: it passes control on, it computes, or two callers use one source by it, in each order of its
+// handshakes or in one.
 #[derive(Debug, Drop)]
 pub(crate) enum Gates<'a> {
     Controls(Control),
     Computes(Arith),
     Shares(Sharing<'a>),
+    Threads(FastSharing<'a>),
 }
 
 impl<'a> Macro for Gates<'a> {
@@ -36,13 +59,14 @@ impl<'a> Macro for Gates<'a> {
 
     ghost is_laid_out = { IsLaidOut };
 
-    ghost suits = { λ _ _. Unit {0} };
+    ghost suits = { Suits };
 
     fn size(&self) -> u32 {
         match self {
             Gates::Controls(control) => control.size(),
             Gates::Computes(arith) => arith.size(),
             Gates::Shares(sharing) => sharing.size(),
+            Gates::Threads(sharing) => sharing.size(),
         }
     }
 
@@ -51,6 +75,7 @@ impl<'a> Macro for Gates<'a> {
             Gates::Controls(control) => control.outs(base, wires),
             Gates::Computes(arith) => arith.outs(base, wires),
             Gates::Shares(sharing) => sharing.outs(base, wires),
+            Gates::Threads(sharing) => sharing.outs(base, wires),
         }
     }
 
@@ -59,6 +84,7 @@ impl<'a> Macro for Gates<'a> {
             Gates::Controls(control) => control.place(pool, region, wires),
             Gates::Computes(arith) => arith.place(pool, region, wires),
             Gates::Shares(sharing) => sharing.place(pool, region, wires),
+            Gates::Threads(sharing) => sharing.place(pool, region, wires),
         }
     }
 
@@ -67,18 +93,33 @@ impl<'a> Macro for Gates<'a> {
             Gates::Controls(control) => control.passes(from, to),
             Gates::Computes(arith) => arith.passes(from, to),
             Gates::Shares(sharing) => sharing.passes(from, to),
+            Gates::Threads(sharing) => sharing.passes(from, to),
         }
     }
 
-    ghost law = { λ g is rank _. gates_keep g is rank };
+    ghost law = { gates_keep };
 
     ghost paths = { gates_pass };
 }
 
-// The gates of a part. They take no memory.
-pub(crate) fn gates_of<'a>(kind: &'a Kind) -> Gates<'a>
+// The gates of a Share, made for this order of its handshakes if there is one.
+fn sharing_of<'a>(ty: &'a Ty, order: Option<&'a [u32]>) -> Gates<'a>
+    requires small { IsSmall ty.now }
+    requires order { IsOrderOf (making_of (option_copied order)) (Share (type_of ty.now)) }
+    ensures is { result ≡ sharing_for (making_of (option_copied order.entry)) ty.now }
+    ensures laid_out { IsLaidOut result }
+{
+    match order {
+        None => Gates::Shares(Sharing(ty)),
+        Some(order) => Gates::Threads(FastSharing { ty, order }),
+    }
+}
+
+// The gates of a part, made for this order of its handshakes if it is a Share and there is one. They take no memory.
+pub(crate) fn gates_of<'a>(kind: &'a Kind, order: Option<&'a [u32]>) -> Gates<'a>
     requires in_range { IsInRange kind.now }
-    ensures is { result ≡ gates_for kind.now }
+    requires order { IsOrderOf (making_of (option_copied order)) (part_of kind.now) }
+    ensures is { result ≡ gates_for (making_of (option_copied order.entry)) kind.now }
     ensures laid_out { IsLaidOut result }
 {
     match kind {
@@ -100,6 +141,6 @@ pub(crate) fn gates_of<'a>(kind: &'a Kind) -> Gates<'a>
             n: *n,
             v: *v,
         })),
-        Kind::Share(ty) => Gates::Shares(Sharing(ty)),
+        Kind::Share(ty) => sharing_of(ty, order),
     }
 }

@@ -8,7 +8,7 @@ ghost use Rattle.gos_expand.specs.Laid.{request_start, leaves, arrives};
 ghost use Rattle.gos_expand.specs.inner.Tokens.{held_nets};
 ghost use Rattle.gos_plan.specs.Size.{plan_size};
 ghost use Rattle.gos_expand.specs.Acceptance.{HasGroundPorts};
-ghost use Rattle.gos_expand.specs.inner.Numbering.{IsNumbered, keep_in};
+ghost use Rattle.gos_expand.specs.inner.Numbering.{IsNumbered, laying_in};
 
 use crate::arrivals::Origin;
 use crate::numbering::Numbering;
@@ -22,7 +22,7 @@ pub(crate) fn leaves(plan: &Plan, numbering: &Numbering<'_>, end: End) -> Nets
     requires size { plan_size (plan_of plan.now) ≤ 5000000 }
     requires numbered { IsNumbered (plan_of plan.now) numbering.now }
     requires there { IsSome (contact_at (plan_of plan.now) (end_of end)) }
-    ensures { held_nets result ≡ leaves (keep_in numbering.now) (plan_of plan.now) (end_of end) }
+    ensures { held_nets result ≡ leaves (laying_in numbering.now) (plan_of plan.now) (end_of end) }
 {
     let Some(entry) = numbering.arrivals.get(end) else {
         unreachable!()
@@ -69,7 +69,7 @@ pub(crate) fn arrives(plan: &Plan, numbering: &Numbering<'_>, end: End) -> Nets
     requires right { IsRight (plan_of plan.now) }
     requires numbered { IsNumbered (plan_of plan.now) numbering.now }
     requires there { IsSome (contact_at (plan_of plan.now) (end_of end)) }
-    ensures { held_nets result ≡ arrives (keep_in numbering.now) (plan_of plan.now) (end_of end) }
+    ensures { held_nets result ≡ arrives (laying_in numbering.now) (plan_of plan.now) (end_of end) }
 {
     let Some(entry) = numbering.arrivals.get(end) else {
         unreachable!()

@@ -8,7 +8,8 @@
 // of them; `departures.rt` has the nets that go out of each part, and `leaves.rt` names those that go into the
 // circuit at an end; `gates.rt` lays parts out, `tokens.rt` has the cells of a pulse and its number, and `outside.rt`
 // makes the ports. `choosing.rt` tells which directions of joints keep their registers where few are wanted
-// (`specs/Choices`). `into.rt` lays a plan out in a pool that has cells already (`specs/Into`).
+// (`specs/Choices`), and `orders.rt` for which order of its handshakes a Share's gates are made. `into.rt` lays a plan
+// out in a pool that has cells already (`specs/Into`).
 #![tactic(auto)]
 
 mod arrivals;
@@ -19,6 +20,7 @@ mod into;
 mod laws;
 mod leaves;
 mod numbering;
+mod orders;
 mod outside;
 mod places;
 mod placing;

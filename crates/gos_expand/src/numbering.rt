@@ -1,5 +1,6 @@
 // Where the blocks of a plan's netlist begin: of ports, of joints, of ends in no joint, and of parts, in this order.
 ghost use Rattle.std.specs.Prelude.{◌≡◌, ◌≤◌, ◌<◌, ◌+◌, ◌*◌, ℕ, Option, None, is_none, map, filter, length, IfOk, IsSome};
+ghost use Rattle.std.specs.Option.{option_copied};
 ghost use Rattle.gos_types.specs.Types.{type_of, IsGround};
 ghost use Rattle.gos_types.specs.Events.{Request, Answer};
 ghost use Rattle.gos_plan.specs.Kinds.{contacts_of, part_contacts};
@@ -8,11 +9,11 @@ ghost use Rattle.gos_plan.specs.Seen.{plan_of, part_of, end_of, joint_of};
 ghost use Rattle.gos_plan.specs.Size.{plan_size, shakes_of};
 ghost use Rattle.gos_plan.specs.Ranges.{IsInRange};
 ghost use Rattle.gos_expand.specs.Blocks.{total};
-ghost use Rattle.gos_expand.specs.Gates.{ForEach, part_size};
+ghost use Rattle.gos_expand.specs.Gates.{Making, part_size};
+ghost use Rattle.gos_expand.specs.inner.Orders.{making_of, making_in, IsOrderOf, AreOrdersOf};
 ghost use Rattle.gos_expand.specs.Starts.{
   Laying,
   chosen,
-  plain,
   kept_size,
   shake_size,
   port_size,
@@ -31,11 +32,12 @@ ghost use Rattle.gos_expand.specs.inner.Arrivals.{AreAt, Exist, or_else, by_way,
 ghost use Rattle.gos_expand.specs.Acceptance.{HasGroundPorts};
 ghost use Rattle.gos_expand.specs.inner.Tokens.{held_nets};
 ghost use Rattle.gos_expand.specs.inner.Departures.{departures_from};
-ghost use Rattle.gos_expand.specs.inner.Numbering.{IsNumbered, starts};
+ghost use Rattle.gos_expand.specs.inner.Numbering.{IsNumbered, laying, starts};
 
 use crate::arrivals::{Arrivals, Origin};
 use crate::departures::{Departures, part_departures};
 use crate::gates::gates_of;
+use crate::orders::Orders;
 use crate::places::all_ends;
 use crate::tokens::token_size;
 use gos_macro::Macro;
@@ -48,6 +50,8 @@ use std::alloc::Global;
 pub(crate) struct Numbering<'a> {
     // Which directions of joints keep their registers: of each joint the request and then the answer.
     pub keep: &'a [bool],
+    // For which orders of their handshakes the gates of parts are made.
+    pub orders: &'a Orders,
     // Where what comes in at each end begins.
     pub arrivals: Arrivals,
     // The ends in no joint.
@@ -62,16 +66,19 @@ pub(crate) struct Numbering<'a> {
     pub size: u32,
 }
 
-// Numbers the blocks of a plan, in which these directions of joints keep their registers.
+// Numbers the blocks of a plan, in which these directions of joints keep their registers and gates are made for these orders.
 pub(crate) fn number<'a>(
     alloc: Global,
     plan: &Plan,
     keep: &'a [bool],
+    orders: &'a Orders,
 ) -> Result<Numbering<'a>, NoMemory>
     requires ports { HasGroundPorts plan.now }
     requires size { plan_size (plan_of plan.now) ≤ 5000000 }
+    requires orders { AreOrdersOf (making_in orders.now) (plan_of plan.now).parts }
     ensures numbered { IfOk result (IsNumbered (plan_of plan.now)) }
     ensures keep { IfOk result (λ n. n.keep.now ≡ keep.now) }
+    ensures orders { IfOk result (λ n. n.orders.now ≡ orders.now) }
     ensures right { IfOk result (λ _. IsRight (plan_of plan.now)) }
 {
     let mut arrivals = Arrivals::new(alloc, plan)?;
@@ -79,9 +86,10 @@ pub(crate) fn number<'a>(
     let loose_start = number_joints(&mut arrivals, plan, keep, joints_start);
     let loose = loose_ends(alloc, plan, &arrivals)?;
     let parts_start = number_loose(&mut arrivals, &loose, loose_start);
-    let (departures, size) = number_parts(alloc, plan, parts_start)?;
+    let (departures, size) = number_parts(alloc, plan, orders, parts_start)?;
     Ok(Numbering {
         keep,
+        orders,
         arrivals,
         loose,
         ports,
@@ -140,8 +148,8 @@ fn number_joints(arrivals: &mut Arrivals, plan: &Plan, keep: &[bool], from: u32)
     requires table { AreAt (plan_of plan.now) (λ e. None) arrivals.old }
     requires from { from ≡ joints_start (plan_of plan.now) }
     requires room { from + 4 * length plan.now.joints ≤ 4294967295 }
-    ensures table { AreAt (plan_of plan.now) (joined_start (plain (chosen keep.now)) (plan_of plan.now)) arrivals.new }
-    ensures next { result ≡ loose_ends_start (plain (chosen keep.now)) (plan_of plan.now) }
+    ensures table { (making : ℕ → Making) → AreAt (plan_of plan.now) (joined_start (laying (chosen keep.now) making) (plan_of plan.now)) arrivals.new }
+    ensures next { (making : ℕ → Making) → result ≡ loose_ends_start (laying (chosen keep.now) making) (plan_of plan.now) }
     ensures few { result ≤ from + 4 * length plan.now.joints }
     ensures right { IsRight (plan_of plan.now) }
 {
@@ -271,29 +279,40 @@ pub(crate) fn bits_at(arrivals: &Arrivals, end: End) -> u32
 }
 
 // The nets of what goes out of the parts, the first of which begins at this net, and what comes behind them.
-fn number_parts(alloc: Global, plan: &Plan, from: u32) -> Result<(Departures, u32), NoMemory>
+fn number_parts(
+    alloc: Global,
+    plan: &Plan,
+    orders: &Orders,
+    from: u32,
+) -> Result<(Departures, u32), NoMemory>
     requires ports { HasGroundPorts plan.now }
     requires size { plan_size (plan_of plan.now) ≤ 5000000 }
+    requires orders { AreOrdersOf (making_in orders.now) (plan_of plan.now).parts }
     requires room { from ≤ 1000000000 }
-    ensures departures { IfOk result (λ r. map (λ s. map held_nets s.items) r.0.parts.items ≡ departures_from from (plan_of plan.now).parts) }
-    ensures next { IfOk result (λ r. r.1 ≡ from + total (λ _ k. part_size ForEach k) 0 (plan_of plan.now).parts) }
+    ensures departures { IfOk result (λ r.
+        map (λ s. map held_nets s.items) r.0.parts.items ≡ departures_from (making_in orders.now) 0 from (plan_of plan.now).parts) }
+    ensures next { IfOk result (λ r. r.1 ≡ from + total (λ i k. part_size (making_in orders.now i) k) 0 (plan_of plan.now).parts) }
     ensures few { IfOk result (λ r. r.1 ≤ from + 24 * (length plan.now.parts + shakes_of (plan_of plan.now).parts)) }
 {
     let mut parts = Vec::new(alloc);
     let mut next = from;
-    for kind in plan.parts() {
-        let size = part_cells(kind);
-        parts.push(part_departures(alloc, kind, next)?)?;
+    let kinds = plan.parts();
+    for index in 0..kinds.len() {
+        let kind = &kinds[index];
+        let order = orders.get(index);
+        let size = part_cells(kind, order);
+        parts.push(part_departures(alloc, kind, order, next)?)?;
         next += size;
     }
     Ok((Departures { parts }, next))
 }
 
 // How many cells a part has.
-fn part_cells(kind: &Kind) -> u32
+fn part_cells(kind: &Kind, order: Option<&[u32]>) -> u32
     requires in_range { IsInRange kind.now }
-    ensures is { result ≡ part_size ForEach (part_of kind.now) }
+    requires order { IsOrderOf (making_of (option_copied order)) (part_of kind.now) }
+    ensures is { result ≡ part_size (making_of (option_copied order.entry)) (part_of kind.now) }
     ensures few { result ≤ 24 * (length (part_contacts (part_of kind.now)) + 1) }
 {
-    gates_of(kind).size()
+    gates_of(kind, order).size()
 }

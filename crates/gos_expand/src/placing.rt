@@ -7,13 +7,13 @@ ghost use Rattle.gos_plan.specs.Plans.{contact_at, IsRight};
 ghost use Rattle.gos_plan.specs.Seen.{plan_of, joint_of, end_of};
 ghost use Rattle.gos_macro.specs.Wires.{incoming_of};
 ghost use Rattle.gos_expand.specs.Blocks.{blocks};
-ghost use Rattle.gos_expand.specs.Gates.{ForEach, part_size};
+ghost use Rattle.gos_expand.specs.Gates.{part_size};
 ghost use Rattle.gos_expand.specs.Starts.{kept_size, shake_size, joint_size, ports_of, taken_ports, loose_ends, part_start, parts_start};
 ghost use Rattle.gos_expand.specs.Laid.{registers_if, leaves, side_cells, port_cells, joint_cells, loose_cells, part_cells, incoming};
 ghost use Rattle.gos_expand.specs.inner.Tokens.{held_nets, Places};
 ghost use Rattle.gos_plan.specs.Size.{plan_size};
 ghost use Rattle.gos_expand.specs.Acceptance.{HasGroundPorts};
-ghost use Rattle.gos_expand.specs.inner.Numbering.{IsNumbered, keep_in};
+ghost use Rattle.gos_expand.specs.inner.Numbering.{IsNumbered, laying_in};
 ghost use Rattle.gos_expand.specs.inner.Outers.{outer_at};
 
 use crate::departures::no_wires;
@@ -35,8 +35,8 @@ pub(crate) fn place_ports(pool: &mut NetPool, plan: &Plan, numbering: &Numbering
     requires right { IsRight (plan_of plan.now) }
     requires numbered { IsNumbered (plan_of plan.now) numbering.now }
     requires begun { pool.old.begun ≡ None }
-    requires spare { length (blocks (port_cells (keep_in numbering.now) (plan_of plan.now)) 0 (ports_of (plan_of plan.now))) + 1 ≤ pool.old.spare }
-    ensures { Places pool.old pool.new (blocks (port_cells (keep_in numbering.now) (plan_of plan.now)) 0 (ports_of (plan_of plan.now))) 1 }
+    requires spare { length (blocks (port_cells (laying_in numbering.now) (plan_of plan.now)) 0 (ports_of (plan_of plan.now))) + 1 ≤ pool.old.spare }
+    ensures { Places pool.old pool.new (blocks (port_cells (laying_in numbering.now) (plan_of plan.now)) 0 (ports_of (plan_of plan.now))) 1 }
 {
     let mut region = pool.begin();
     place_port(
@@ -58,8 +58,9 @@ fn place_imports(pool: &mut NetPool, region: &mut Region, plan: &Plan, numbering
     requires right { IsRight (plan_of plan.now) }
     requires numbered { IsNumbered (plan_of plan.now) numbering.now }
     requires begun { pool.old.begun ≡ Some region.old }
-    requires spare { length (blocks (port_cells (keep_in numbering.now) (plan_of plan.now)) 0 (taken_ports 0 (plan_of plan.now).imports)) ≤ pool.old.spare }
-    ensures placed { Places pool.old pool.new (blocks (port_cells (keep_in numbering.now) (plan_of plan.now)) 0 (taken_ports 0 (plan_of plan.now).imports)) 0 }
+    requires spare { length (blocks (port_cells (laying_in numbering.now) (plan_of plan.now)) 0 (taken_ports 0 (plan_of plan.now).imports)) ≤ pool.old.spare }
+    ensures placed { Places pool.old pool.new
+        (blocks (port_cells (laying_in numbering.now) (plan_of plan.now)) 0 (taken_ports 0 (plan_of plan.now).imports)) 0 }
     ensures region { region.new ≡ region.old }
 {
     let imports = plan.imports();
@@ -85,8 +86,8 @@ fn place_port(
     requires numbered { IsNumbered (plan_of plan.now) numbering.now }
     requires all { count ≡ length (outer_at (plan_of plan.now) place).contacts }
     requires begun { pool.old.begun ≡ Some region.old }
-    requires spare { length (port_cells (keep_in numbering.now) (plan_of plan.now) 0 (outer_at (plan_of plan.now) place)) ≤ pool.old.spare }
-    ensures placed { Places pool.old pool.new (port_cells (keep_in numbering.now) (plan_of plan.now) 0 (outer_at (plan_of plan.now) place)) 0 }
+    requires spare { length (port_cells (laying_in numbering.now) (plan_of plan.now) 0 (outer_at (plan_of plan.now) place)) ≤ pool.old.spare }
+    ensures placed { Places pool.old pool.new (port_cells (laying_in numbering.now) (plan_of plan.now) 0 (outer_at (plan_of plan.now) place)) 0 }
     ensures region { region.new ≡ region.old }
 {
     for shake in 0..count {
@@ -124,8 +125,8 @@ pub(crate) fn place_joints(pool: &mut NetPool, plan: &Plan, numbering: &Numberin
     requires size { plan_size (plan_of plan.now) ≤ 5000000 }
     requires numbered { IsNumbered (plan_of plan.now) numbering.now }
     requires begun { pool.old.begun ≡ None }
-    requires spare { length (blocks (joint_cells (keep_in numbering.now) (plan_of plan.now)) 0 (plan_of plan.now).joints) + 1 ≤ pool.old.spare }
-    ensures { Places pool.old pool.new (blocks (joint_cells (keep_in numbering.now) (plan_of plan.now)) 0 (plan_of plan.now).joints) 1 }
+    requires spare { length (blocks (joint_cells (laying_in numbering.now) (plan_of plan.now)) 0 (plan_of plan.now).joints) + 1 ≤ pool.old.spare }
+    ensures { Places pool.old pool.new (blocks (joint_cells (laying_in numbering.now) (plan_of plan.now)) 0 (plan_of plan.now).joints) 1 }
 {
     let mut region = pool.begin();
     let joints = plan.joints();
@@ -151,8 +152,8 @@ fn place_joint(
     requires asks { IsSome (contact_at (plan_of plan.now) (joint_of joint).asking) }
     requires serves { IsSome (contact_at (plan_of plan.now) (joint_of joint).serving) }
     requires begun { pool.old.begun ≡ Some region.old }
-    requires spare { joint_size (keep_in numbering.now) (plan_of plan.now) index (joint_of joint) ≤ pool.old.spare }
-    ensures placed { Places pool.old pool.new (joint_cells (keep_in numbering.now) (plan_of plan.now) index (joint_of joint)) 0 }
+    requires spare { joint_size (laying_in numbering.now) (plan_of plan.now) index (joint_of joint) ≤ pool.old.spare }
+    ensures placed { Places pool.old pool.new (joint_cells (laying_in numbering.now) (plan_of plan.now) index (joint_of joint)) 0 }
     ensures region { region.new ≡ region.old }
 {
     let Some(entry) = numbering.arrivals.get(joint.asks) else {
@@ -196,7 +197,7 @@ fn place_way(
     requires there { IsSome (contact_at (plan_of plan.now) (end_of from)) }
     requires begun { pool.old.begun ≡ Some region.old }
     requires spare { kept_size kept bits ≤ pool.old.spare }
-    ensures placed { Places pool.old pool.new (registers_if kept bits (leaves (keep_in numbering.now) (plan_of plan.now) (end_of from))) 0 }
+    ensures placed { Places pool.old pool.new (registers_if kept bits (leaves (laying_in numbering.now) (plan_of plan.now) (end_of from))) 0 }
     ensures region { region.new ≡ region.old }
 {
     if kept {
@@ -228,10 +229,11 @@ pub(crate) fn place_parts(pool: &mut NetPool, plan: &Plan, numbering: &Numbering
     requires right { IsRight (plan_of plan.now) }
     requires numbered { IsNumbered (plan_of plan.now) numbering.now }
     requires begun { pool.old.begun ≡ None }
-    requires start { length pool.old.cells ≡ parts_start (keep_in numbering.now) (plan_of plan.now) }
-    requires spare { length (blocks (part_cells (keep_in numbering.now) (plan_of plan.now)) 0 (plan_of plan.now).parts)
+    requires start { length pool.old.cells ≡ parts_start (laying_in numbering.now) (plan_of plan.now) }
+    requires spare { length (blocks (part_cells (laying_in numbering.now) (plan_of plan.now)) 0 (plan_of plan.now).parts)
         + length plan.now.parts ≤ pool.old.spare }
-    ensures { Places pool.old pool.new (blocks (part_cells (keep_in numbering.now) (plan_of plan.now)) 0 (plan_of plan.now).parts) (length plan.now.parts) }
+    ensures { Places pool.old pool.new
+        (blocks (part_cells (laying_in numbering.now) (plan_of plan.now)) 0 (plan_of plan.now).parts) (length plan.now.parts) }
 {
     for index in 0..plan.parts().len() {
         place_part(pool, plan, numbering, index);
@@ -246,13 +248,14 @@ fn place_part(pool: &mut NetPool, plan: &Plan, numbering: &Numbering<'_>, index:
     requires numbered { IsNumbered (plan_of plan.now) numbering.now }
     requires there { index < length plan.now.parts }
     requires begun { pool.old.begun ≡ None }
-    requires start { length pool.old.cells ≡ part_start (keep_in numbering.now) (plan_of plan.now) index }
-    requires spare { (k : Part) → slice_get (plan_of plan.now).parts index ≡ Some k → part_size ForEach k + 1 ≤ pool.old.spare }
+    requires start { length pool.old.cells ≡ part_start (laying_in numbering.now) (plan_of plan.now) index }
+    requires spare { (k : Part) → slice_get (plan_of plan.now).parts index ≡ Some k
+        → part_size ((laying_in numbering.now).making index) k + 1 ≤ pool.old.spare }
     ensures { (k : Part) → slice_get (plan_of plan.now).parts index ≡ Some k
-        → Places pool.old pool.new (part_cells (keep_in numbering.now) (plan_of plan.now) index k) 1 }
+        → Places pool.old pool.new (part_cells (laying_in numbering.now) (plan_of plan.now) index k) 1 }
 {
     let kind = &plan.parts()[index];
-    let gates = gates_of(kind);
+    let gates = gates_of(kind, numbering.orders.get(index));
     let mut wires = no_wires();
     let wires = &mut wires[..shakes(kind) as usize];
     wire_part(plan, numbering, index as u32, wires);
@@ -271,7 +274,7 @@ fn wire_part(plan: &Plan, numbering: &Numbering<'_>, part: u32, wires: &mut [Wir
     requires there { (k : Part) → slice_get (plan_of plan.now).parts part ≡ Some k → length wires.old ≡ length (part_contacts k) }
     requires part { part < length plan.now.parts }
     requires few { length wires.old ≤ 192 }
-    ensures nets { incoming_of wires.new ≡ incoming (keep_in numbering.now) (plan_of plan.now) part }
+    ensures nets { incoming_of wires.new ≡ incoming (laying_in numbering.now) (plan_of plan.now) part }
     ensures length { length wires.new ≡ length wires.old }
 {
     for shake in 0..wires.len() {

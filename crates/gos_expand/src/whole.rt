@@ -6,13 +6,16 @@ ghost use Rattle.gos_plan.specs.Seen.{plan_of};
 ghost use Rattle.gos_plan.specs.Size.{plan_size};
 ghost use Rattle.gos_netlist.specs.Cycles.{HasCycle};
 ghost use Rattle.gos_expand.specs.Starts.{chosen};
-ghost use Rattle.gos_expand.specs.Laid.{laid};
+ghost use Rattle.gos_expand.specs.Laid.{laid, circuit};
 ghost use Rattle.gos_expand.specs.Acceptance.{AreDifferent, CanBeLaid};
 ghost use Rattle.gos_expand.specs.Choices.{IsLaidBy};
 ghost use Rattle.gos_expand.specs.inner.Choosing.{IsChoiceOf};
+ghost use Rattle.gos_expand.specs.inner.Numbering.{laying};
+ghost use Rattle.gos_expand.specs.inner.Orders.{making_in, AreOrdersOf};
 
 use crate::choosing::few;
 use crate::numbering::number;
+use crate::orders::Orders;
 use crate::outside::ports;
 use crate::placing::{place_joints, place_loose, place_parts, place_ports};
 use gos_lex::Name;
@@ -59,7 +62,7 @@ pub fn expand_with(
     ensures accepted { IfOk result (λ net. (HasCycle net.cells → ⊥) → IsAccepted net) }
     ensures few { IfOk result (λ net. length net.cells ≤ plan_size (plan_of plan.now)) }
 {
-    lay_out(alloc, plan, root, keep)
+    lay_out_plain(alloc, plan, root, keep)
 }
 
 /// The netlist of `expand_with` for the directions of joints that the policy chooses. It is accepted.
@@ -76,7 +79,7 @@ pub fn expand(alloc: Global, plan: &Plan, root: &Name, policy: Policy) -> Result
     ensures few { IfOk result (λ net. length net.cells ≤ plan_size (plan_of plan.now)) }
 {
     let keep = choice(alloc, plan, policy)?;
-    lay_out(alloc, plan, root, &keep)
+    lay_out_plain(alloc, plan, root, &keep)
 }
 
 // The directions of joints that a policy chooses.
@@ -98,8 +101,13 @@ fn all_kept(alloc: Global, count: usize) -> Result<Vec<bool>, NoMemory>
     Ok(keep)
 }
 
-// The netlist of a plan, as the laws have it. The plan is one of which they speak.
-fn lay_out(alloc: Global, plan: &Plan, root: &Name, keep: &[bool]) -> Result<Netlist, NoMemory>
+// The netlist of a plan whose gates are made for no order.
+fn lay_out_plain(
+    alloc: Global,
+    plan: &Plan,
+    root: &Name,
+    keep: &[bool],
+) -> Result<Netlist, NoMemory>
     requires result { IsDone (type_of plan.now.outcome) }
     requires ground { All (λ i. IsGround (type_of i.ty)) plan.now.imports }
     requires names { AreDifferent (root.now ∷ map (λ i. i.name) plan.now.imports) }
@@ -107,7 +115,27 @@ fn lay_out(alloc: Global, plan: &Plan, root: &Name, keep: &[bool]) -> Result<Net
     ensures laid { IfOk result (λ net. net ≡ laid (chosen keep.now) (plan_of plan.now) root.now) }
     ensures can { IfOk result (λ _. CanBeLaid plan.now root.now) }
 {
-    let numbering = number(alloc, plan, keep)?;
+    let orders = Orders::none(alloc);
+    lay_out(alloc, plan, root, keep, &orders)
+}
+
+// The netlist of a plan, as the laws have it. The plan is one of which they speak.
+fn lay_out(
+    alloc: Global,
+    plan: &Plan,
+    root: &Name,
+    keep: &[bool],
+    orders: &Orders,
+) -> Result<Netlist, NoMemory>
+    requires result { IsDone (type_of plan.now.outcome) }
+    requires ground { All (λ i. IsGround (type_of i.ty)) plan.now.imports }
+    requires names { AreDifferent (root.now ∷ map (λ i. i.name) plan.now.imports) }
+    requires size { plan_size (plan_of plan.now) ≤ 5000000 }
+    requires orders { AreOrdersOf (making_in orders.now) (plan_of plan.now).parts }
+    ensures laid { IfOk result (λ net. net ≡ circuit (laying (chosen keep.now) (making_in orders.now)) (plan_of plan.now) root.now) }
+    ensures can { IfOk result (λ _. CanBeLaid plan.now root.now) }
+{
+    let numbering = number(alloc, plan, keep, orders)?;
     let ports = ports(alloc, plan, root, &numbering)?;
     let mut pool = NetPool::new(alloc);
     pool.reserve(numbering.size as usize + plan.parts().len() + 3)?;

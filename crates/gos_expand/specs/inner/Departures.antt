@@ -1,14 +1,14 @@
 -- The nets of what goes out of parts, as the program keeps them.
 --
 -- Read first: Tokens, Laid; Contacts of gos_plan. Between the functions of this crate.
-use Rattle.std.specs.Prelude.{ℕ, ◌+◌, if◌then◌else◌, nat_eq, List, [], ◌∷◌, Option, None, Some, slice_get}
+use Rattle.std.specs.Prelude.{ℕ, suc, ◌+◌, if◌then◌else◌, nat_eq, List, [], ◌∷◌, Option, None, Some, slice_get}
 use Rattle.gos_plan.specs.declared.contacts.Contact as held
 use Rattle.gos_plan.specs.Kinds.{Part, Contact, part_contacts}
 use Rattle.gos_plan.specs.Contacts.{contact_held}
 use Rattle.gos_macro.specs.declared.gates.Wire.{Wire}
 use Rattle.gos_macro.specs.Gates.{Outgoing, bits_out}
 use Rattle.gos_expand.specs.Blocks.{Nets}
-use Rattle.gos_expand.specs.Gates.{ForEach, outs_of, part_size}
+use Rattle.gos_expand.specs.Gates.{Making, outs_of, part_size}
 use Rattle.gos_expand.specs.Laid.{nets_out}
 
 -- the nets of what goes out by a wire at a handshake
@@ -28,13 +28,13 @@ nets_of_outs (c ∷ cs) [] = nets_out None ∷ nets_of_outs cs []
 nets_of_outs (c ∷ cs) (o ∷ os) = nets_out (Some o) ∷ nets_of_outs cs os
 
 -- the nets of what goes out of a part whose first cell is net n, by handshake
-abbrev pub part_departures : Part → ℕ → List Nets
-part_departures k n = nets_of_outs (part_contacts k) (outs_of ForEach k n)
+abbrev pub part_departures : Making → Part → ℕ → List Nets
+part_departures m k n = nets_of_outs (part_contacts k) (outs_of m k n)
 
--- those of parts, the first of which begins at net n
-abbrev pub departures_from : ℕ → List Part → List (List Nets)
-departures_from n [] = []
-departures_from n (k ∷ ks) = part_departures k n ∷ departures_from (n + part_size ForEach k) ks
+-- those of parts, the first of which is part i and begins at net n
+abbrev pub departures_from : (ℕ → Making) → ℕ → ℕ → List Part → List (List Nets)
+departures_from making i n [] = []
+departures_from making i n (k ∷ ks) = part_departures (making i) k n ∷ departures_from making (suc i) (n + part_size (making i) k) ks
 
 -- the nets at a handshake of a part
 abbrev pub nets_in : Option (List Nets) → ℕ → Option Nets

@@ -11,7 +11,7 @@ use Rattle.gos_expand.specs.Blocks.{nets_from}
 use Rattle.gos_expand.specs.Starts.{Laying, parts_start}
 use Rattle.gos_expand.specs.Laid.{leaves, arrives}
 use Rattle.gos_expand.specs.inner.Arrivals.{arrival_if, start_at, nets_by, nets_of}
-use Rattle.gos_expand.specs.inner.Numbering.{keep_in}
+use Rattle.gos_expand.specs.inner.Numbering.{laying_in}
 use Rattle.gos_expand.proofs.ArriveLemmas.{IsFound, entry_told, arrives_told, origin_found, parts_within}
 use Rattle.gos_expand.proofs.leaves.arrives.Goals as goal
 
@@ -32,7 +32,7 @@ nets_are lay p e a o told is =
 
 pub nets_from-requires-in-Cells : goal.nets_from-requires-in-Cells
 nets_from-requires-in-Cells c =
-    let lay : Laying = keep_in c.args.numbering.now in
+    let lay : Laying = laying_in c.args.numbering.now in
     let p : Plan = plan_of c.args.plan.now in
     let e : End = end_of c.args.end in
     let told = sym c.in-Some.is ∙ (c.get.ensures ∙ c.requires.numbered.of_arrivals e) in
@@ -45,7 +45,7 @@ nets_from-requires-in-Cells c =
 
 pub leaves-requires-clause-there : goal.leaves-requires-clause-there
 leaves-requires-clause-there c =
-    let lay : Laying = keep_in c.args.numbering.now in
+    let lay : Laying = laying_in c.args.numbering.now in
     let p : Plan = plan_of c.args.plan.now in
     let e : End = end_of c.args.end in
     let told = sym c.in-Some.is ∙ (c.get.ensures ∙ c.requires.numbered.of_arrivals e) in
@@ -54,7 +54,7 @@ leaves-requires-clause-there c =
 
 pub returns-in-Cells : goal.returns-in-Cells
 returns-in-Cells c =
-    let lay : Laying = keep_in c.args.numbering.now in
+    let lay : Laying = laying_in c.args.numbering.now in
     let p : Plan = plan_of c.args.plan.now in
     let e : End = end_of c.args.end in
     let told = sym c.in-Some.is ∙ (c.get.ensures ∙ c.requires.numbered.of_arrivals e) in
@@ -64,7 +64,7 @@ returns-in-Cells c =
 
 pub returns-in-Other : goal.returns-in-Other
 returns-in-Other c =
-    let lay : Laying = keep_in c.args.numbering.now in
+    let lay : Laying = laying_in c.args.numbering.now in
     let p : Plan = plan_of c.args.plan.now in
     let e : End = end_of c.args.end in
     let told = sym c.in-Some.is ∙ (c.get.ensures ∙ c.requires.numbered.of_arrivals e) in
@@ -72,7 +72,7 @@ returns-in-Other c =
 
 pub returns-in_default-origin : goal.returns-in_default-origin
 returns-in_default-origin c =
-    let lay : Laying = keep_in c.args.numbering.now in
+    let lay : Laying = laying_in c.args.numbering.now in
     let p : Plan = plan_of c.args.plan.now in
     let e : End = end_of c.args.end in
     let told = sym c.in-Some.is ∙ (c.get.ensures ∙ c.requires.numbered.of_arrivals e) in

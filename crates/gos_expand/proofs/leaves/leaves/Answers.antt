@@ -8,7 +8,7 @@ use Rattle.gos_plan.specs.declared.plan.PlanImport.{PlanImport}
 use Rattle.gos_plan.specs.Kinds.{contacts_of}
 use Rattle.gos_plan.specs.Plans.{Plan, contact_at}
 use Rattle.gos_plan.specs.Seen.{SeenPlan, plan_of, import_of, end_of}
-use Rattle.gos_expand.specs.Starts.{chosen, Laying, port_start}
+use Rattle.gos_expand.specs.Starts.{Laying, port_start}
 use Rattle.gos_expand.specs.inner.Arrivals.{start_at}
 use Rattle.gos_expand.specs.Laid.{leaves, request_start}
 use Rattle.gos_expand.proofs.ArriveLemmas.{entry_holds}
@@ -19,16 +19,16 @@ use Rattle.gos_expand.proofs.LeafLemmas.{there_within}
 use Rattle.gos_expand.specs.declared.numbering.Numbering.{Numbering}
 use Rattle.gos_expand.specs.inner.Tokens.{held_nets}
 use Rattle.gos_expand.specs.inner.Departures.{nets_in}
-use Rattle.gos_expand.specs.inner.Numbering.{IsNumbered, keep_in}
+use Rattle.gos_expand.specs.inner.Numbering.{IsNumbered, laying_in}
 use Rattle.gos_expand.proofs.leaves.leaves.Goals as goal
 
 -- the table has what leaves at an end of a part
 part_departs : (plan : SeenPlan) (n : Numbering) (e : declared.End) (i h : ℕ) → IsNumbered (plan_of plan) n → IsSome (contact_at (plan_of plan) (end_of e)) → e ≡ ends.Part i h
-    → nets_in (slice_get (map (λ s. map held_nets s.items) n.departures.parts.items) i) h ≡ Some (leaves (keep_in n) (plan_of plan) (end_of e))
+    → nets_in (slice_get (map (λ s. map held_nets s.items) n.departures.parts.items) i) h ≡ Some (leaves (laying_in n) (plan_of plan) (end_of e))
 part_departs plan n e i h numbered some is =
     let here = subst (λ (d : declared.End). IsSome (contact_at (plan_of plan) (end_of d))) is some in
-    departs (chosen n.keep.now) (plan_of plan) (map (λ s. map held_nets s.items) n.departures.parts.items) i h numbered.of_departures here
-    ∙ sym (ap (λ (d : declared.End). Some (leaves (keep_in n) (plan_of plan) (end_of d))) is)
+    departs (laying_in n) (plan_of plan) (map (λ s. map held_nets s.items) n.departures.parts.items) i h numbered.of_departures here
+    ∙ sym (ap (λ (d : declared.End). Some (leaves (laying_in n) (plan_of plan) (end_of d))) is)
 
 pub bounds-starts-import : goal.bounds-starts-import
 bounds-starts-import c =
@@ -77,7 +77,7 @@ nets_from-requires c =
 
 pub returns-in-Import : goal.returns-in-Import
 returns-in-Import c =
-    let lay : Laying = keep_in c.args.numbering.now in
+    let lay : Laying = laying_in c.args.numbering.now in
     let p : Plan = plan_of c.args.plan.now in
     let e = end_of c.args.end in
     let i = c.in-Import.import in

@@ -12,7 +12,7 @@ use Rattle.gos_expand.specs.Laid.{laid_port}
 use Rattle.gos_expand.proofs.BlockLemmas.{item_mapped}
 use Rattle.gos_expand.proofs.EndLemmas.{import_begins, import_ends_within, port_added}
 use Rattle.gos_expand.proofs.LeafLemmas.{there_within}
-use Rattle.gos_expand.specs.inner.Numbering.{keep_in}
+use Rattle.gos_expand.specs.inner.Numbering.{laying_in}
 use Rattle.gos_expand.proofs.outside.ports.Goals as goal
 
 -- the port of an import whose first cell is n
@@ -30,7 +30,7 @@ bounds-starts-index c =
 
 pub port-requires-in-loop-index-clause-room : goal.port-requires-in-loop-index-clause-room
 port-requires-in-loop-index-clause-room c =
-    let lay : Laying = keep_in c.args.numbering.now in
+    let lay : Laying = laying_in c.args.numbering.now in
     let p : Plan = plan_of c.args.plan.now in
     let i : ℕ = c.loop-index.index in
     let x : PlanImport = c.index-imports-index.result in

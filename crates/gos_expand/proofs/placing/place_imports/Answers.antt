@@ -12,12 +12,12 @@ use Rattle.gos_expand.proofs.BlockLemmas.{item_mapped}
 use Rattle.gos_expand.proofs.CountLemmas.{outer_import}
 use Rattle.gos_expand.proofs.PortLemmas.{taken_port, import_port, all_taken}
 use Rattle.gos_expand.proofs.PlacingLemmas.{block_placed, block_fits}
-use Rattle.gos_expand.specs.inner.Numbering.{keep_in}
+use Rattle.gos_expand.specs.inner.Numbering.{laying_in}
 use Rattle.gos_expand.proofs.placing.place_imports.Goals as goal
 
 pub place_port-requires-clause-spare : goal.place_port-requires-clause-spare
 place_port-requires-clause-spare c =
-    let lay : Laying = keep_in c.args.numbering.now in
+    let lay : Laying = laying_in c.args.numbering.now in
     let p : Plan = plan_of c.args.plan.now in
     let i : ℕ = c.loop-index.index in
     let x : Imported = import_of c.index-imports-index.result in
@@ -31,7 +31,7 @@ place_port-requires-clause-spare c =
 
 pub loop-index-preserved : goal.loop-index-preserved
 loop-index-preserved c =
-    let lay : Laying = keep_in c.args.numbering.now in
+    let lay : Laying = laying_in c.args.numbering.now in
     let p : Plan = plan_of c.args.plan.now in
     let i : ℕ = c.loop-index.index in
     let x : Imported = import_of c.index-imports-index.result in
@@ -44,7 +44,7 @@ loop-index-preserved c =
 
 pub returns-clause-placed : goal.returns-clause-placed
 returns-clause-placed c =
-    let lay : Laying = keep_in c.args.numbering.now in
+    let lay : Laying = laying_in c.args.numbering.now in
     let p : Plan = plan_of c.args.plan.now in
     let over : length c.args.plan.now.imports ≤ c.loop-index.index = subst (λ (is : List PlanImport). length is ≤ c.loop-index.index) c.imports-imports.ensures c.loop-index-test.false in
     subst (λ (os : List Outer). Places c.args.pool.now c.loop-index.pool (blocks (port_cells lay p) 0 os) 0) (all_taken 0 c.loop-index.index p.imports (omega (arith, over, length-map c.args.plan.now.imports import_of)))

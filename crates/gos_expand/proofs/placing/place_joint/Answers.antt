@@ -4,7 +4,7 @@ use Rattle.gos_types.specs.Events.{Request, Answer}
 use Rattle.gos_plan.specs.Plans.{Joint, Plan, contact_at}
 use Rattle.gos_plan.specs.Seen.{plan_of, joint_of}
 use Rattle.gos_expand.specs.Starts.{Laying, kept_size, way_size}
-use Rattle.gos_expand.specs.inner.Numbering.{keep_in}
+use Rattle.gos_expand.specs.inner.Numbering.{laying_in}
 use Rattle.gos_expand.specs.inner.Tokens.{Places}
 use Rattle.gos_expand.specs.inner.Arrivals.{start_at}
 use Rattle.gos_expand.specs.Laid.{leaves, registers_if, way_cells}
@@ -15,7 +15,7 @@ use Rattle.gos_expand.proofs.placing.place_joint.Goals as goal
 
 pub place_way-requires-clause-spare : goal.place_way-requires-clause-spare
 place_way-requires-clause-spare c =
-    let lay : Laying = keep_in c.args.numbering.now in
+    let lay : Laying = laying_in c.args.numbering.now in
     let p : Plan = plan_of c.args.plan.now in
     let j : Joint = joint_of c.args.joint in
     let bits = entry_bits (start_at lay p j.asking) (contact_at p j.asking) c.in-Some.entry (sym c.in-Some.is ∙ (c.get.ensures ∙ c.requires.numbered.of_arrivals j.asking)) in
@@ -26,7 +26,7 @@ place_way-requires-clause-spare c =
 
 pub place_way-requires-2-clause-spare : goal.place_way-requires-2-clause-spare
 place_way-requires-2-clause-spare c =
-    let lay : Laying = keep_in c.args.numbering.now in
+    let lay : Laying = laying_in c.args.numbering.now in
     let p : Plan = plan_of c.args.plan.now in
     let j : Joint = joint_of c.args.joint in
     let bits = entry_bits (start_at lay p j.asking) (contact_at p j.asking) c.in-Some.entry (sym c.in-Some.is ∙ (c.get.ensures ∙ c.requires.numbered.of_arrivals j.asking)) in
@@ -41,7 +41,7 @@ place_way-requires-2-clause-spare c =
 
 pub returns-clause-placed : goal.returns-clause-placed
 returns-clause-placed c =
-    let lay : Laying = keep_in c.args.numbering.now in
+    let lay : Laying = laying_in c.args.numbering.now in
     let p : Plan = plan_of c.args.plan.now in
     let j : Joint = joint_of c.args.joint in
     let bits = entry_bits (start_at lay p j.asking) (contact_at p j.asking) c.in-Some.entry (sym c.in-Some.is ∙ (c.get.ensures ∙ c.requires.numbered.of_arrivals j.asking)) in

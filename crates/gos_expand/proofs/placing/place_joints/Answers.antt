@@ -11,7 +11,7 @@ use Rattle.gos_expand.proofs.CountLemmas.{indexed_mapped, asking_there, serving_
 use Rattle.gos_expand.proofs.GroupLemmas.{joint_length}
 use Rattle.gos_expand.proofs.SeatLemmas.{joint_fits}
 use Rattle.gos_expand.proofs.PlacingLemmas.{block_placed, block_fits}
-use Rattle.gos_expand.specs.inner.Numbering.{keep_in}
+use Rattle.gos_expand.specs.inner.Numbering.{laying_in}
 use Rattle.gos_expand.proofs.placing.place_joints.Goals as goal
 
 pub place_joint-requires-clause-index : goal.place_joint-requires-clause-index
@@ -39,7 +39,7 @@ place_joint-requires-clause-serves c =
 
 pub place_joint-requires-clause-spare : goal.place_joint-requires-clause-spare
 place_joint-requires-clause-spare c =
-    let lay : Laying = keep_in c.args.numbering.now in
+    let lay : Laying = laying_in c.args.numbering.now in
     let p : Plan = plan_of c.args.plan.now in
     let i : ℕ = c.loop-index.index in
     let none : declared.Joint = record { asks = ends.Part 0 0; serves = ends.Part 0 0 } in
@@ -53,7 +53,7 @@ place_joint-requires-clause-spare c =
 
 pub loop-index-preserved : goal.loop-index-preserved
 loop-index-preserved c =
-    let lay : Laying = keep_in c.args.numbering.now in
+    let lay : Laying = laying_in c.args.numbering.now in
     let p : Plan = plan_of c.args.plan.now in
     let i : ℕ = c.loop-index.index in
     let none : declared.Joint = record { asks = ends.Part 0 0; serves = ends.Part 0 0 } in

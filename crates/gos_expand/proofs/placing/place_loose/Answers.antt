@@ -11,12 +11,12 @@ use Rattle.gos_expand.specs.Laid.{loose_cells}
 use Rattle.gos_expand.proofs.CountLemmas.{indexed_mapped}
 use Rattle.gos_expand.proofs.GroupLemmas.{loose_length}
 use Rattle.gos_expand.proofs.PlacingLemmas.{block_placed, block_fits}
-use Rattle.gos_expand.specs.inner.Numbering.{keep_in}
+use Rattle.gos_expand.specs.inner.Numbering.{laying_in}
 use Rattle.gos_expand.proofs.placing.place_loose.Goals as goal
 
 pub place_nothing-requires-clause-spare : goal.place_nothing-requires-clause-spare
 place_nothing-requires-clause-spare c =
-    let lay : Laying = keep_in c.args.numbering.now in
+    let lay : Laying = laying_in c.args.numbering.now in
     let p : Plan = plan_of c.args.plan.now in
     let i : ℕ = c.loop-index.index in
     let es : List End = map end_of c.args.numbering.now.loose.items in
@@ -32,7 +32,7 @@ place_nothing-requires-clause-spare c =
 
 pub loop-index-preserved : goal.loop-index-preserved
 loop-index-preserved c =
-    let lay : Laying = keep_in c.args.numbering.now in
+    let lay : Laying = laying_in c.args.numbering.now in
     let p : Plan = plan_of c.args.plan.now in
     let i : ℕ = c.loop-index.index in
     let es : List End = map end_of c.args.numbering.now.loose.items in

@@ -9,7 +9,9 @@ use Rattle.gos_macro.specs.Wires.{incoming_of}
 use Rattle.gos_plan.specs.Seen.{plan_of, part_of}
 use Rattle.gos_expand.specs.Starts.{Laying}
 use Rattle.gos_expand.specs.declared.gates.Gates.{Gates}
-use Rattle.gos_expand.specs.Gates.{ForEach, layout, part_size}
+use Rattle.gos_expand.specs.Gates.{Making, layout, part_size}
+use Rattle.gos_expand.specs.inner.Orders.{making_of, making_in, IsOrderOf}
+use Rattle.std.specs.Option.{option_copied}
 use Rattle.gos_expand.specs.inner.Dispatch.{gates_for, cells_in}
 use Rattle.gos_expand.specs.inner.Tokens.{Places}
 use Rattle.gos_expand.specs.Laid.{incoming, part_cells}
@@ -19,23 +21,31 @@ use Rattle.gos_expand.proofs.EndLemmas.{part_ends_within}
 use Rattle.gos_expand.proofs.NumberLemmas.{cells_for}
 use Rattle.gos_expand.proofs.PlacingLemmas.{region_placed}
 use Rattle.gos_expand.proofs.WireLemmas.{same_nets}
-use Rattle.gos_expand.specs.inner.Numbering.{keep_in}
+use Rattle.gos_expand.specs.inner.Numbering.{laying_in}
 use Rattle.gos_expand.proofs.placing.place_part.Goals as goal
 
 -- the cells of these gates, and their number
-laid : (g : Gates) (k : Kind) (b : ℕ) (i : Incoming) → g ≡ gates_for k → cells_in g b i ≡ layout ForEach (part_of k) b i
-laid g k b i is = ap (λ (h : Gates). cells_in h b i) is ∙ ap (λ (f : ℕ → Incoming → List Cell). f b i) (cells_for k)
+laid : (g : Gates) (n m : Making) (k : Kind) (b : ℕ) (i : Incoming) → g ≡ gates_for n k → n ≡ m → cells_in g b i ≡ layout m (part_of k) b i
+laid g n m k b i is made =
+    ap (λ (h : Gates). cells_in h b i) is
+    ∙ (ap (λ (f : ℕ → Incoming → List Cell). f b i) (cells_for n k) ∙ ap (λ (o : Making). layout o (part_of k) b i) made)
 
-sized : (g : Gates) (k : Kind) (b : ℕ) (i : Incoming) → g ≡ gates_for k → length (cells_in g b i) ≡ part_size ForEach (part_of k)
-sized g k b i is = ap (λ (cs : List Cell). length cs) (laid g k b i is) ∙ layout_length ForEach (part_of k) b i
+sized : (g : Gates) (n m : Making) (k : Kind) (b : ℕ) (i : Incoming) → g ≡ gates_for n k → n ≡ m → length (cells_in g b i) ≡ part_size m (part_of k)
+sized g n m k b i is made = ap (λ (cs : List Cell). length cs) (laid g n m k b i is made) ∙ layout_length m (part_of k) b i
+
+pub gates_of-gates-requires-clause-order : goal.gates_of-gates-requires-clause-order
+gates_of-gates-requires-clause-order c =
+    let k : Kind = c.index-parts-index.result in
+    let there = item_mapped part_of c.args.index c.parts.result.now c.args.plan.now.parts k c.parts.ensures.value (rw (c.parts.ensures.value) c.requires.there) c.index-parts-index.is in
+    subst (λ (m : Making). IsOrderOf m (part_of k)) (sym (ap making_of c.get.ensures)) (c.requires.numbered.of_orders c.args.index (part_of k) there)
 
 pub outs-requires-clause-numbered : goal.outs-requires-clause-numbered
 outs-requires-clause-numbered c =
-    let lay : Laying = keep_in c.args.numbering.now in
+    let lay : Laying = laying_in c.args.numbering.now in
     let k : Kind = c.index-parts-index.result in
     let p : Plan = plan_of c.args.plan.now in
     let there = item_mapped part_of c.args.index c.parts.result.now c.args.plan.now.parts k c.parts.ensures.value (rw (c.parts.ensures.value) c.requires.there) c.index-parts-index.is in
-    let size = sized c.gates_of-gates.result k c.start.result (incoming_of c.wire_part.new.wires) c.gates_of-gates.ensures.is in
+    let size = sized c.gates_of-gates.result (making_of (option_copied c.get.result)) (making_in c.args.numbering.now.orders.now c.args.index) k c.start.result (incoming_of c.wire_part.new.wires) c.gates_of-gates.ensures.is (ap making_of c.get.ensures) in
     let within = part_ends_within lay p c.args.index (part_of k) there in
     let first = c.start.ensures in
     let begin = c.begin-region.ensures.start in
@@ -48,18 +58,18 @@ pub place-requires-clause-spare : goal.place-requires-clause-spare
 place-requires-clause-spare c =
     let k : Kind = c.index-parts-index.result in
     let there = item_mapped part_of c.args.index c.parts.result.now c.args.plan.now.parts k c.parts.ensures.value (rw (c.parts.ensures.value) c.requires.there) c.index-parts-index.is in
-    let size = sized c.gates_of-gates.result k c.begin-region.result (incoming_of c.outs.new.wires) c.gates_of-gates.ensures.is in
+    let size = sized c.gates_of-gates.result (making_of (option_copied c.get.result)) (making_in c.args.numbering.now.orders.now c.args.index) k c.begin-region.result (incoming_of c.outs.new.wires) c.gates_of-gates.ensures.is (ap making_of c.get.ensures) in
     let same = ap (λ (q : Pool). q.spare) c.begin-region.ensures.begun in
     let spare = c.requires.spare (part_of k) there in
     omega (arith, size, same, spare)
 
 pub place-requires-clause-numbered : goal.place-requires-clause-numbered
 place-requires-clause-numbered c =
-    let lay : Laying = keep_in c.args.numbering.now in
+    let lay : Laying = laying_in c.args.numbering.now in
     let k : Kind = c.index-parts-index.result in
     let p : Plan = plan_of c.args.plan.now in
     let there = item_mapped part_of c.args.index c.parts.result.now c.args.plan.now.parts k c.parts.ensures.value (rw (c.parts.ensures.value) c.requires.there) c.index-parts-index.is in
-    let size = sized c.gates_of-gates.result k c.begin-region.result (incoming_of c.outs.new.wires) c.gates_of-gates.ensures.is in
+    let size = sized c.gates_of-gates.result (making_of (option_copied c.get.result)) (making_in c.args.numbering.now.orders.now c.args.index) k c.begin-region.result (incoming_of c.outs.new.wires) c.gates_of-gates.ensures.is (ap making_of c.get.ensures) in
     let within = part_ends_within lay p c.args.index (part_of k) there in
     let begin = c.begin-region.ensures.start in
     let start = c.requires.start in
@@ -71,7 +81,7 @@ pub finish-requires-clause-spare : goal.finish-requires-clause-spare
 finish-requires-clause-spare c =
     let k : Kind = c.index-parts-index.result in
     let there = item_mapped part_of c.args.index c.parts.result.now c.args.plan.now.parts k c.parts.ensures.value (rw (c.parts.ensures.value) c.requires.there) c.index-parts-index.is in
-    let size = sized c.gates_of-gates.result k c.begin-region.result (incoming_of c.outs.new.wires) c.gates_of-gates.ensures.is in
+    let size = sized c.gates_of-gates.result (making_of (option_copied c.get.result)) (making_in c.args.numbering.now.orders.now c.args.index) k c.begin-region.result (incoming_of c.outs.new.wires) c.gates_of-gates.ensures.is (ap making_of c.get.ensures) in
     let same = ap (λ (q : Pool). q.spare) c.begin-region.ensures.begun in
     let spare = c.requires.spare (part_of k) there in
     let placed = c.place.ensures.spare in
@@ -79,21 +89,21 @@ finish-requires-clause-spare c =
 
 pub returns : goal.returns
 returns c = λ part at.
-    let lay : Laying = keep_in c.args.numbering.now in
+    let lay : Laying = laying_in c.args.numbering.now in
     let k : Kind = c.index-parts-index.result in
     let p : Plan = plan_of c.args.plan.now in
     let there = item_mapped part_of c.args.index c.parts.result.now c.args.plan.now.parts k c.parts.ensures.value (rw (c.parts.ensures.value) c.requires.there) c.index-parts-index.is in
     let found : Some (part_of k) ≡ Some part = sym there ∙ at in
     let is : part_of k ≡ part = cc found in
-    let size = sized c.gates_of-gates.result k c.begin-region.result (incoming_of c.outs.new.wires) c.gates_of-gates.ensures.is in
+    let size = sized c.gates_of-gates.result (making_of (option_copied c.get.result)) (making_in c.args.numbering.now.orders.now c.args.index) k c.begin-region.result (incoming_of c.outs.new.wires) c.gates_of-gates.ensures.is (ap making_of c.get.ensures) in
     let same = ap (λ (q : Pool). q.spare) c.begin-region.ensures.begun in
     let spare = c.requires.spare (part_of k) there in
     let placed = c.place.ensures.spare in
     let nets : incoming_of c.outs.new.wires ≡ incoming lay p c.args.index = same_nets c.outs.new.wires c.wire_part.new.wires c.outs.ensures.rest ∙ c.wire_part.ensures.nets in
     let cells : cells_in c.gates_of-gates.result c.begin-region.result (incoming_of c.outs.new.wires) ≡ part_cells lay p c.args.index (part_of k) =
-    laid c.gates_of-gates.result k c.begin-region.result (incoming_of c.outs.new.wires) c.gates_of-gates.ensures.is
-    ∙ (ap (λ (i : Incoming). layout ForEach (part_of k) c.begin-region.result i) nets
-    ∙ ap (λ (b : ℕ). layout ForEach (part_of k) b (incoming lay p c.args.index)) (c.begin-region.ensures.start ∙ c.requires.start)) in
+    laid c.gates_of-gates.result (making_of (option_copied c.get.result)) (making_in c.args.numbering.now.orders.now c.args.index) k c.begin-region.result (incoming_of c.outs.new.wires) c.gates_of-gates.ensures.is (ap making_of c.get.ensures)
+    ∙ (ap (λ (i : Incoming). layout (lay.making c.args.index) (part_of k) c.begin-region.result i) nets
+    ∙ ap (λ (b : ℕ). layout (lay.making c.args.index) (part_of k) b (incoming lay p c.args.index)) (c.begin-region.ensures.start ∙ c.requires.start)) in
     let counts = ap (λ (cs : List Cell). length cs) cells in
     let inner : Places c.begin-region.new.self c.place.new.pool (part_cells lay p c.args.index (part_of k)) 0 =
     record {

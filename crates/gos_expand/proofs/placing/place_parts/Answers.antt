@@ -5,19 +5,19 @@ use Rattle.gos_plan.specs.declared.kinds.Kind.{Kind}
 use Rattle.gos_plan.specs.Plans.{Plan}
 use Rattle.gos_plan.specs.Seen.{plan_of, part_of}
 use Rattle.gos_expand.specs.Blocks.{blocks}
-use Rattle.gos_expand.specs.Gates.{ForEach, part_size}
+use Rattle.gos_expand.specs.Gates.{part_size}
 use Rattle.gos_expand.specs.Starts.{Laying, part_start}
 use Rattle.gos_expand.specs.Laid.{incoming, part_cells}
 use Rattle.gos_expand.proofs.GroupLemmas.{layout_length, part_length}
 use Rattle.gos_expand.proofs.StandLemmas.{length_blocks}
 use Rattle.gos_expand.proofs.LeafLemmas.{some_there}
 use Rattle.gos_expand.proofs.PlacingLemmas.{block_placed, block_fits}
-use Rattle.gos_expand.specs.inner.Numbering.{keep_in}
+use Rattle.gos_expand.specs.inner.Numbering.{laying_in}
 use Rattle.gos_expand.proofs.placing.place_parts.Goals as goal
 
 pub place_part-requires-clause-start : goal.place_part-requires-clause-start
 place_part-requires-clause-start c =
-    let lay : Laying = keep_in c.args.numbering.now in
+    let lay : Laying = laying_in c.args.numbering.now in
     let p : Plan = plan_of c.args.plan.now in
     let i : ℕ = c.loop-index.index in
     let so_far : List Cell = blocks (part_cells lay p) 0 (take i p.parts) in
@@ -29,10 +29,10 @@ place_part-requires-clause-start c =
 
 pub place_part-requires-clause-spare : goal.place_part-requires-clause-spare
 place_part-requires-clause-spare c = λ k there.
-    let lay : Laying = keep_in c.args.numbering.now in
+    let lay : Laying = laying_in c.args.numbering.now in
     let p : Plan = plan_of c.args.plan.now in
     let i : ℕ = c.loop-index.index in
-    let size = layout_length ForEach k (part_start lay p i) (incoming lay p i) in
+    let size = layout_length (lay.making i) k (part_start lay p i) (incoming lay p i) in
     let spare = c.requires.spare in
     let within : i < length c.args.plan.now.parts = subst (λ (ks : List Kind). i < length ks) c.parts-index-end.ensures.value c.loop-index-test.true in
     let fits = block_fits (part_cells lay p) i i (length c.args.plan.now.parts) p.parts k c.args.pool.now c.loop-index.pool there c.loop-index.invariant spare in
@@ -40,7 +40,7 @@ place_part-requires-clause-spare c = λ k there.
 
 pub loop-index-preserved : goal.loop-index-preserved
 loop-index-preserved c =
-    let lay : Laying = keep_in c.args.numbering.now in
+    let lay : Laying = laying_in c.args.numbering.now in
     let p : Plan = plan_of c.args.plan.now in
     let i : ℕ = c.loop-index.index in
     let within : i < length c.args.plan.now.parts = subst (λ (ks : List Kind). i < length ks) c.parts-index-end.ensures.value c.loop-index-test.true in

@@ -14,12 +14,12 @@ use Rattle.gos_expand.proofs.CountLemmas.{shake_placed}
 use Rattle.gos_expand.proofs.GroupLemmas.{shake_length}
 use Rattle.gos_expand.proofs.LeafLemmas.{some_there}
 use Rattle.gos_expand.proofs.PlacingLemmas.{block_placed, block_fits}
-use Rattle.gos_expand.specs.inner.Numbering.{keep_in}
+use Rattle.gos_expand.specs.inner.Numbering.{laying_in}
 use Rattle.gos_expand.proofs.placing.place_port.Goals as goal
 
 pub place_shake-requires-clause-spare : goal.place_shake-requires-clause-spare
 place_shake-requires-clause-spare c =
-    let lay : Laying = keep_in c.args.numbering.now in
+    let lay : Laying = laying_in c.args.numbering.now in
     let p : Plan = plan_of c.args.plan.now in
     let o : Outer = outer_at p c.args.place in
     let h : ℕ = c.loop-shake.shake in
@@ -41,7 +41,7 @@ place_shake-requires-clause-spare c =
 
 pub loop-shake-preserved : goal.loop-shake-preserved
 loop-shake-preserved c =
-    let lay : Laying = keep_in c.args.numbering.now in
+    let lay : Laying = laying_in c.args.numbering.now in
     let p : Plan = plan_of c.args.plan.now in
     let o : Outer = outer_at p c.args.place in
     let h : ℕ = c.loop-shake.shake in

@@ -11,24 +11,24 @@ use Rattle.gos_expand.specs.Laid.{port_cells}
 use Rattle.gos_expand.specs.inner.Outers.{outer_at}
 use Rattle.gos_expand.proofs.CountLemmas.{ports_alike, ports_length}
 use Rattle.gos_expand.proofs.PlacingLemmas.{places_then, region_placed}
-use Rattle.gos_expand.specs.inner.Numbering.{keep_in}
+use Rattle.gos_expand.specs.inner.Numbering.{laying_in}
 use Rattle.gos_expand.proofs.placing.place_ports.Goals as goal
 
 pub place_imports-requires-clause-spare : goal.place_imports-requires-clause-spare
 place_imports-requires-clause-spare c =
-    let cells = ports_length (keep_in c.args.numbering.now) (plan_of c.args.plan.now) in
+    let cells = ports_length (laying_in c.args.numbering.now) (plan_of c.args.plan.now) in
     let same = ap (λ (q : Pool). q.spare) c.begin-region.ensures.begun in
     omega (arith, cells, same, c.requires.spare, c.place_port.ensures.placed.spare)
 
 pub finish-requires-clause-spare : goal.finish-requires-clause-spare
 finish-requires-clause-spare c =
-    let cells = ports_length (keep_in c.args.numbering.now) (plan_of c.args.plan.now) in
+    let cells = ports_length (laying_in c.args.numbering.now) (plan_of c.args.plan.now) in
     let same = ap (λ (q : Pool). q.spare) c.begin-region.ensures.begun in
     omega (arith, cells, same, c.requires.spare, c.place_port.ensures.placed.spare, c.place_imports.ensures.placed.spare)
 
 pub returns : goal.returns
 returns c =
-    let lay : Laying = keep_in c.args.numbering.now in
+    let lay : Laying = laying_in c.args.numbering.now in
     let p : Plan = plan_of c.args.plan.now in
     let own : List Cell = port_cells lay p 0 (outer_at p places.OfResult) in
     let cells = ports_length lay p in

@@ -4,12 +4,12 @@ use Rattle.gos_plan.specs.Seen.{plan_of, part_of}
 use Rattle.gos_expand.proofs.LeafLemmas.{some_there, there_within}
 use Rattle.gos_expand.proofs.WireLemmas.{wires_hold}
 use Rattle.gos_expand.specs.Starts.{Laying}
-use Rattle.gos_expand.specs.inner.Numbering.{keep_in}
+use Rattle.gos_expand.specs.inner.Numbering.{laying_in}
 use Rattle.gos_expand.proofs.placing.wire_part.Goals as goal
 
 pub returns-clause-nets : goal.returns-clause-nets
 returns-clause-nets c =
-    let lay : Laying = keep_in c.args.numbering.now in
+    let lay : Laying = laying_in c.args.numbering.now in
     let counts = length-map c.args.plan.now.parts part_of in
     let part = c.requires.part in
     let found = some_there (map part_of c.args.plan.now.parts) c.args.part (omega (arith, counts, part)) in

@@ -17,7 +17,7 @@ returns-clause-laid c =
     let p : Plan = plan_of c.args.plan.now in
     let is : IsChoiceOf c.args.policy p c.deref.result.now =
     subst (IsChoiceOf c.args.policy p) (sym c.deref.ensures.value) c.in_ok-keep.ensures in
-    both_then c.lay_out.result c.lay_out.ensures.laid c.lay_out.ensures.can
+    both_then c.lay_out_plain.result c.lay_out_plain.ensures.laid c.lay_out_plain.ensures.can
     (λ net made can. subst (IsLaidBy c.args.policy p c.args.root.now) (sym made) (laid_by c.args.policy c.args.plan.now c.args.root.now can c.deref.result.now is))
 
 pub returns-clause-accepted : goal.returns-clause-accepted
@@ -25,12 +25,12 @@ returns-clause-accepted c =
     let p : Plan = plan_of c.args.plan.now in
     let is : IsChoiceOf c.args.policy p c.deref.result.now =
     subst (IsChoiceOf c.args.policy p) (sym c.deref.ensures.value) c.in_ok-keep.ensures in
-    both_then c.lay_out.result c.lay_out.ensures.laid c.lay_out.ensures.can
+    both_then c.lay_out_plain.result c.lay_out_plain.ensures.laid c.lay_out_plain.ensures.can
     (λ net made can. subst IsAccepted (sym made) (accepted_by c.args.policy c.args.plan.now c.args.root.now can c.deref.result.now is))
 
 pub returns-clause-few : goal.returns-clause-few
 returns-clause-few c =
-    both_then c.lay_out.result c.lay_out.ensures.laid c.lay_out.ensures.can
+    both_then c.lay_out_plain.result c.lay_out_plain.ensures.laid c.lay_out_plain.ensures.can
     (λ net made can.
     subst (λ (n : Netlist). length n.cells ≤ plan_size (plan_of c.args.plan.now)) (sym made)
     (laid_small (chosen c.deref.result.now) c.args.plan.now c.args.root.now can))

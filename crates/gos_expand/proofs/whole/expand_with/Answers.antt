@@ -13,13 +13,13 @@ use Rattle.gos_expand.proofs.whole.expand_with.Goals as goal
 pub returns-clause-accepted : goal.returns-clause-accepted
 returns-clause-accepted c =
     let keep : Keep = chosen c.args.keep.now in
-    both_then c.lay_out.result c.lay_out.ensures.laid c.lay_out.ensures.can
+    both_then c.lay_out_plain.result c.lay_out_plain.ensures.laid c.lay_out_plain.ensures.can
     (λ net is can.
     subst (λ (n : Netlist). (HasCycle n.cells → ⊥) → IsAccepted n) (sym is) (laid_accepted keep c.args.plan.now c.args.root.now can))
 
 pub returns-clause-few : goal.returns-clause-few
 returns-clause-few c =
     let keep : Keep = chosen c.args.keep.now in
-    both_then c.lay_out.result c.lay_out.ensures.laid c.lay_out.ensures.can
+    both_then c.lay_out_plain.result c.lay_out_plain.ensures.laid c.lay_out_plain.ensures.can
     (λ net is can.
     subst (λ (n : Netlist). length n.cells ≤ plan_size (plan_of c.args.plan.now)) (sym is) (laid_small keep c.args.plan.now c.args.root.now can))
