@@ -12,10 +12,12 @@ from builds import Wrong
 
 FILE = re.compile(r"[A-Za-z0-9_./-]{1,255}")
 DEFAULTS = {"net": "out.net", "verilog": "out.v", "pulses": "in.pls", "trace": "out.trc"}
+# The pulse file of a build without pulses, and its text.
+NO_PULSES = ("none.pls", "cycles 1\n")
 # The lines of a list: their first words, and what stands behind these.
 FORMS = {
     "root": "NAME [from MODULE] [NAME=VALUE ..]", "serve": "IMPORT .. by MODULE [NAME=VALUE ..]", "build": "FILE",
-    **dict.fromkeys(DEFAULTS, "FILE"),
+    **dict.fromkeys(DEFAULTS, "FILE"), "pulses": "FILE, or none",
 }
 MOST_INSTANCES = 1000
 
@@ -39,6 +41,7 @@ class Listed:
     root: Line = None
     serves: list = field(default_factory=list)
     files: dict = field(default_factory=lambda: dict(DEFAULTS))
+    has_pulses: bool = True
 
     def wrong(self, number, said):
         return Wrong(f"{self.file}:{number}: {said}")
@@ -109,7 +112,9 @@ def take(listed, number, first, *words):
     if first in listed.files:
         if len(words) != 1 or not FILE.fullmatch(words[0]):
             raise listed.wrong(number, f"{form}, and a file's name has letters, digits, _ . - and / alone")
-        listed.files[first] = words[0]
+        if first == "pulses":
+            listed.has_pulses = words[0] != "none"
+        listed.files[first] = words[0] if first != "pulses" or listed.has_pulses else NO_PULSES[0]
         return
     given = [it for it in words if "=" in it]
     plain = words[:len(words) - len(given)]

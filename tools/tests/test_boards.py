@@ -4,7 +4,7 @@
 usage: tools/tests/test_boards.py GOS [WORDS OF unittest]
        tools/tests/test_boards.py GOS --write
 
-A bench prints `ok NAME`, by Verilator, or by Icarus Verilog where there is no Verilator. With --write the table of
+A bench prints `ok NAME`: of the circuits by Verilator, and by hand by Icarus Verilog, or both by the one that there is. With --write the table of
 examples/boards/README.md gets what yosys and nextpnr say of both.
 """
 import re
@@ -36,22 +36,19 @@ def made(name, path):
     """A copy of a folder in which all is built, and the files of the whole."""
     room = built.Room(shutil.copytree(BOARDS / name, path))
     told(room, built.TOOLS / "gos-make", f"{name}.make")
-    for source, to in re.findall(r"(?m)^inst \w+ (\S+) (\S+)$", (room.path / f"{name}.txt").read_text()):
-        told(room, room.gos, "compile", source, to)
-    told(room, room.gos, "link", f"{name}.txt")
+    told(room, room.gos, "build", f"{name}.txt")
     told(room, built.TOOLS / "gos-top", "top.txt")
     words = dict(re.findall(r"(?m)^(\w+) = (.*)$", (room.path / "Makefile").read_text()))
     return room, words["SOURCES"].replace("$(RTL)", words["RTL"]).split()
 
 
-def said_by_bench(room, files):
+def by_verilator(room, files):
     """What the bench of a folder says of the module top in some files."""
-    if shutil.which("verilator"):
-        # (one folder for all of them, so that what Verilator adds to each is made once)
-        objects, name = room.path.parent / "verilated", f"{room.path.name}_{Path(files[0]).stem}"
-        told(room, "verilator", "--binary", "-Wno-fatal", "--top", "bench", *FAST_TO_MAKE, "-Mdir", objects, "--prefix", name, "-o", f"{name}.run",
-             "bench.v", *files)
-        return told(room, objects / f"{name}.run").splitlines()
+    told(room, "verilator", "--binary", "-Wno-fatal", "--top", "bench", *FAST_TO_MAKE, "-o", "bench", "bench.v", *files)
+    return told(room, room.path / "obj_dir/bench").splitlines()
+
+
+def by_icarus(room, files):
     told(room, "iverilog", "-g2005", "-s", "bench", "-o", "bench.vvp", "bench.v", *files)
     return told(room, "vvp", "-n", "bench.vvp").splitlines()
 
@@ -66,13 +63,15 @@ def costs(room, files):
 
 
 class Boards(built.Case):
-    @unittest.skipIf(not (shutil.which("verilator") or shutil.which("vvp")), "neither verilator nor iverilog is installed")
     def test_benches(self):
+        there = [said_by for program, said_by in (("verilator", by_verilator), ("iverilog", by_icarus)) if shutil.which(program)]
+        if not there:
+            self.skipTest("neither verilator nor iverilog is installed")
         for name in NAMES:
             with self.subTest(name):
                 room, files = made(name, self.room.path / name)
-                self.assertIn(f"ok {name}", said_by_bench(room, files))
-                self.assertIn(f"ok {name}", said_by_bench(room, ["by_hand.v"]))
+                self.assertIn(f"ok {name}", there[0](room, files))
+                self.assertIn(f"ok {name}", there[-1](room, ["by_hand.v"]))
 
     def test_each_has_a_row(self):
         self.assertEqual(re.findall(r"(?m)^\| `(\w+)` \|", PAGE.read_text()), NAMES)

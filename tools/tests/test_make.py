@@ -125,6 +125,17 @@ class Making(built.Case):
         (self.room.path / "in.pls").write_text("cycles 20\nnext 0 main.run\n")
         self.assertRegex(self.room.run(self.room.gos, "build", "x.txt").stdout, r"ok weight \d+ cycles 20 pulses 2 unused 0\n")
 
+    def test_no_pulses(self):
+        """A build whose pulse file has none, which gos-make writes; one of that name that is there stays."""
+        (self.room.path / "one.gos").write_text("import c : com\nexport c : com\n")
+        self.assertEqual(self.make("root one\npulses none"), "ok instances 1 written l.txt none.pls\n")
+        self.assertIn("\npulses none.pls\n", self.text("l.txt"))
+        self.assertEqual(self.text("none.pls").split("\n")[1:], ["cycles 1", ""])
+        self.assertRegex(self.room.run(self.room.gos, "build", "l.txt").stdout, r"ok weight \d+ cycles 1 pulses 0 unused 0\n")
+        (self.room.path / "none.pls").write_text("cycles 9\n")
+        self.assertIn("none.pls is there", self.make("root one\npulses none", 2))
+        self.assertEqual(self.make("root one\npulses none.pls"), "ok instances 1 written l.txt\n")
+
     def test_a_name_as_a_value(self):
         (self.room.path / "slow.gos.in").write_text("{BEAT = tick: the beat}\nimport {BEAT} : com\nexport {BEAT} ; {BEAT} : com\n")
         (self.room.path / "two.gos").write_text("import a : com\nimport b : com\nexport a || b : com\n")

@@ -83,6 +83,57 @@ export c ; d ; x := 3:4 ; v := e + !v : com
 FED = """import f : exp 8
 export new n : 8 in while 1:1 do n := f : com
 """
+# Two circuits, and what stands between: numbers of a stream, a RAM, a number of a ROM, and a FIFO to the one that gives them on.
+TAKES = """import e : exp 8
+import x : var 2
+import w : var 8
+import y : var 2
+import r : exp 8
+import v : var 8
+export
+  new n : 8 in
+    while 1:1 do (n := e ; x := 2:2 ; w := !n ; x := 1:2 ; w := 0:8 ; x := 2:2 ; y := 3:2 ; v := !w + r)
+  : com
+"""
+GIVES = """import f : exp 8
+import late : com
+import o : var 8
+export while 1:1 do (late ; o := f) : com
+"""
+BETWEEN = """board none
+clock 1 MHz
+circuit out.net out.v
+circuit "fed/out.net" "fed/out.v"
+main runs once
+fed runs once
+e is stream
+w is ram at x
+r is rom "words.hex" at y
+v feeds f of 4
+late takes 200 us
+o is stream
+"""
+STREAMS = """module bench;
+  reg clock = 0;
+  reg [7:0] given = 0, taken = 0;
+  wire valid = given != 200;
+  wire e_ready, o_valid;
+  wire [7:0] o_data;
+  reg [1:0] age = 0;
+  top whole(.clock(clock), .e_valid(valid), .e_ready(e_ready), .e_data(given), .o_valid(o_valid), .o_ready(age == 3), .o_data(o_data));
+  always #5 clock = !clock;
+  always @(posedge clock) begin
+    age <= age + 1;
+    if (valid & e_ready) given <= given + 40;
+    if (o_valid & age == 3) begin
+      $display("%0d", o_data);
+      taken <= taken + 1;
+      if (taken == 4) $finish(0);
+    end
+  end
+  initial #100000 $finish(0);
+endmodule
+"""
 # What the lines of the page's table are tried with: the bits of e and of v, the board, and other lines beside them.
 TRIED = {
     "board icestick": (1, "icestick", ""),
@@ -164,6 +215,18 @@ class Described(built.Case):
             for line in (it for it in TRIED if TRIED[it][0] == bits):
                 with self.subTest(line):
                     self.whole(description(line))
+
+    @unittest.skipIf(not shutil.which("iverilog"), "iverilog isn't installed")
+    def test_what_the_whole_does(self):
+        """Each number of a stream comes out of the other one, with 9 of the ROM more, in order."""
+        shutil.copy(built.LIBRARY / "rtl/words.hex", self.room.path)
+        (self.room.path / "fed").mkdir()
+        self.link(built.Room(self.room.path / "fed"), "fed", GIVES)
+        self.link(self.room, "main", TAKES)
+        self.assertEqual(self.top(BETWEEN).stdout, "ok parts 6 pins 0\n")
+        self.room.write(bench__v=STREAMS)
+        self.assertEqual(self.room.run("make", "-s", "bench.vvp").stderr, "")
+        self.assertEqual(self.room.run("vvp", "-n", "bench.vvp").stdout.split(), ["9", "49", "89", "129", "169"])
 
     def whole(self, text):
         """What is written of a description is taken by Icarus Verilog and by Verilator, as far as they are installed."""

@@ -1,1 +1,2 @@
 root main from main
+pulses none

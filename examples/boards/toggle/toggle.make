@@ -1,2 +1,3 @@
 root main from main
 serve debounce by debounce
+pulses none
