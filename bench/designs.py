@@ -155,6 +155,11 @@ def ratios(times, count):
     return [own / peer for own in programs for peer in peers] + [own / programs[0] for own in programs[1:]]
 
 
+def shown(ratio):
+    """A ratio with two digits behind its point, or where it is small with two of its own."""
+    return f'{ratio:.2f}' if ratio >= 0.1 else f'{ratio:.2g}'
+
+
 def heads(count, peers):
     named = ['gos'] if count == 1 else [f'program {number}' for number in range(1, count + 1)]
     compared = [f'{name} to {peer}' for name in named for peer in peers] + [f'{number} to 1' for number in range(2, count + 1)]
@@ -197,10 +202,9 @@ def main(words):
         for name in names:
             cells, pulses, times = measured(programs, peers, name, asked.cycles, progress)
             found.append(ratios(times, len(programs)))
-            shown = [f'{1e9 * time:.0f} ns' for time in times] + [f'{ratio:.2f}' for ratio in found[-1]]
-            progress.print(line([name, f'{cells:,}', f'{pulses:,}', *shown]))
+            progress.print(line([name, f'{cells:,}', f'{pulses:,}', *(f'{1e9 * time:.0f} ns' for time in times), *map(shown, found[-1])]))
             progress.step()
-        means = [f'{geometric_mean(column):.2f}' for column in zip(*found)]
+        means = [shown(geometric_mean(column)) for column in zip(*found)]
         progress.print(line(['geometric mean', *[''] * (len(head) - 1 - len(means)), *means]))
 
 
