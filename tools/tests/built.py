@@ -1,6 +1,7 @@
 """Small programs, built and run in a folder of their own: what the tests share that are given the program's path as their word."""
 import importlib.machinery
 import importlib.util
+import re
 import subprocess
 import sys
 import tempfile
@@ -15,6 +16,8 @@ sys.dont_write_bytecode = True
 
 import ports  # noqa: E402  (it stands in the folder above)
 
+# How far a tool has come (tools/manners.py, Progress), as it says where there is no terminal.
+PROGRESS = re.compile(r"^gos-\w+: .+, \d+ s\n", re.M)
 BUILD = "gosbuild 1\n{}root {}\nnet out.net\nverilog out.v\npulses in.pls\ntrace out.trc\n"
 
 

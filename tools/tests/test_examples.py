@@ -69,7 +69,8 @@ def printed_by(command, folder):
         return None
     path = f"{folder.parent / 'bin'}:{built.TOOLS}:{os.environ['PATH']}"
     how = {"cwd": folder, "text": True, "timeout": 600, "env": {**os.environ, "PATH": path}}
-    return subprocess.run(["bash", "-c", command], stdout=subprocess.PIPE, stderr=subprocess.STDOUT, **how).stdout
+    said = subprocess.run(["bash", "-c", command], stdout=subprocess.PIPE, stderr=subprocess.STDOUT, **how).stdout
+    return built.PROGRESS.sub("", said)
 
 
 def done(example):
@@ -87,6 +88,11 @@ def done(example):
 
 
 class Controllers(unittest.TestCase):
+    def test_how_far_a_tool_has_come_is_no_matter(self):
+        with tempfile.TemporaryDirectory() as room:
+            said = printed_by("echo 'gos-bench: verilator is at work, 30 s' >&2; echo iverilog: agrees", Path(room))
+            self.assertEqual(said, "iverilog: agrees\n")
+
     def test_each_prints_what_its_readme_says(self):
         for example in controllers():
             with self.subTest(example.name):
