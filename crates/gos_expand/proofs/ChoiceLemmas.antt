@@ -8,13 +8,15 @@ use Rattle.std.proofs.lemmas.Option.{none-some, slice_get_within, get_or_from_sl
 use Rattle.std.proofs.lemmas.Bool.Decides.{nat_tests}
 use Rattle.gos_types.specs.Events.{Direction, Request, Answer}
 use Rattle.gos_plan.specs.Plans.{Plan}
+use Rattle.gos_expand.specs.Gates.{Making}
 use Rattle.gos_expand.specs.Starts.{chosen, place_of}
 use Rattle.gos_expand.specs.Choices.{left_out_at}
-use Rattle.gos_expand.specs.inner.Directions.{directions, IsDirection, IsInner, IsLink}
+use Rattle.gos_expand.specs.inner.Directions.{directions, IsDirection, IsInner, IsLink, AreEdges}
+use Rattle.gos_expand.specs.inner.Numbering.{laying}
 use Rattle.gos_expand.specs.inner.Choosing.{linked, AreFew, KeepsFewRings}
 use Rattle.gos_order.specs.Rings.{Edge, HasEdge, and_edge}
 use Rattle.gos_expand.proofs.GoodLemmas.{is_there}
-use Rattle.gos_expand.proofs.DirectionLemmas.{AreEdges, circle_is_ring, ring_is_circle}
+use Rattle.gos_expand.proofs.DirectionLemmas.{circle_is_ring, ring_is_circle}
 use Rattle.gos_expand.proofs.LinkedLemmas.{edge_behind, edge_before, edge_last, IsLeftOut, linked_edges, edges_kept, edge_linked}
 
 -- each place below all is that of a direction
@@ -81,11 +83,11 @@ get_false (x ∷ keeps) zero is = ap (λ (b : Bool). Some b) is
 get_false (x ∷ keeps) (suc m) is = get_false keeps m is
 
 -- The graph with the edges of the directions left out so far and of this one is that of the choice.
-pub graph_of_choice : (p : Plan) (edges : List Edge) → ((a b : ℕ) → HasEdge edges a b ↔ IsInner p a b) → (keeps : List Bool) (n : ℕ)
+pub graph_of_choice : (making : ℕ → Making) (p : Plan) (edges : List Edge) → ((a b : ℕ) → HasEdge edges a b ↔ IsInner making p a b) → (keeps : List Bool) (n : ℕ)
     → length keeps ≡ directions p
     → n < directions p
-    → AreEdges (left_out_at (chosen keeps) n) p (and_edge (linked (directions p) edges 0 (take n keeps)) (directions p + n) n)
-graph_of_choice p edges inner keeps n long low a b = (forth, back)
+    → AreEdges (laying (left_out_at (chosen keeps) n) making) p (and_edge (linked (directions p) edges 0 (take n keeps)) (directions p + n) n)
+graph_of_choice making p edges inner keeps n long low a b = (forth, back)
   where
     link : (m : ℕ) → m < directions p → (m ≡ n) ⊎ ((m < n) × (get_or keeps m true ≡ false)) → IsLink (left_out_at (chosen keeps) n) p (directions p + m) m
     link m small out =
@@ -108,11 +110,11 @@ graph_of_choice p edges inner keeps n long low a b = (forth, back)
         (link x.place (omega (arith, less, low)) (inr (less, get_or_from_slice_get keeps x.place false true is))))
 
     forth : HasEdge (and_edge (linked (directions p) edges 0 (take n keeps)) (directions p + n) n) a b
-        → IsInner p a b ⊎ IsLink (left_out_at (chosen keeps) n) p a b
+        → IsInner making p a b ⊎ IsLink (left_out_at (chosen keeps) n) p a b
     forth edge = by_last (edge_behind (linked (directions p) edges 0 (take n keeps)) (directions p + n) n a b edge)
       where
         by_last : HasEdge (linked (directions p) edges 0 (take n keeps)) a b ⊎ ((directions p + n ≡ a) × (n ≡ b))
-            → IsInner p a b ⊎ IsLink (left_out_at (chosen keeps) n) p a b
+            → IsInner making p a b ⊎ IsLink (left_out_at (chosen keeps) n) p a b
         by_last (inr (e, f)) =
             inr
             (subst (λ (k : ℕ). IsLink (left_out_at (chosen keeps) n) p k b) e
@@ -142,7 +144,7 @@ graph_of_choice p edges inner keeps n long low a b = (forth, back)
             (subst (λ (k : ℕ). HasEdge (linked (directions p) edges 0 (take n keeps)) (directions p + (0 + b)) k) f
             (edge_linked (directions p) edges 0 (take n keeps) b (is_take n keeps b false less (get_false keeps b is)))))
 
-    back : IsInner p a b ⊎ IsLink (left_out_at (chosen keeps) n) p a b
+    back : IsInner making p a b ⊎ IsLink (left_out_at (chosen keeps) n) p a b
         → HasEdge (and_edge (linked (directions p) edges 0 (take n keeps)) (directions p + n) n) a b
     back (inl first) =
         edge_before (linked (directions p) edges 0 (take n keeps)) (directions p + n) n a b
@@ -150,10 +152,10 @@ graph_of_choice p edges inner keeps n long low a b = (forth, back)
     back (inr link) = of_link link
 
 -- the graph with the edges of all directions that are left out is that of the whole choice
-pub graph_of_all : (p : Plan) (edges : List Edge) → ((a b : ℕ) → HasEdge edges a b ↔ IsInner p a b) → (keeps : List Bool)
+pub graph_of_all : (making : ℕ → Making) (p : Plan) (edges : List Edge) → ((a b : ℕ) → HasEdge edges a b ↔ IsInner making p a b) → (keeps : List Bool)
     → length keeps ≡ directions p
-    → AreEdges (chosen keeps) p (linked (directions p) edges 0 keeps)
-graph_of_all p edges inner keeps long a b = (forth, back)
+    → AreEdges (laying (chosen keeps) making) p (linked (directions p) edges 0 keeps)
+graph_of_all making p edges inner keeps long a b = (forth, back)
   where
     of_left_out : IsLeftOut (directions p) 0 keeps a b → IsLink (chosen keeps) p a b
     of_left_out x =
@@ -168,7 +170,7 @@ graph_of_all p edges inner keeps long a b = (forth, back)
         subst (λ (k : ℕ). IsLink (chosen keeps) p k b) e
         (subst (λ (k : ℕ). IsLink (chosen keeps) p (directions p + x.place) k) f (d, refl, out))
 
-    forth : HasEdge (linked (directions p) edges 0 keeps) a b → IsInner p a b ⊎ IsLink (chosen keeps) p a b
+    forth : HasEdge (linked (directions p) edges 0 keeps) a b → IsInner making p a b ⊎ IsLink (chosen keeps) p a b
     forth edge =
         elim (linked_edges (directions p) edges 0 keeps a b edge) [
           | inl first ↦ inl ((inner a b).0 first)
@@ -184,30 +186,30 @@ graph_of_all p edges inner keeps long a b = (forth, back)
         (subst (λ (k : ℕ). HasEdge (linked (directions p) edges 0 keeps) (directions p + (0 + b)) k) f
         (edge_linked (directions p) edges 0 keeps b is))
 
-    back : IsInner p a b ⊎ IsLink (chosen keeps) p a b → HasEdge (linked (directions p) edges 0 keeps) a b
+    back : IsInner making p a b ⊎ IsLink (chosen keeps) p a b → HasEdge (linked (directions p) edges 0 keeps) a b
     back (inl first) = edges_kept (directions p) edges 0 keeps a b ((inner a b).1 first)
     back (inr link) = of_link link
 
 -- so few directions keep their registers
-pub few_rings : (p : Plan) (edges : List Edge) → ((a b : ℕ) → HasEdge edges a b ↔ IsInner p a b) → (keeps : List Bool) → length keeps ≡ directions p
+pub few_rings : (making : ℕ → Making) (p : Plan) (edges : List Edge) → ((a b : ℕ) → HasEdge edges a b ↔ IsInner making p a b) → (keeps : List Bool) → length keeps ≡ directions p
     → AreFew (directions p) edges keeps
-    → KeepsFewRings p keeps
-few_rings p edges inner keeps long few =
+    → KeepsFewRings making p keeps
+few_rings making p edges inner keeps long few =
     record {
       all = long;
       kept = λ n is.
-          circle_is_ring (left_out_at (chosen keeps) n) p (and_edge (linked (directions p) edges 0 (take n keeps)) (directions p + n) n)
+          circle_is_ring (laying (left_out_at (chosen keeps) n) making) p (and_edge (linked (directions p) edges 0 (take n keeps)) (directions p + n) n)
           (graph n true is) (few.kept n is);
       left_out = λ n is ring.
           few.left_out n is
-          (ring_is_circle (left_out_at (chosen keeps) n) p (and_edge (linked (directions p) edges 0 (take n keeps)) (directions p + n) n)
+          (ring_is_circle (laying (left_out_at (chosen keeps) n) making) p (and_edge (linked (directions p) edges 0 (take n keeps)) (directions p + n) n)
           (graph n false is) ring);
       ringless = λ ring.
           few.ringless
-          (ring_is_circle (chosen keeps) p (linked (directions p) edges 0 keeps) (graph_of_all p edges inner keeps long) ring);
+          (ring_is_circle (laying (chosen keeps) making) p (linked (directions p) edges 0 keeps) (graph_of_all making p edges inner keeps long) ring);
     }
   where
     graph : (n : ℕ) (k : Bool) → slice_get keeps n ≡ Some k
-        → AreEdges (left_out_at (chosen keeps) n) p (and_edge (linked (directions p) edges 0 (take n keeps)) (directions p + n) n)
+        → AreEdges (laying (left_out_at (chosen keeps) n) making) p (and_edge (linked (directions p) edges 0 (take n keeps)) (directions p + n) n)
     graph n k is =
-        let low = slice_get_within keeps n k is in graph_of_choice p edges inner keeps n long (omega (arith, low, long))
+        let low = slice_get_within keeps n k is in graph_of_choice making p edges inner keeps n long (omega (arith, low, long))

@@ -74,3 +74,5 @@ pub mod FastOrderLemmas
 pub mod FastRiseLemmas
 pub mod FastLemmas
 pub mod SmallFastLemmas
+pub mod AcrossLemmas
+pub mod OrderLemmas

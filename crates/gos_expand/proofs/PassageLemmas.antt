@@ -6,7 +6,7 @@ use Rattle.std.proofs.lemmas.Option.{same_Some}
 use Rattle.gos_plan.specs.Kinds.{Part, part_contacts}
 use Rattle.gos_plan.specs.Plans.{PartEnd}
 use Rattle.gos_expand.specs.declared.arrivals.Arrivals.{Arrivals}
-use Rattle.gos_expand.specs.Gates.{ForEach, passing_of}
+use Rattle.gos_expand.specs.Gates.{Making, passing_of}
 use Rattle.gos_expand.specs.inner.Choosing.{Ways, ways_at, AreWithin, GoAcross, Adds, IsPassage, PassesTo, PassesFrom, PassesAt}
 use Rattle.gos_order.specs.Rings as graph
 use Rattle.gos_order.specs.Rings.{Edge, HasEdge, and_edge}
@@ -87,83 +87,83 @@ less_or_same (suc m) zero low = absurd (omega (arith, low))
 less_or_same (suc m) (suc n) low = elim (less_or_same m n (omega (arith, low))) [ inl h ↦ inl (omega (arith, h)) | inr h ↦ inr (ap suc h) ]
 
 -- one handshake more, one from which it comes more, and one part more
-pub passes_to_more : (d : ℕ) (table : Arrivals) (k : Part) (part from n : ℕ) (before between after : List Edge)
-    → Adds (PassesTo d table k part from n) before between
-    → Adds (λ a b. (passing_of ForEach k from n ≡ true) × IsPassage d table part from n a b) between after
-    → Adds (PassesTo d table k part from (n + 1)) before after
-passes_to_more d table k part from n before between after first second =
-    adds_then (PassesTo d table k part from n) (λ a b. (passing_of ForEach k from n ≡ true) × IsPassage d table part from n a b)
-    (PassesTo d table k part from (n + 1)) before between after first second split join
+pub passes_to_more : (d : ℕ) (table : Arrivals) (m : Making) (k : Part) (part from n : ℕ) (before between after : List Edge)
+    → Adds (PassesTo d table m k part from n) before between
+    → Adds (λ a b. (passing_of m k from n ≡ true) × IsPassage d table part from n a b) between after
+    → Adds (PassesTo d table m k part from (n + 1)) before after
+passes_to_more d table m k part from n before between after first second =
+    adds_then (PassesTo d table m k part from n) (λ a b. (passing_of m k from n ≡ true) × IsPassage d table part from n a b)
+    (PassesTo d table m k part from (n + 1)) before between after first second split join
   where
-    split : (a b : ℕ) → PassesTo d table k part from (n + 1) a b
-        → PassesTo d table k part from n a b ⊎ ((passing_of ForEach k from n ≡ true) × IsPassage d table part from n a b)
+    split : (a b : ℕ) → PassesTo d table m k part from (n + 1) a b
+        → PassesTo d table m k part from n a b ⊎ ((passing_of m k from n ≡ true) × IsPassage d table part from n a b)
     split a b (to, low, passes, x) =
         elim (less_or_same to n low) [
           | inl less ↦ inl (to, less, passes, x)
           | inr same ↦ inr
-              (ap (λ (m : ℕ). passing_of ForEach k from m) (sym same) ∙ passes, subst (λ (m : ℕ). IsPassage d table part from m a b) same x)
+              (ap (λ (h : ℕ). passing_of m k from h) (sym same) ∙ passes, subst (λ (h : ℕ). IsPassage d table part from h a b) same x)
         ]
 
-    join : (a b : ℕ) → PassesTo d table k part from n a b ⊎ ((passing_of ForEach k from n ≡ true) × IsPassage d table part from n a b)
-        → PassesTo d table k part from (n + 1) a b
+    join : (a b : ℕ) → PassesTo d table m k part from n a b ⊎ ((passing_of m k from n ≡ true) × IsPassage d table part from n a b)
+        → PassesTo d table m k part from (n + 1) a b
     join a b (inl (to, low, passes, x)) = (to, omega (arith, low), passes, x)
     join a b (inr (passes, x)) = (n, omega arith, passes, x)
 
-pub passes_from_more : (d : ℕ) (table : Arrivals) (k : Part) (part n : ℕ) (before between after : List Edge)
-    → Adds (PassesFrom d table k part n) before between
-    → Adds (PassesTo d table k part n (length (part_contacts k))) between after
-    → Adds (PassesFrom d table k part (n + 1)) before after
-passes_from_more d table k part n before between after first second =
-    adds_then (PassesFrom d table k part n) (PassesTo d table k part n (length (part_contacts k))) (PassesFrom d table k part (n + 1)) before
+pub passes_from_more : (d : ℕ) (table : Arrivals) (m : Making) (k : Part) (part n : ℕ) (before between after : List Edge)
+    → Adds (PassesFrom d table m k part n) before between
+    → Adds (PassesTo d table m k part n (length (part_contacts k))) between after
+    → Adds (PassesFrom d table m k part (n + 1)) before after
+passes_from_more d table m k part n before between after first second =
+    adds_then (PassesFrom d table m k part n) (PassesTo d table m k part n (length (part_contacts k))) (PassesFrom d table m k part (n + 1)) before
     between after first second split join
   where
-    split : (a b : ℕ) → PassesFrom d table k part (n + 1) a b
-        → PassesFrom d table k part n a b ⊎ PassesTo d table k part n (length (part_contacts k)) a b
+    split : (a b : ℕ) → PassesFrom d table m k part (n + 1) a b
+        → PassesFrom d table m k part n a b ⊎ PassesTo d table m k part n (length (part_contacts k)) a b
     split a b (from, low, x) =
         elim (less_or_same from n low) [
           | inl less ↦ inl (from, less, x)
-          | inr same ↦ inr (subst (λ (m : ℕ). PassesTo d table k part m (length (part_contacts k)) a b) same x)
+          | inr same ↦ inr (subst (λ (h : ℕ). PassesTo d table m k part h (length (part_contacts k)) a b) same x)
         ]
 
-    join : (a b : ℕ) → PassesFrom d table k part n a b ⊎ PassesTo d table k part n (length (part_contacts k)) a b → PassesFrom d table k part (n + 1) a b
+    join : (a b : ℕ) → PassesFrom d table m k part n a b ⊎ PassesTo d table m k part n (length (part_contacts k)) a b → PassesFrom d table m k part (n + 1) a b
     join a b (inl (from, low, x)) = (from, omega (arith, low), x)
     join a b (inr x) = (n, omega arith, x)
 
-pub passes_at_more : (d : ℕ) (table : Arrivals) (parts : List Part) (n : ℕ) (k : Part) → slice_get parts n ≡ Some k → (before between after : List Edge)
-    → Adds (PassesAt d table parts n) before between
-    → Adds (PassesFrom d table k n (length (part_contacts k))) between after
-    → Adds (PassesAt d table parts (n + 1)) before after
-passes_at_more d table parts n k there before between after first second =
-    adds_then (PassesAt d table parts n) (PassesFrom d table k n (length (part_contacts k))) (PassesAt d table parts (n + 1)) before between after
+pub passes_at_more : (d : ℕ) (table : Arrivals) (making : ℕ → Making) (parts : List Part) (n : ℕ) (k : Part) → slice_get parts n ≡ Some k → (before between after : List Edge)
+    → Adds (PassesAt d table making parts n) before between
+    → Adds (PassesFrom d table (making n) k n (length (part_contacts k))) between after
+    → Adds (PassesAt d table making parts (n + 1)) before after
+passes_at_more d table making parts n k there before between after first second =
+    adds_then (PassesAt d table making parts n) (PassesFrom d table (making n) k n (length (part_contacts k))) (PassesAt d table making parts (n + 1)) before between after
     first second split join
   where
-    split : (a b : ℕ) → PassesAt d table parts (n + 1) a b → PassesAt d table parts n a b ⊎ PassesFrom d table k n (length (part_contacts k)) a b
+    split : (a b : ℕ) → PassesAt d table making parts (n + 1) a b → PassesAt d table making parts n a b ⊎ PassesFrom d table (making n) k n (length (part_contacts k)) a b
     split a b (part, kind, low, is, x) =
         elim (less_or_same part n low) [
           | inl less ↦ inl (part, kind, less, is, x)
           | inr same ↦ inr
               (let kinds = same_Some kind k (sym is ∙ (ap (slice_get parts) same ∙ there)) in
-              subst (λ (m : ℕ). PassesFrom d table k m (length (part_contacts k)) a b) same
-              (subst (λ (y : Part). PassesFrom d table y part (length (part_contacts y)) a b) kinds x))
+              subst (λ (h : ℕ). PassesFrom d table (making h) k h (length (part_contacts k)) a b) same
+              (subst (λ (y : Part). PassesFrom d table (making part) y part (length (part_contacts y)) a b) kinds x))
         ]
 
-    join : (a b : ℕ) → PassesAt d table parts n a b ⊎ PassesFrom d table k n (length (part_contacts k)) a b → PassesAt d table parts (n + 1) a b
+    join : (a b : ℕ) → PassesAt d table making parts n a b ⊎ PassesFrom d table (making n) k n (length (part_contacts k)) a b → PassesAt d table making parts (n + 1) a b
     join a b (inl (part, kind, low, is, x)) = (part, kind, omega (arith, low), is, x)
     join a b (inr x) = (n, k, omega arith, there, x)
 
 -- the passages to one handshake more, where it is passed on there and where it isn't
-pub with_passage : (d : ℕ) (table : Arrivals) (k : Part) (part from n : ℕ) (before between after : List Edge) → passing_of ForEach k from n ≡ true
-    → Adds (PassesTo d table k part from n) before between
+pub with_passage : (d : ℕ) (table : Arrivals) (m : Making) (k : Part) (part from n : ℕ) (before between after : List Edge) → passing_of m k from n ≡ true
+    → Adds (PassesTo d table m k part from n) before between
     → Adds (IsPassage d table part from n) between after
-    → Adds (PassesTo d table k part from (n + 1)) before after
-with_passage d table k part from n before between after passes first second =
-    passes_to_more d table k part from n before between after first
-    (adds_as (IsPassage d table part from n) (λ a b. (passing_of ForEach k from n ≡ true) × IsPassage d table part from n a b) between after second
+    → Adds (PassesTo d table m k part from (n + 1)) before after
+with_passage d table m k part from n before between after passes first second =
+    passes_to_more d table m k part from n before between after first
+    (adds_as (IsPassage d table part from n) (λ a b. (passing_of m k from n ≡ true) × IsPassage d table part from n a b) between after second
     (λ a b x. (passes, x)) (λ a b x. x.1))
 
-pub without_passage : (d : ℕ) (table : Arrivals) (k : Part) (part from n : ℕ) (before between : List Edge) → passing_of ForEach k from n ≡ false
-    → Adds (PassesTo d table k part from n) before between
-    → Adds (PassesTo d table k part from (n + 1)) before between
-without_passage d table k part from n before between none first =
-    passes_to_more d table k part from n before between between first
-    (adds_none (λ a b. (passing_of ForEach k from n ≡ true) × IsPassage d table part from n a b) between (λ a b x. cc (none, x.0)))
+pub without_passage : (d : ℕ) (table : Arrivals) (m : Making) (k : Part) (part from n : ℕ) (before between : List Edge) → passing_of m k from n ≡ false
+    → Adds (PassesTo d table m k part from n) before between
+    → Adds (PassesTo d table m k part from (n + 1)) before between
+without_passage d table m k part from n before between none first =
+    passes_to_more d table m k part from n before between between first
+    (adds_none (λ a b. (passing_of m k from n ≡ true) × IsPassage d table part from n a b) between (λ a b x. cc (none, x.0)))

@@ -10,11 +10,13 @@ use Rattle.gos_plan.specs.Plans.{Joint, Plan}
 use Rattle.gos_plan.specs.Seen.{SeenPlan, plan_of}
 use Rattle.gos_expand.specs.declared.whole.Policy.{Policy}
 use Rattle.gos_expand.specs.declared.whole.Policy.TheVariants as policies
+use Rattle.gos_expand.specs.Gates.{Making, ForEach}
 use Rattle.gos_expand.specs.Starts.{plain, Keep, keep_all, chosen, place_of}
-use Rattle.gos_expand.specs.Laid.{laid}
-use Rattle.gos_expand.specs.Choices.{left_out_at, KeepsFew, IsLaidBy}
+use Rattle.gos_expand.specs.Laid.{laid, circuit_cells}
+use Rattle.gos_expand.specs.Choices.{left_out_at, KeepsFewOf, IsLaidBy}
 use Rattle.gos_expand.specs.Acceptance.{CanBeLaid}
 use Rattle.gos_expand.specs.inner.Directions.{directions}
+use Rattle.gos_expand.specs.inner.Numbering.{laying}
 use Rattle.gos_expand.specs.inner.Choosing.{KeepsFewRings, IsChoiceOf}
 use Rattle.gos_expand.proofs.GoodLemmas.{is_there}
 use Rattle.gos_expand.proofs.KeptLemmas.{all_paths}
@@ -57,15 +59,17 @@ found p keeps long x j way k stands is =
     here.1 ∙ ap (λ (b : Bool). Some b) (sym (get_or_from_slice_get keeps (place_of x way) here.0 true here.1) ∙ is)
 
 -- few rings are few cycles
-keeps_few : (p : SeenPlan) (root : List ℕ) → CanBeLaid p root → (keeps : List Bool) → KeepsFewRings (plan_of p) keeps → KeepsFew (plan_of p) (chosen keeps)
-keeps_few p root can keeps few =
+pub keeps_few : (making : ℕ → Making) (p : SeenPlan) (root : List ℕ) → CanBeLaid p root → (keeps : List Bool)
+    → KeepsFewRings making (plan_of p) keeps
+    → KeepsFewOf (λ keep. circuit_cells (laying keep making) (plan_of p)) (plan_of p) (chosen keeps)
+keeps_few making p root can keeps few =
     record {
       kept = λ x j way stands is.
-          (rings_cycles all_paths (plain (left_out_at (chosen keeps) (place_of x way))) p root can).1
+          (rings_cycles all_paths (laying (left_out_at (chosen keeps) (place_of x way)) making) p root can).1
           (few.kept (place_of x way) (found (plan_of p) keeps few.all x j way true stands is));
       left_out = λ x j way stands is cycle.
           few.left_out (place_of x way) (found (plan_of p) keeps few.all x j way false stands is)
-          ((rings_cycles all_paths (plain (left_out_at (chosen keeps) (place_of x way))) p root can).0 cycle);
+          ((rings_cycles all_paths (laying (left_out_at (chosen keeps) (place_of x way)) making) p root can).0 cycle);
       beyond = λ x way none.
           let high = place_high x (length (plan_of p).joints) way (none_beyond (plan_of p).joints x none) in
           let long = few.all in
@@ -76,7 +80,7 @@ keeps_few p root can keeps few =
 pub laid_by : (policy : Policy) (p : SeenPlan) (root : List ℕ) → CanBeLaid p root → (keeps : List Bool) → IsChoiceOf policy (plan_of p) keeps
     → IsLaidBy policy (plan_of p) root (laid (chosen keeps) (plan_of p) root)
 laid_by policies.All p root can keeps all = ap (λ (keep : Keep). laid keep (plan_of p) root) all
-laid_by policies.Few p root can keeps few = (chosen keeps, keeps_few p root can keeps few, refl)
+laid_by policies.Few p root can keeps few = (chosen keeps, keeps_few (λ i. ForEach) p root can keeps few, refl)
 
 -- without a combinational cycle, so that the netlist is accepted
 pub accepted_by : (policy : Policy) (p : SeenPlan) (root : List ℕ) → CanBeLaid p root → (keeps : List Bool) → IsChoiceOf policy (plan_of p) keeps

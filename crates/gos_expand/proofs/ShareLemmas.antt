@@ -14,12 +14,12 @@ use Rattle.gos_plan.specs.Kinds.{Part, Share, Contact, contact, contacts_of, par
 use Rattle.gos_share.specs.Blocks.{block_cells, block_size, kept_net}
 use Rattle.gos_share.specs.Share.{row_cells, share_cells}
 use Rattle.gos_share.specs.laws.Row.{block_length}
-use Rattle.gos_share.proofs.ApartLemmas.{AreApart, row_apart}
+use Rattle.gos_share.proofs.ApartLemmas.{AreApart}
 use Rattle.gos_fast_share.specs.Thread.{Asker, Nobody, Caller0, Caller1, asker, one_if_asks, requests}
 use Rattle.gos_fast_share.specs.Fast as fast
 use Rattle.gos_fast_share.specs.inner.Sizes as sizes
 use Rattle.gos_fast_share.specs.laws.Named as named
-use Rattle.gos_expand.specs.Gates.{ForOrder, ForEach, passing_of, part_size}
+use Rattle.gos_expand.specs.Gates.{ForOrder, ForEach, part_size}
 
 -- the blocks of these handshakes
 abbrev pub row_size : List Contact → ℕ
@@ -133,15 +133,6 @@ share_shakes t =
 
 -- what a Share passes on goes a third of its handshakes further, or two thirds, or so far back
 
-thirds : (h count from to : ℕ) → count ≡ 3 * h → AreApart h from to → (3 * abs_diff from to ≡ count) ⊎ (3 * abs_diff from to ≡ 2 * count)
+pub thirds : (h count from to : ℕ) → count ≡ 3 * h → AreApart h from to → (3 * abs_diff from to ≡ count) ⊎ (3 * abs_diff from to ≡ 2 * count)
 thirds h count from to all (inl is) = inl (omega (arith, is, all))
 thirds h count from to all (inr is) = inr (omega (arith, is, all))
-
-pub share_may_pass : (k : Part) (t : Type') → k ≡ Share t → (count from to : ℕ) → count ≡ length (part_contacts k) → passing_of ForEach k from to ≡ true
-    → (3 * abs_diff from to ≡ count) ⊎ (3 * abs_diff from to ≡ 2 * count)
-share_may_pass k t is count from to all passes =
-    let long = length-map (handshakes_of t) contact in
-    let sides = share_shakes t in
-    let here : count ≡ length (part_contacts (Share t)) = all ∙ ap (λ (p : Part). length (part_contacts p)) is in
-    let goes = sym (ap (λ (p : Part). passing_of ForEach p from to) is) ∙ passes in
-    thirds (length (contacts_of t)) count from to (omega (arith, here, long, sides)) (row_apart (length (contacts_of t)) 0 (contacts_of t) from to goes)

@@ -15,6 +15,7 @@ use Rattle.gos_expand.specs.declared.arrivals.Origin.{Origin}
 use Rattle.gos_expand.specs.declared.arrivals.Origin.TheVariants.{Cells}
 use Rattle.gos_expand.specs.declared.arrivals.Arrival.{Arrival}
 use Rattle.gos_expand.specs.declared.arrivals.Arrivals.{Arrivals}
+use Rattle.gos_expand.specs.Gates.{Making}
 use Rattle.gos_expand.specs.Starts.{place_of}
 use Rattle.gos_expand.specs.Laid.{Seat, seat_among, seat_of}
 use Rattle.gos_expand.specs.Facts.{source, target}
@@ -159,12 +160,12 @@ leaving_told p table e a are right (x, here) = by_way x.way refl
         (ways_by Serve x.joint, ways_seated p table e (serves fits.0 fits.1) _ are there seat, x.number ∙ ap (place_of x.joint) is)
 
 -- the edges through all parts are those of the graph of directions
-pub edges_inner : (p : Plan) (table : Arrivals) (edges : List Edge) → AreAt p (joint_at p) table → IsRight p
-    → Adds (PassesAt (directions p) table p.parts (length p.parts)) [] edges
-    → (a b : ℕ) → HasEdge edges a b ↔ IsInner p a b
-edges_inner p table edges are right adds a b = (forth, back)
+pub edges_inner : (making : ℕ → Making) (p : Plan) (table : Arrivals) (edges : List Edge) → AreAt p (joint_at p) table → IsRight p
+    → Adds (PassesAt (directions p) table making p.parts (length p.parts)) [] edges
+    → (a b : ℕ) → HasEdge edges a b ↔ IsInner making p a b
+edges_inner making p table edges are right adds a b = (forth, back)
   where
-    through : PassesAt (directions p) table p.parts (length p.parts) a b → IsInner p a b
+    through : PassesAt (directions p) table making p.parts (length p.parts) a b → IsInner making p a b
     through (part, k, low, there, (from, from_low, (to, to_low, passes, x))) =
         let first = told_ways p (PartEnd part from) x.first right (told p table (PartEnd part from) x.first are x.comes) in
         let second = told_ways p (PartEnd part to) x.second right (told p table (PartEnd part to) x.second are x.goes) in (
@@ -184,10 +185,10 @@ edges_inner p table edges are right adds a b = (forth, back)
           },
         )
 
-    forth : HasEdge edges a b → IsInner p a b
+    forth : HasEdge edges a b → IsInner making p a b
     forth edge = elim ((adds a b).0 edge) [ inl none ↦ absurd none | inr x ↦ through x ]
 
-    back : IsInner p a b → HasEdge edges a b
+    back : IsInner making p a b → HasEdge edges a b
     back (d, is, t) =
         let first = arrival_told p table (PartEnd t.part t.from) a are right t.arrives in
         let second = leaving_told p table (PartEnd t.part t.to) d are right t.leaves in
@@ -245,16 +246,16 @@ ways_within p table are right e w is =
     let both = told_ways p e w right (told p table e w are is) in (direction_low p w.arriving both.0.0, direction_low p w.leaving both.1.0)
 
 -- what is chosen by these edges is few, in terms of the plan
-pub few_by : (p : Plan) (d n : ℕ) (table : Arrivals) (start edges : List Edge) (keeps : List Bool) → d ≡ directions p → n ≡ length p.parts
+pub few_by : (making : ℕ → Making) (p : Plan) (d n : ℕ) (table : Arrivals) (start edges : List Edge) (keeps : List Bool) → d ≡ directions p → n ≡ length p.parts
     → AreAt p (joint_at p) table
     → IsRight p
     → start ≡ []
-    → Adds (PassesAt d table p.parts n) start edges
+    → Adds (PassesAt d table making p.parts n) start edges
     → AreFew d edges keeps
     → length keeps ≡ d
-    → KeepsFewRings p keeps
-few_by p d n table start edges keeps all parts are right none adds few long =
-    let inner : Adds (PassesAt (directions p) table p.parts (length p.parts)) [] edges =
-    subst (λ (m : ℕ). Adds (PassesAt m table p.parts (length p.parts)) [] edges) all
-    (subst (λ (m : ℕ). Adds (PassesAt d table p.parts m) [] edges) parts (subst (λ (es : List Edge). Adds (PassesAt d table p.parts n) es edges) none adds)) in
-    few_rings p edges (edges_inner p table edges are right inner) keeps (long ∙ all) (subst (λ (m : ℕ). AreFew m edges keeps) all few)
+    → KeepsFewRings making p keeps
+few_by making p d n table start edges keeps all parts are right none adds few long =
+    let inner : Adds (PassesAt (directions p) table making p.parts (length p.parts)) [] edges =
+    subst (λ (m : ℕ). Adds (PassesAt m table making p.parts (length p.parts)) [] edges) all
+    (subst (λ (m : ℕ). Adds (PassesAt d table making p.parts m) [] edges) parts (subst (λ (es : List Edge). Adds (PassesAt d table making p.parts n) es edges) none adds)) in
+    few_rings making p edges (edges_inner making p table edges are right inner) keeps (long ∙ all) (subst (λ (m : ℕ). AreFew m edges keeps) all few)

@@ -1,16 +1,19 @@
 // Which directions of a plan's joints keep their registers where few are wanted.
 ghost use Rattle.std.specs.Prelude.{◌≡◌, ◌+◌, ◌<◌, ◌≤◌, length, option_map, Bool, IfOk, OnOk};
+ghost use Rattle.std.specs.Option.{option_copied};
 ghost use Rattle.gos_plan.specs.Kinds.{part_contacts};
 ghost use Rattle.gos_plan.specs.Plans.{PartEnd};
 ghost use Rattle.gos_plan.specs.Seen.{plan_of, part_of};
 ghost use Rattle.gos_plan.specs.Ranges.{IsInRange};
 ghost use Rattle.gos_plan.specs.Size.{plan_size};
-ghost use Rattle.gos_expand.specs.Gates.{ForEach, passing_of};
+ghost use Rattle.gos_expand.specs.Gates.{Making, passing_of};
+ghost use Rattle.gos_expand.specs.inner.Orders.{making_of, making_in, IsOrderOf, AreOrdersOf};
 ghost use Rattle.gos_expand.specs.inner.Arrivals.{AreAt};
-ghost use Rattle.gos_expand.specs.inner.Choosing.{joint_at, number_in, ways_at, ways_seen, HasSmallJoints, AreWithin, GoAcross, Adds, IsPassage, PassesTo, PassesFrom, PassesAt, AreFew, KeepsFewRings};
+ghost use Rattle.gos_expand.specs.inner.Choosing.{joint_at, number_in, ways_at, ways_seen, HasSmallJoints, AreWithin, GoAcross, Adds, IsPassage, PassesTo, PassesFrom, PassesAt, PassesAcross, AllPassAcross, AreFew, KeepsFewRings};
 
 use crate::arrivals::{Arrivals, Origin};
 use crate::gates::gates_of;
+use crate::orders::Orders;
 use crate::places::shakes;
 use gos_macro::Macro;
 use gos_order::Order;
@@ -26,15 +29,18 @@ pub(crate) struct Directions {
 }
 
 // Tells for each direction of the joints whether it keeps its registers: for each joint in turn its request and its answer.
-pub(crate) fn few(alloc: Global, plan: &Plan) -> Result<Vec<bool>, NoMemory>
+// The passages are those of gates that are made for these orders.
+pub(crate) fn few(alloc: Global, plan: &Plan, orders: &Orders) -> Result<Vec<bool>, NoMemory>
     requires size { plan_size (plan_of plan.now) ≤ 5000000 }
-    ensures { IfOk result (λ keeps. KeepsFewRings (plan_of plan.now) keeps.items) }
+    requires orders { AreOrdersOf (making_in orders.now) (plan_of plan.now).parts }
+    requires passing { AllPassAcross (making_in orders.now) (plan_of plan.now).parts }
+    ensures { IfOk result (λ keeps. KeepsFewRings (making_in orders.now) (plan_of plan.now) keeps.items) }
 {
     let table = joint_table(alloc, plan)?;
     let directions = 2 * plan.joints().len() as u32;
-    let mut order = Order::new(alloc, directions + directions)?;
-    add_parts(&mut order, &table, directions, plan)?;
-    choose(alloc, &mut order, directions)
+    let mut graph = Order::new(alloc, directions + directions)?;
+    add_parts(&mut graph, &table, directions, plan, orders)?;
+    choose(alloc, &mut graph, directions)
 }
 
 // The joint at each end of a plan.
@@ -82,15 +88,17 @@ fn directions_at(table: &Arrivals, part: u32, shake: u32) -> Option<Directions>
 }
 
 // Whether what comes in at a handshake of a part goes on to another in the same cycle. The part has `count` of them.
-fn passes(kind: &Kind, count: u32, from: u32, to: u32) -> bool
+fn passes(kind: &Kind, order: Option<&[u32]>, count: u32, from: u32, to: u32) -> bool
     requires in_range { IsInRange kind.now }
+    requires order { IsOrderOf (making_of (option_copied order)) (part_of kind.now) }
+    requires passing { PassesAcross (making_of (option_copied order)) (part_of kind.now) }
     requires count { count ≡ length (part_contacts (part_of kind.now)) }
     requires few { count ≤ 192 }
     requires from { from < length (part_contacts (part_of kind.now)) }
     requires to { to < length (part_contacts (part_of kind.now)) }
-    ensures { result ≡ passing_of ForEach (part_of kind.now) from to }
+    ensures { result ≡ passing_of (making_of (option_copied order.entry)) (part_of kind.now) from to }
 {
-    may_pass(kind, count, from, to) && gates_of(kind, None).passes(from, to)
+    may_pass(kind, count, from, to) && gates_of(kind, order).passes(from, to)
 }
 
 // Whether it may, as far as is told at once. A Share has the source's handshakes and as many of each caller, and passes
@@ -100,7 +108,7 @@ fn may_pass(kind: &Kind, count: u32, from: u32, to: u32) -> bool
     requires few { count ≤ 192 }
     requires from { from < count }
     requires to { to < count }
-    ensures { passing_of ForEach (part_of kind.now) from to ≡ Bool.true → result ≡ Bool.true }
+    ensures { (m : Making) → PassesAcross m (part_of kind.now) → passing_of m (part_of kind.now) from to ≡ Bool.true → result ≡ Bool.true }
 {
     match kind {
         Kind::Share(_) => {
@@ -113,21 +121,21 @@ fn may_pass(kind: &Kind, count: u32, from: u32, to: u32) -> bool
 
 // Adds the edge from what arrives at a handshake of a part to what leaves at another, if both stand in joints.
 fn add_passage(
-    order: &mut Order,
+    graph: &mut Order,
     table: &Arrivals,
     directions: u32,
     part: u32,
     from: u32,
     to: u32,
 ) -> Result<(), NoMemory>
-    requires nodes { order.old.nodes ≡ directions + directions }
+    requires nodes { graph.old.nodes ≡ directions + directions }
     requires few { directions ≤ 2000000000 }
     requires small { HasSmallJoints table.now }
     requires within { AreWithin directions table.now }
-    requires across { GoAcross directions order.old.edges }
-    ensures added { OnOk result (Adds (IsPassage directions table.now part from to) order.old.edges order.new.edges) }
-    ensures nodes { order.new.nodes ≡ order.old.nodes }
-    ensures across { GoAcross directions order.new.edges }
+    requires across { GoAcross directions graph.old.edges }
+    ensures added { OnOk result (Adds (IsPassage directions table.now part from to) graph.old.edges graph.new.edges) }
+    ensures nodes { graph.new.nodes ≡ graph.old.nodes }
+    ensures across { GoAcross directions graph.new.edges }
 {
     let Some(first) = directions_at(table, part, from) else {
         return Ok(());
@@ -135,36 +143,39 @@ fn add_passage(
     let Some(second) = directions_at(table, part, to) else {
         return Ok(());
     };
-    order.add(first.arriving, directions + second.leaving)?;
+    graph.add(first.arriving, directions + second.leaving)?;
     Ok(())
 }
 
 // Adds those from what arrives at a handshake.
 fn add_passages(
-    order: &mut Order,
+    graph: &mut Order,
     table: &Arrivals,
     directions: u32,
     part: u32,
     kind: &Kind,
+    order: Option<&[u32]>,
     from: u32,
 ) -> Result<(), NoMemory>
-    requires nodes { order.old.nodes ≡ directions + directions }
+    requires nodes { graph.old.nodes ≡ directions + directions }
     requires few { directions ≤ 2000000000 }
     requires small { HasSmallJoints table.now }
     requires within { AreWithin directions table.now }
-    requires across { GoAcross directions order.old.edges }
+    requires across { GoAcross directions graph.old.edges }
     requires in_range { IsInRange kind.now }
+    requires order { IsOrderOf (making_of (option_copied order)) (part_of kind.now) }
+    requires passing { PassesAcross (making_of (option_copied order)) (part_of kind.now) }
     requires from { from < length (part_contacts (part_of kind.now)) }
     ensures added { OnOk result
-        (Adds (PassesTo directions table.now (part_of kind.now) part from (length (part_contacts (part_of kind.now))))
-        order.old.edges order.new.edges) }
-    ensures nodes { order.new.nodes ≡ order.old.nodes }
-    ensures across { GoAcross directions order.new.edges }
+        (Adds (PassesTo directions table.now (making_of (option_copied order.entry)) (part_of kind.now) part from (length (part_contacts (part_of kind.now))))
+        graph.old.edges graph.new.edges) }
+    ensures nodes { graph.new.nodes ≡ graph.old.nodes }
+    ensures across { GoAcross directions graph.new.edges }
 {
     let count = shakes(kind);
     for to in 0..count {
-        if passes(kind, count, from, to) {
-            add_passage(order, table, directions, part, from, to)?;
+        if passes(kind, order, count, from, to) {
+            add_passage(graph, table, directions, part, from, to)?;
         }
     }
     Ok(())
@@ -172,65 +183,72 @@ fn add_passages(
 
 // Adds those of a part.
 fn add_part(
-    order: &mut Order,
+    graph: &mut Order,
     table: &Arrivals,
     directions: u32,
     part: u32,
     kind: &Kind,
+    order: Option<&[u32]>,
 ) -> Result<(), NoMemory>
-    requires nodes { order.old.nodes ≡ directions + directions }
+    requires nodes { graph.old.nodes ≡ directions + directions }
     requires few { directions ≤ 2000000000 }
     requires small { HasSmallJoints table.now }
     requires within { AreWithin directions table.now }
-    requires across { GoAcross directions order.old.edges }
+    requires across { GoAcross directions graph.old.edges }
     requires in_range { IsInRange kind.now }
+    requires order { IsOrderOf (making_of (option_copied order)) (part_of kind.now) }
+    requires passing { PassesAcross (making_of (option_copied order)) (part_of kind.now) }
     ensures added { OnOk result
-        (Adds (PassesFrom directions table.now (part_of kind.now) part (length (part_contacts (part_of kind.now))))
-        order.old.edges order.new.edges) }
-    ensures nodes { order.new.nodes ≡ order.old.nodes }
-    ensures across { GoAcross directions order.new.edges }
+        (Adds (PassesFrom directions table.now (making_of (option_copied order.entry)) (part_of kind.now) part (length (part_contacts (part_of kind.now))))
+        graph.old.edges graph.new.edges) }
+    ensures nodes { graph.new.nodes ≡ graph.old.nodes }
+    ensures across { GoAcross directions graph.new.edges }
 {
     for from in 0..shakes(kind) {
-        add_passages(order, table, directions, part, kind, from)?;
+        add_passages(graph, table, directions, part, kind, order, from)?;
     }
     Ok(())
 }
 
 // Adds those of all parts.
 fn add_parts(
-    order: &mut Order,
+    graph: &mut Order,
     table: &Arrivals,
     directions: u32,
     plan: &Plan,
+    orders: &Orders,
 ) -> Result<(), NoMemory>
-    requires nodes { order.old.nodes ≡ directions + directions }
+    requires nodes { graph.old.nodes ≡ directions + directions }
     requires few { directions ≤ 2000000000 }
     requires small { HasSmallJoints table.now }
     requires within { AreWithin directions table.now }
-    requires across { GoAcross directions order.old.edges }
+    requires across { GoAcross directions graph.old.edges }
     requires size { plan_size (plan_of plan.now) ≤ 5000000 }
-    ensures added { OnOk result (Adds (PassesAt directions table.now (plan_of plan.now).parts (length plan.now.parts)) order.old.edges order.new.edges) }
-    ensures nodes { order.new.nodes ≡ order.old.nodes }
-    ensures across { GoAcross directions order.new.edges }
+    requires orders { AreOrdersOf (making_in orders.now) (plan_of plan.now).parts }
+    requires passing { AllPassAcross (making_in orders.now) (plan_of plan.now).parts }
+    ensures added { OnOk result (Adds (PassesAt directions table.now (making_in orders.now) (plan_of plan.now).parts (length plan.now.parts)) graph.old.edges graph.new.edges) }
+    ensures nodes { graph.new.nodes ≡ graph.old.nodes }
+    ensures across { GoAcross directions graph.new.edges }
 {
     let parts = plan.parts();
     for index in 0..parts.len() {
-        add_part(order, table, directions, index as u32, &parts[index])?;
+        let order = orders.get(index);
+        add_part(graph, table, directions, index as u32, &parts[index], order)?;
     }
     Ok(())
 }
 
 // Leaves out each direction, in turn, that closes no ring with those left out before it. Tells which are kept.
-fn choose(alloc: Global, order: &mut Order, directions: u32) -> Result<Vec<bool>, NoMemory>
-    requires nodes { order.old.nodes ≡ directions + directions }
+fn choose(alloc: Global, graph: &mut Order, directions: u32) -> Result<Vec<bool>, NoMemory>
+    requires nodes { graph.old.nodes ≡ directions + directions }
     requires few { directions ≤ 2000000000 }
-    requires across { GoAcross directions order.old.edges }
-    ensures few { IfOk result (λ keeps. AreFew directions order.old.edges keeps.items) }
+    requires across { GoAcross directions graph.old.edges }
+    ensures few { IfOk result (λ keeps. AreFew directions graph.old.edges keeps.items) }
     ensures all { IfOk result (λ keeps. length keeps.items ≡ directions) }
 {
     let mut keeps = Vec::new(alloc);
     for direction in 0..directions {
-        let left_out = order.add(directions + direction, direction)?;
+        let left_out = graph.add(directions + direction, direction)?;
         keeps.push(!left_out)?;
     }
     Ok(keeps)

@@ -9,7 +9,8 @@ ghost use Rattle.gos_expand.specs.Starts.{chosen};
 ghost use Rattle.gos_expand.specs.Laid.{laid, circuit};
 ghost use Rattle.gos_expand.specs.Acceptance.{AreDifferent, CanBeLaid};
 ghost use Rattle.gos_expand.specs.Choices.{IsLaidBy};
-ghost use Rattle.gos_expand.specs.inner.Choosing.{IsChoiceOf};
+ghost use Rattle.gos_expand.specs.Gates.{ForEach};
+ghost use Rattle.gos_expand.specs.inner.Choosing.{IsChoiceOf, KeepsFewRings};
 ghost use Rattle.gos_expand.specs.inner.Numbering.{laying};
 ghost use Rattle.gos_expand.specs.inner.Orders.{making_in, AreOrdersOf};
 
@@ -89,8 +90,17 @@ fn choice(alloc: Global, plan: &Plan, policy: Policy) -> Result<Vec<bool>, NoMem
 {
     match policy {
         Policy::All => all_kept(alloc, 2 * plan.joints().len()),
-        Policy::Few => few(alloc, plan),
+        Policy::Few => few_plain(alloc, plan),
     }
+}
+
+// The directions of joints that keep their registers where few are wanted and gates are made for no order.
+fn few_plain(alloc: Global, plan: &Plan) -> Result<Vec<bool>, NoMemory>
+    requires size { plan_size (plan_of plan.now) ≤ 5000000 }
+    ensures { IfOk result (λ keeps. KeepsFewRings (λ i. ForEach) (plan_of plan.now) keeps.items) }
+{
+    let orders = Orders::none(alloc);
+    few(alloc, plan, &orders)
 }
 
 // The choice in which so many directions of joints keep their registers.

@@ -2,25 +2,27 @@
 -- left out where that closes no ring.
 --
 -- Read first: Directions, Arrivals; Choices. Between the functions of this crate.
-use Rattle.std.specs.Prelude.{◌≡◌, ◌↔◌, ℕ, suc, ◌+◌, ◌<◌, ◌≤◌, ◌⊎◌, Bool, true, false, if◌then◌else◌, List, [], ◌∷◌, length, take, Option, None, Some, slice_get}
+use Rattle.std.specs.Prelude.{◌≡◌, ◌↔◌, ℕ, suc, ◌+◌, ◌*◌, ◌<◌, ◌≤◌, ◌⊎◌, Bool, true, false, if◌then◌else◌, List, [], ◌∷◌, length, take, Option, None, Some, slice_get}
+use Rattle.std.specs.Int.{abs_diff}
 use Rattle.gos_types.specs.declared.shakes.Role.{Role}
 use Rattle.gos_types.specs.declared.shakes.Role.TheVariants.{Serve, Ask}
 use Rattle.gos_types.specs.Events.{Request, Answer}
-use Rattle.gos_plan.specs.Kinds.{Part, part_contacts}
+use Rattle.gos_plan.specs.Kinds.{Part, Share, part_contacts}
 use Rattle.gos_plan.specs.Plans.{End, PartEnd, Joint, Plan, same_end}
 use Rattle.gos_expand.specs.declared.arrivals.Origin.{Origin}
 use Rattle.gos_expand.specs.declared.arrivals.Origin.TheVariants.{Cells, Other}
 use Rattle.gos_expand.specs.declared.arrivals.Arrival.{Arrival}
 use Rattle.gos_expand.specs.declared.arrivals.Arrivals.{Arrivals}
 use Rattle.gos_expand.specs.declared.choosing.Directions as declared
-use Rattle.gos_expand.specs.Gates.{ForEach, passing_of}
+use Rattle.gos_expand.specs.Gates.{Making, ForEach, passing_of}
 use Rattle.gos_expand.specs.declared.whole.Policy.{Policy}
 use Rattle.gos_expand.specs.declared.whole.Policy.TheVariants as policies
-use Rattle.gos_expand.specs.Starts.{keep_all, chosen, plain, place_of}
+use Rattle.gos_expand.specs.Starts.{keep_all, chosen, place_of}
 use Rattle.gos_expand.specs.Choices.{left_out_at}
 use Rattle.gos_expand.specs.Rings.{HasRing}
 use Rattle.gos_expand.specs.inner.Arrivals.{or_else, some_if, arrival_at}
 use Rattle.gos_expand.specs.inner.Directions.{directions}
+use Rattle.gos_expand.specs.inner.Numbering.{laying}
 use Rattle.gos_order.specs.Rings as graph
 use Rattle.gos_order.specs.Rings.{Edge, HasEdge, and_edge}
 
@@ -88,16 +90,27 @@ pub record IsPassage (d : ℕ) (table : Arrivals) (part from to a b : ℕ) : Typ
   pub arriving : a ≡ first.arriving
   pub leaving : b ≡ d + second.leaving
 
--- where the kind of the part passes it on, to the first n handshakes, from the first n, or of the first n parts
-abbrev pub PassesTo : ℕ → Arrivals → Part → ℕ → ℕ → ℕ → ℕ → ℕ → Type 0
-PassesTo d table k part from n a b = (to : ℕ) × (to < n) × (passing_of ForEach k from to ≡ true) × IsPassage d table part from to a b
+-- where the gates of the part pass it on, to the first n handshakes, from the first n, or of the first n parts
+abbrev pub PassesTo : ℕ → Arrivals → Making → Part → ℕ → ℕ → ℕ → ℕ → ℕ → Type 0
+PassesTo d table m k part from n a b = (to : ℕ) × (to < n) × (passing_of m k from to ≡ true) × IsPassage d table part from to a b
 
-abbrev pub PassesFrom : ℕ → Arrivals → Part → ℕ → ℕ → ℕ → ℕ → Type 0
-PassesFrom d table k part n a b = (from : ℕ) × (from < n) × PassesTo d table k part from (length (part_contacts k)) a b
+abbrev pub PassesFrom : ℕ → Arrivals → Making → Part → ℕ → ℕ → ℕ → ℕ → Type 0
+PassesFrom d table m k part n a b = (from : ℕ) × (from < n) × PassesTo d table m k part from (length (part_contacts k)) a b
 
-abbrev pub PassesAt : ℕ → Arrivals → List Part → ℕ → ℕ → ℕ → Type 0
-PassesAt d table parts n a b =
-    (part : ℕ) × (k : Part) × (part < n) × (slice_get parts part ≡ Some k) × PassesFrom d table k part (length (part_contacts k)) a b
+abbrev pub PassesAt : ℕ → Arrivals → (ℕ → Making) → List Part → ℕ → ℕ → ℕ → Type 0
+PassesAt d table making parts n a b =
+    (part : ℕ) × (k : Part) × (part < n) × (slice_get parts part ≡ Some k)
+    × PassesFrom d table (making part) k part (length (part_contacts k)) a b
+
+-- What comes in at a Share goes out on other sides alone, at the same handshake: a third of its handshakes apart, or two.
+abbrev pub PassesAcross : Making → Part → Type 0
+PassesAcross m (Share t) =
+    (from to : ℕ) → passing_of m (Share t) from to ≡ true
+    → (3 * abs_diff from to ≡ length (part_contacts (Share t))) ⊎ (3 * abs_diff from to ≡ 2 * length (part_contacts (Share t)))
+PassesAcross m k = Unit {0}
+
+abbrev pub AllPassAcross : (ℕ → Making) → List Part → Type 0
+AllPassAcross making parts = (i : ℕ) (k : Part) → slice_get parts i ≡ Some k → PassesAcross (making i) k
 
 -- the edges with those of the directions that aren't kept, of which the first is direction n
 abbrev pub linked : ℕ → List Edge → ℕ → List Bool → List Edge
@@ -110,14 +123,14 @@ pub record AreFew (d : ℕ) (edges : List Edge) (keeps : List Bool) : Type 0 whe
   pub left_out : (n : ℕ) → slice_get keeps n ≡ Some false → graph.HasRing (and_edge (linked d edges 0 (take n keeps)) (d + n) n) → ⊥
   pub ringless : graph.HasRing (linked d edges 0 keeps) → ⊥
 
--- so it is of all directions of a plan, in terms of its rings
-pub record KeepsFewRings (p : Plan) (keeps : List Bool) : Type 0 where
+-- so it is of all directions of a plan, in terms of its rings by such gates
+pub record KeepsFewRings (making : ℕ → Making) (p : Plan) (keeps : List Bool) : Type 0 where
   pub all : length keeps ≡ directions p
-  pub kept : (n : ℕ) → slice_get keeps n ≡ Some true → HasRing (plain (left_out_at (chosen keeps) n)) p
-  pub left_out : (n : ℕ) → slice_get keeps n ≡ Some false → HasRing (plain (left_out_at (chosen keeps) n)) p → ⊥
-  pub ringless : HasRing (plain (chosen keeps)) p → ⊥
+  pub kept : (n : ℕ) → slice_get keeps n ≡ Some true → HasRing (laying (left_out_at (chosen keeps) n) making) p
+  pub left_out : (n : ℕ) → slice_get keeps n ≡ Some false → HasRing (laying (left_out_at (chosen keeps) n) making) p → ⊥
+  pub ringless : HasRing (laying (chosen keeps) making) p → ⊥
 
 -- the choice of a policy
 abbrev pub IsChoiceOf : Policy → Plan → List Bool → Type 0
 IsChoiceOf policies.All p keeps = chosen keeps ≡ keep_all
-IsChoiceOf policies.Few p keeps = KeepsFewRings p keeps
+IsChoiceOf policies.Few p keeps = KeepsFewRings (λ i. ForEach) p keeps

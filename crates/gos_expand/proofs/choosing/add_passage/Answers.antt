@@ -27,7 +27,7 @@ returns-clause-added c =
     let comes = sym c.directions_at.ensures ∙ ap (option_map ways_seen) c.in-Some.is in
     let goes = sym c.directions_at-2.ensures ∙ ap (option_map ways_seen) c.in-Some-directions_at.is in
     (passage_added c.args.directions c.args.table.now c.args.part c.args.from c.args.to (ways_seen c.in-Some.first)
-    (ways_seen c.in-Some-directions_at.second) comes goes c.requires.within c.args.order.now c.add.new.self c.in_ok-add.field-0 c.requires.across
+    (ways_seen c.in-Some-directions_at.second) comes goes c.requires.within c.args.graph.now c.add.new.self c.in_ok-add.field-0 c.requires.across
     c.in_ok-add.ensures.refused c.in_ok-add.ensures.after).0
 
 pub returns-clause-across : goal.returns-clause-across
@@ -35,5 +35,5 @@ returns-clause-across c =
     let comes = sym c.directions_at.ensures ∙ ap (option_map ways_seen) c.in-Some.is in
     let goes = sym c.directions_at-2.ensures ∙ ap (option_map ways_seen) c.in-Some-directions_at.is in
     (passage_added c.args.directions c.args.table.now c.args.part c.args.from c.args.to (ways_seen c.in-Some.first)
-    (ways_seen c.in-Some-directions_at.second) comes goes c.requires.within c.args.order.now c.add.new.self c.in_ok-add.field-0 c.requires.across
+    (ways_seen c.in-Some-directions_at.second) comes goes c.requires.within c.args.graph.now c.add.new.self c.in_ok-add.field-0 c.requires.across
     c.in_ok-add.ensures.refused c.in_ok-add.ensures.after).1

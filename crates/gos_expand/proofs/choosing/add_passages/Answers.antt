@@ -1,5 +1,7 @@
 use Rattle.std.proofs.Common.{◌≡◌, ◌+◌, sym, subst, ◌∙◌}
+use Rattle.std.specs.Option.{option_copied}
 use Rattle.gos_order.specs.Rings.{Graph}
+use Rattle.gos_expand.specs.inner.Orders.{making_of}
 use Rattle.gos_plan.specs.Seen.{part_of}
 use Rattle.gos_expand.specs.inner.Choosing.{GoAcross, Adds, PassesTo}
 use Rattle.gos_expand.proofs.PassageLemmas.{with_passage, without_passage}
@@ -11,24 +13,24 @@ loop-to-preserved c =
     elim c.if-passes.branch [
       | then-passes+in_ok-add_passage w ↦ subst
           (λ (g : Graph).
-          Adds (PassesTo c.args.directions c.args.table.now (part_of c.args.kind.now) c.args.part c.args.from (c.loop-to.to + 1)) c.args.order.now.edges g.edges
-          × (g.nodes ≡ c.args.order.now.nodes)
+          Adds (PassesTo c.args.directions c.args.table.now (making_of (option_copied c.args.order)) (part_of c.args.kind.now) c.args.part c.args.from (c.loop-to.to + 1)) c.args.graph.now.edges g.edges
+          × (g.nodes ≡ c.args.graph.now.nodes)
           × GoAcross c.args.directions g.edges)
-          (sym w.order-is) (
-            with_passage c.args.directions c.args.table.now (part_of c.args.kind.now) c.args.part c.args.from c.loop-to.to c.args.order.now.edges
-                c.loop-to.order.edges w.add_passage.new.order.edges (sym c.passes.ensures ∙ w.if-passes.true) c.loop-to.invariant.0
+          (sym w.graph-is) (
+            with_passage c.args.directions c.args.table.now (making_of (option_copied c.args.order)) (part_of c.args.kind.now) c.args.part c.args.from c.loop-to.to c.args.graph.now.edges
+                c.loop-to.graph.edges w.add_passage.new.graph.edges (sym c.passes.ensures ∙ w.if-passes.true) c.loop-to.invariant.0
                 w.in_ok-add_passage.ensures.added,
             w.add_passage.ensures.nodes ∙ c.loop-to.invariant.1,
             w.add_passage.ensures.across,
           )
       | else-passes w ↦ subst
           (λ (g : Graph).
-          Adds (PassesTo c.args.directions c.args.table.now (part_of c.args.kind.now) c.args.part c.args.from (c.loop-to.to + 1)) c.args.order.now.edges g.edges
-          × (g.nodes ≡ c.args.order.now.nodes)
+          Adds (PassesTo c.args.directions c.args.table.now (making_of (option_copied c.args.order)) (part_of c.args.kind.now) c.args.part c.args.from (c.loop-to.to + 1)) c.args.graph.now.edges g.edges
+          × (g.nodes ≡ c.args.graph.now.nodes)
           × GoAcross c.args.directions g.edges)
-          (sym w.order-is) (
-            without_passage c.args.directions c.args.table.now (part_of c.args.kind.now) c.args.part c.args.from c.loop-to.to c.args.order.now.edges
-                c.loop-to.order.edges (sym c.passes.ensures ∙ w.if-passes.false) c.loop-to.invariant.0,
+          (sym w.graph-is) (
+            without_passage c.args.directions c.args.table.now (making_of (option_copied c.args.order)) (part_of c.args.kind.now) c.args.part c.args.from c.loop-to.to c.args.graph.now.edges
+                c.loop-to.graph.edges (sym c.passes.ensures ∙ w.if-passes.false) c.loop-to.invariant.0,
             c.loop-to.invariant.1,
             c.loop-to.invariant.2,
           )

@@ -4,9 +4,9 @@ use Rattle.gos_expand.proofs.choosing.choose.Goals as goal
 
 pub loop-direction-init : goal.loop-direction-init
 loop-direction-init c =
-    subst (λ (keeps : List Bool). Chosen c.args.directions c.args.order.now.edges keeps c.args.order.now × (length keeps ≡ 0))
+    subst (λ (keeps : List Bool). Chosen c.args.directions c.args.graph.now.edges keeps c.args.graph.now × (length keeps ≡ 0))
     (sym c.new-keeps.ensures.items)
-    (record { nodes = c.requires.nodes; edges_are = refl; few = few_none c.args.directions c.args.order.now.edges c.requires.across }, refl)
+    (record { nodes = c.requires.nodes; edges_are = refl; few = few_none c.args.directions c.args.graph.now.edges c.requires.across }, refl)
 
 pub add-requires-clause-from : goal.add-requires-clause-from
 add-requires-clause-from c =
@@ -23,9 +23,9 @@ loop-direction-preserved c =
     let items = c.in_ok-push.ensures.items in
     let long = c.loop-direction.invariant.1 in
     let size = length-append keeps (not left ∷ []) in
-    let next = chosen_next c.args.directions c.args.order.now.edges keeps c.loop-direction.direction c.loop-direction.order c.add.new.self left long
+    let next = chosen_next c.args.directions c.args.graph.now.edges keeps c.loop-direction.direction c.loop-direction.graph c.add.new.self left long
     c.loop-direction.invariant.0 c.in_ok-left_out.ensures.added c.in_ok-left_out.ensures.refused c.in_ok-left_out.ensures.after in
-    subst (λ (ks : List Bool). Chosen c.args.directions c.args.order.now.edges ks c.add.new.self × (length ks ≡ c.loop-direction.direction + 1))
+    subst (λ (ks : List Bool). Chosen c.args.directions c.args.graph.now.edges ks c.add.new.self × (length ks ≡ c.loop-direction.direction + 1))
     (sym items) (next, omega (arith, size, long))
 
 pub returns-clause-few : goal.returns-clause-few

@@ -4,6 +4,7 @@ use Rattle.gos_order.specs.Rings.{Graph}
 use Rattle.gos_plan.specs.Plans.{Plan}
 use Rattle.gos_plan.specs.Seen.{plan_of, part_of, joint_of}
 use Rattle.gos_expand.specs.inner.Directions.{directions}
+use Rattle.gos_expand.specs.inner.Orders.{making_in}
 use Rattle.gos_expand.specs.inner.Choosing.{AreWithin}
 use Rattle.gos_expand.proofs.WholeLemmas.{both_then}
 use Rattle.gos_expand.proofs.TableLemmas.{joints_small, ways_within, few_by}
@@ -33,6 +34,6 @@ returns c =
     let all : 2 * length c.joints.result.now ≡ directions p = omega (arith, value, count) in
     both_then c.choose.result c.choose.ensures.few c.choose.ensures.all
     (λ keeps few long.
-    few_by p (2 * length c.joints.result.now) (length c.args.plan.now.parts) c.in_ok-table.table c.in_ok-order.order.edges c.add_parts.new.order.edges
+    few_by (making_in c.args.orders.now) p (2 * length c.joints.result.now) (length c.args.plan.now.parts) c.in_ok-table.table c.in_ok-graph.graph.edges c.add_parts.new.graph.edges
     keeps.items all (sym (length-map c.args.plan.now.parts part_of)) c.in_ok-table.ensures c.joints.ensures.right
-    (ap (λ (g : Graph). g.edges) c.in_ok-order.ensures) c.in_ok-add_parts.ensures.added few long)
+    (ap (λ (g : Graph). g.edges) c.in_ok-graph.ensures) c.in_ok-add_parts.ensures.added few long)
