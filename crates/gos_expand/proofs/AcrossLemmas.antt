@@ -3,7 +3,7 @@
 --
 -- Read first: Choosing; Fast of gos_fast_share; ShareLemmas.
 use Rattle.std.proofs.Common.{◌≡◌, ◌+◌, ◌*◌, ◌<◌, ◌≤◌, ◌⊎◌, ℕ, zero, suc, Bool, true, false, if◌then◌else◌, List, [], ◌∷◌, length, inl, inr, refl, arith}
-use Rattle.std.specs.Prelude.{Some, ◌&&◌, ◌||◌, nat_eq, nat_lt, slice_get}
+use Rattle.std.specs.Prelude.{Some, ◌&&◌, ◌||◌, nat_eq, nat_lt}
 use Rattle.std.proofs.lemmas.List.{length-map}
 use Rattle.std.proofs.lemmas.Bool.{eqb-true}
 use Rattle.std.proofs.lemmas.Bool.Decides.{nat_tests}

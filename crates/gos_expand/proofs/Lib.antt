@@ -76,3 +76,6 @@ pub mod FastLemmas
 pub mod SmallFastLemmas
 pub mod AcrossLemmas
 pub mod OrderLemmas
+pub mod WayRankLemmas
+pub mod ByRankLemmas
+pub mod PartRankLemmas

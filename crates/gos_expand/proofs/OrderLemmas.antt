@@ -5,7 +5,6 @@ use Rattle.std.proofs.Common.{◌≡◌, ◌+◌, ◌<◌, ℕ, zero, suc, List,
 use Rattle.std.specs.Global.{Global}
 use Rattle.std.specs.Prelude.{Option, Some, slice_get}
 use Rattle.gos_plan.specs.Kinds.{Part, Share, part_contacts}
-use Rattle.gos_expand.specs.Gates.{Making}
 use Rattle.gos_expand.specs.Fast.{numbers_from, making_by_number}
 use Rattle.gos_expand.specs.inner.Orders.{making_of, kept_order, IsOrderOf, AreOrdersOf}
 use Rattle.gos_expand.specs.inner.Choosing.{PassesAcross, AllPassAcross}
@@ -25,11 +24,11 @@ numbers_next n =
     ap (λ (x : ℕ). numbers_from 0 n ++ x ∷ []) last ∙ (numbers_more 0 n ∙ ap (numbers_from 0) more)
 
 -- how many they are, and that they are low
-numbers_long : (m n : ℕ) → length (numbers_from m n) ≡ n
+pub numbers_long : (m n : ℕ) → length (numbers_from m n) ≡ n
 numbers_long m zero = refl
 numbers_long m (suc n) = ap suc (numbers_long (suc m) n)
 
-numbers_low : (m n k d : ℕ) → k < length (numbers_from m n) → slice_index_or (numbers_from m n) k d < m + n
+pub numbers_low : (m n k d : ℕ) → k < length (numbers_from m n) → slice_index_or (numbers_from m n) k d < m + n
 numbers_low m zero k d low = absurd (omega (arith, low))
 numbers_low m (suc n) zero d low = omega arith
 numbers_low m (suc n) (suc k) d low = let rest = numbers_low (suc m) n k d (omega (arith, low)) in omega (arith, rest)

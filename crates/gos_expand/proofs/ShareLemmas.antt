@@ -2,7 +2,7 @@
 -- handshakes it has, and how far it passes on.
 --
 -- Read first: Blocks and Share of gos_share.
-use Rattle.std.proofs.Common.{◌≡◌, ◌+◌, ◌*◌, ◌≤◌, ◌⊎◌, ℕ, zero, suc, true, List, [], ◌∷◌, ◌++◌, length, inl, inr, refl, sym, ap, ◌∙◌, length-append, arith}
+use Rattle.std.proofs.Common.{◌≡◌, ◌+◌, ◌*◌, ◌≤◌, ◌⊎◌, ℕ, zero, suc, List, [], ◌∷◌, ◌++◌, length, inl, inr, refl, length-append, arith}
 use Rattle.std.specs.Int.{abs_diff}
 use Rattle.std.proofs.lemmas.List.{length-map}
 use Rattle.gos_types.specs.declared.shakes.Role.{Role}
@@ -10,7 +10,7 @@ use Rattle.gos_types.specs.declared.shakes.Role.TheVariants.{Serve, Ask}
 use Rattle.gos_types.specs.Types.{Type', Com, Exp, Var, Pair, Fun, size}
 use Rattle.gos_types.specs.Handshakes.{handshakes_of}
 use Rattle.gos_macro.specs.Gates.{Incoming}
-use Rattle.gos_plan.specs.Kinds.{Part, Share, Contact, contact, contacts_of, part_contacts, turned_contact, other_side}
+use Rattle.gos_plan.specs.Kinds.{Share, Contact, contact, contacts_of, part_contacts, turned_contact, other_side}
 use Rattle.gos_share.specs.Blocks.{block_cells, block_size, kept_net}
 use Rattle.gos_share.specs.Share.{row_cells, share_cells}
 use Rattle.gos_share.specs.laws.Row.{block_length}

@@ -4,7 +4,7 @@
 use Rattle.std.proofs.Common.{◌≡◌, ◌+◌, ◌<◌, ◌↔◌, ℕ, suc, Bool, true, false, if◌then◌else◌, List, [], ◌∷◌, length, slice_get, Option, Some, inl, inr, refl, sym, ap, ap₂, subst, ◌∙◌, zero-add, arith}
 use Rattle.std.specs.Prelude.{None}
 use Rattle.std.proofs.lemmas.Option.{none-some, same_Some, slice_get_within}
-use Rattle.gos_order.specs.Rings.{Edge, HasEdge}
+use Rattle.gos_order.specs.Rings.{Graph, Edge, HasEdge}
 use Rattle.gos_types.specs.declared.shakes.Role.{Role}
 use Rattle.gos_types.specs.declared.shakes.Role.TheVariants.{Serve, Ask}
 use Rattle.gos_types.specs.Events.{Direction, Request, Answer}
@@ -16,16 +16,17 @@ use Rattle.gos_expand.specs.declared.arrivals.Origin.TheVariants.{Cells}
 use Rattle.gos_expand.specs.declared.arrivals.Arrival.{Arrival}
 use Rattle.gos_expand.specs.declared.arrivals.Arrivals.{Arrivals}
 use Rattle.gos_expand.specs.Gates.{Making}
-use Rattle.gos_expand.specs.Starts.{place_of}
+use Rattle.gos_expand.specs.Starts.{chosen, place_of}
 use Rattle.gos_expand.specs.Laid.{Seat, seat_among, seat_of}
 use Rattle.gos_expand.specs.Facts.{source, target}
 use Rattle.gos_expand.specs.inner.Arrivals.{or_else, some_if, arrival_if, AreAt}
-use Rattle.gos_expand.specs.inner.Directions.{directions, ArrivesAt, LeavesAt, IsInner}
-use Rattle.gos_expand.specs.inner.Choosing.{joint_among, joint_at, Ways, ways_by, ways_in, ways_of, ways_at, number_in, HasSmallJoints, AreWithin, Adds, PassesAt, AreFew, KeepsFewRings}
+use Rattle.gos_expand.specs.inner.Directions.{directions, ArrivesAt, LeavesAt, IsInner, AreEdges, IsGraphOf}
+use Rattle.gos_expand.specs.inner.Numbering.{laying}
+use Rattle.gos_expand.specs.inner.Choosing.{joint_among, joint_at, Ways, ways_by, ways_in, ways_of, ways_at, number_in, HasSmallJoints, AreWithin, Adds, PassesAt, linked, AreFew, KeepsFewRings}
 use Rattle.gos_expand.proofs.SeatLemmas.{joint_fits, Seated, IsSide, seat_found}
 use Rattle.gos_expand.proofs.RegisterLemmas.{seat_there}
 use Rattle.gos_expand.proofs.DirectionLemmas.{direction_low}
-use Rattle.gos_expand.proofs.ChoiceLemmas.{few_rings}
+use Rattle.gos_expand.proofs.ChoiceLemmas.{few_rings, graph_of_all}
 
 -- the joint at an end is that of its seat
 abbrev seat_origin : Option Seat → Option Origin
@@ -46,7 +47,7 @@ joint_seat n (j ∷ js) e = by_tests (same_end e j.asking) (same_end e j.serving
     by_tests false false rest = rest
 
 -- the directions at an end that has a handshake and a seat
-ways_seated : (p : Plan) (table : Arrivals) (e : End) (c : Contact) (s : Seat) → AreAt p (joint_at p) table → contact_at p e ≡ Some c → seat_of p e ≡ Some s
+pub ways_seated : (p : Plan) (table : Arrivals) (e : End) (c : Contact) (s : Seat) → AreAt p (joint_at p) table → contact_at p e ≡ Some c → seat_of p e ≡ Some s
     → ways_at table e ≡ Some (ways_by c.role s.joint)
 ways_seated p table e c s are there seat =
     ap ways_of (are e)
@@ -54,14 +55,14 @@ ways_seated p table e c s are there seat =
     ∙ ap (λ (o : Option Origin). ways_in c.role (number_in o)) (joint_seat 0 p.joints e ∙ ap seat_origin seat))
 
 -- an end with directions has both
-record Told (p : Plan) (e : End) (w : Ways) : Type 0 where
-  contact : Contact
-  there : contact_at p e ≡ Some contact
-  seat : Seat
-  seated : seat_of p e ≡ Some seat
-  is : w ≡ ways_by contact.role seat.joint
+pub record Told (p : Plan) (e : End) (w : Ways) : Type 0 where
+  pub contact : Contact
+  pub there : contact_at p e ≡ Some contact
+  pub seat : Seat
+  pub seated : seat_of p e ≡ Some seat
+  pub is : w ≡ ways_by contact.role seat.joint
 
-told : (p : Plan) (table : Arrivals) (e : End) (w : Ways) → AreAt p (joint_at p) table → ways_at table e ≡ Some w → Told p e w
+pub told : (p : Plan) (table : Arrivals) (e : End) (w : Ways) → AreAt p (joint_at p) table → ways_at table e ≡ Some w → Told p e w
 told p table e w are is = by_contact (contact_at p e) refl (sym (ap ways_of (are e)) ∙ is)
   where
     by_contact : (o : Option Contact) → contact_at p e ≡ o → ways_of (arrival_if (joint_at p e) (contact_at p e)) ≡ Some w → Told p e w
@@ -85,7 +86,7 @@ told p table e w are is = by_contact (contact_at p e) refl (sym (ap ways_of (are
             }
 
 -- so these directions arrive there and leave there
-told_ways : (p : Plan) (e : End) (w : Ways) → IsRight p → Told p e w → ArrivesAt p w.arriving e × LeavesAt p w.leaving e
+pub told_ways : (p : Plan) (e : End) (w : Ways) → IsRight p → Told p e w → ArrivesAt p w.arriving e × LeavesAt p w.leaving e
 told_ways p e w right t = by_side (seat_found 0 p.joints e t.seat t.seated)
   where
     by_role : (j : Joint) (x : ℕ) (role : Role) (way other : Direction) → slice_get p.joints x ≡ Some j → t.contact.role ≡ role → t.seat.joint ≡ x
@@ -259,3 +260,30 @@ few_by making p d n table start edges keeps all parts are right none adds few lo
     subst (λ (m : ℕ). Adds (PassesAt m table making p.parts (length p.parts)) [] edges) all
     (subst (λ (m : ℕ). Adds (PassesAt d table making p.parts m) [] edges) parts (subst (λ (es : List Edge). Adds (PassesAt d table making p.parts n) es edges) none adds)) in
     few_rings making p edges (edges_inner making p table edges are right inner) keeps (long ∙ all) (subst (λ (m : ℕ). AreFew m edges keeps) all few)
+
+-- and so is the graph
+pub graph_by : (making : ℕ → Making) (p : Plan) (d n : ℕ) (table : Arrivals) (start : List Edge) (built after : Graph) (keeps : List Bool) → d ≡ directions p
+    → n ≡ length p.parts
+    → AreAt p (joint_at p) table
+    → IsRight p
+    → start ≡ []
+    → Adds (PassesAt d table making p.parts n) start built.edges
+    → built.nodes ≡ d + d
+    → after.nodes ≡ built.nodes
+    → after.edges ≡ linked d built.edges 0 keeps
+    → length keeps ≡ d
+    → IsGraphOf (laying (chosen keeps) making) p after
+graph_by making p d n table start built after keeps all parts are right none adds nodes same edges long =
+    record {
+      nodes = same ∙ (nodes ∙ (λ i. all i + all i));
+      edges =
+          subst (λ (es : List Edge). AreEdges (laying (chosen keeps) making) p es)
+          (sym (edges ∙ ap (λ (m : ℕ). linked m built.edges 0 keeps) all))
+          (graph_of_all making p built.edges (edges_inner making p table built.edges are right inner) keeps (long ∙ all));
+    }
+  where
+    inner : Adds (PassesAt (directions p) table making p.parts (length p.parts)) [] built.edges
+    inner =
+        subst (λ (m : ℕ). Adds (PassesAt m table making p.parts (length p.parts)) [] built.edges) all
+        (subst (λ (m : ℕ). Adds (PassesAt d table making p.parts m) [] built.edges) parts
+        (subst (λ (es : List Edge). Adds (PassesAt d table making p.parts n) es built.edges) none adds))

@@ -9,4 +9,5 @@ pub mod Numbering
 pub mod Outers
 pub mod Directions
 pub mod Choosing
+pub mod Ranks
 pub mod Raised

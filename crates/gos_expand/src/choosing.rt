@@ -2,14 +2,17 @@
 ghost use Rattle.std.specs.Prelude.{◌≡◌, ◌+◌, ◌<◌, ◌≤◌, length, option_map, Bool, IfOk, OnOk};
 ghost use Rattle.std.specs.Option.{option_copied};
 ghost use Rattle.gos_plan.specs.Kinds.{part_contacts};
-ghost use Rattle.gos_plan.specs.Plans.{PartEnd};
+ghost use Rattle.gos_plan.specs.Plans.{PartEnd, IsRight};
 ghost use Rattle.gos_plan.specs.Seen.{plan_of, part_of};
 ghost use Rattle.gos_plan.specs.Ranges.{IsInRange};
 ghost use Rattle.gos_plan.specs.Size.{plan_size};
 ghost use Rattle.gos_expand.specs.Gates.{Making, passing_of};
 ghost use Rattle.gos_expand.specs.inner.Orders.{making_of, making_in, IsOrderOf, AreOrdersOf};
 ghost use Rattle.gos_expand.specs.inner.Arrivals.{AreAt};
-ghost use Rattle.gos_expand.specs.inner.Choosing.{joint_at, number_in, ways_at, ways_seen, HasSmallJoints, AreWithin, GoAcross, Adds, IsPassage, PassesTo, PassesFrom, PassesAt, PassesAcross, AllPassAcross, AreFew, KeepsFewRings};
+ghost use Rattle.gos_expand.specs.inner.Choosing.{joint_at, number_in, ways_at, ways_seen, HasSmallJoints, AreWithin, GoAcross, Adds, IsPassage, PassesTo, PassesFrom, PassesAt, PassesAcross, AllPassAcross, linked, AreFew, KeepsFewRings};
+ghost use Rattle.gos_expand.specs.Starts.{chosen};
+ghost use Rattle.gos_expand.specs.inner.Directions.{IsGraphOf};
+ghost use Rattle.gos_expand.specs.inner.Numbering.{laying};
 
 use crate::arrivals::{Arrivals, Origin};
 use crate::gates::gates_of;
@@ -29,22 +32,29 @@ pub(crate) struct Directions {
 }
 
 // Tells for each direction of the joints whether it keeps its registers: for each joint in turn its request and its answer.
-// The passages are those of gates that are made for these orders.
-pub(crate) fn few(alloc: Global, plan: &Plan, orders: &Orders) -> Result<Vec<bool>, NoMemory>
+// The passages are those of gates that are made for these orders. Gives the graph of directions as well.
+pub(crate) fn few(
+    alloc: Global,
+    plan: &Plan,
+    orders: &Orders,
+) -> Result<(Vec<bool>, Order), NoMemory>
     requires size { plan_size (plan_of plan.now) ≤ 5000000 }
     requires orders { AreOrdersOf (making_in orders.now) (plan_of plan.now).parts }
     requires passing { AllPassAcross (making_in orders.now) (plan_of plan.now).parts }
-    ensures { IfOk result (λ keeps. KeepsFewRings (making_in orders.now) (plan_of plan.now) keeps.items) }
+    ensures few { IfOk result (λ r. KeepsFewRings (making_in orders.now) (plan_of plan.now) r.0.items) }
+    ensures graph { IfOk result (λ r. IsGraphOf (laying (chosen r.0.items) (making_in orders.now)) (plan_of plan.now) r.1) }
+    ensures right { IfOk result (λ _. IsRight (plan_of plan.now)) }
 {
     let table = joint_table(alloc, plan)?;
     let directions = 2 * plan.joints().len() as u32;
     let mut graph = Order::new(alloc, directions + directions)?;
     add_parts(&mut graph, &table, directions, plan, orders)?;
-    choose(alloc, &mut graph, directions)
+    let keeps = choose(alloc, &mut graph, directions)?;
+    Ok((keeps, graph))
 }
 
 // The joint at each end of a plan.
-fn joint_table(alloc: Global, plan: &Plan) -> Result<Arrivals, NoMemory>
+pub(crate) fn joint_table(alloc: Global, plan: &Plan) -> Result<Arrivals, NoMemory>
     requires size { plan_size (plan_of plan.now) ≤ 5000000 }
     ensures { IfOk result (AreAt (plan_of plan.now) (joint_at (plan_of plan.now))) }
 {
@@ -69,7 +79,7 @@ fn number(origin: Option<Origin>) -> Option<u32>
 }
 
 // The directions at an end of a part.
-fn directions_at(table: &Arrivals, part: u32, shake: u32) -> Option<Directions>
+pub(crate) fn directions_at(table: &Arrivals, part: u32, shake: u32) -> Option<Directions>
     requires small { HasSmallJoints table.now }
     ensures { option_map ways_seen result ≡ ways_at table.now (PartEnd part shake) }
 {
@@ -226,7 +236,9 @@ fn add_parts(
     requires size { plan_size (plan_of plan.now) ≤ 5000000 }
     requires orders { AreOrdersOf (making_in orders.now) (plan_of plan.now).parts }
     requires passing { AllPassAcross (making_in orders.now) (plan_of plan.now).parts }
-    ensures added { OnOk result (Adds (PassesAt directions table.now (making_in orders.now) (plan_of plan.now).parts (length plan.now.parts)) graph.old.edges graph.new.edges) }
+    ensures added { OnOk result
+        (Adds (PassesAt directions table.now (making_in orders.now) (plan_of plan.now).parts (length plan.now.parts))
+        graph.old.edges graph.new.edges) }
     ensures nodes { graph.new.nodes ≡ graph.old.nodes }
     ensures across { GoAcross directions graph.new.edges }
 {
@@ -245,6 +257,8 @@ fn choose(alloc: Global, graph: &mut Order, directions: u32) -> Result<Vec<bool>
     requires across { GoAcross directions graph.old.edges }
     ensures few { IfOk result (λ keeps. AreFew directions graph.old.edges keeps.items) }
     ensures all { IfOk result (λ keeps. length keeps.items ≡ directions) }
+    ensures edges { IfOk result (λ keeps. graph.new.edges ≡ linked directions graph.old.edges 0 keeps.items) }
+    ensures nodes { IfOk result (λ _. graph.new.nodes ≡ graph.old.nodes) }
 {
     let mut keeps = Vec::new(alloc);
     for direction in 0..directions {

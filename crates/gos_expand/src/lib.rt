@@ -8,8 +8,8 @@
 // of them; `departures.rt` has the nets that go out of each part, and `leaves.rt` names those that go into the
 // circuit at an end; `gates.rt` lays parts out, `tokens.rt` has the cells of a pulse and its number, and `outside.rt`
 // makes the ports. `choosing.rt` tells which directions of joints keep their registers where few are wanted
-// (`specs/Choices`), and `orders.rt` for which order of its handshakes a Share's gates are made. `into.rt` lays a plan
-// out in a pool that has cells already (`specs/Into`).
+// (`specs/Choices`), and `orders.rt` for which order of its handshakes a Share's gates are made: by number, or by rank
+// (`ranks.rt`, `specs/Fast`). `into.rt` lays a plan out in a pool that has cells already (`specs/Into`).
 #![tactic(auto)]
 
 mod arrivals;
@@ -24,6 +24,7 @@ mod orders;
 mod outside;
 mod places;
 mod placing;
+mod ranks;
 mod tokens;
 mod whole;
 
@@ -33,4 +34,4 @@ pub use laws::{
     into_pools, laid_is_accepted, lists_of_facts, one_layout, outputs_are_silent, rings_are_cycles,
     small_choices, small_fast, small_nets,
 };
-pub use whole::{Policy, expand, expand_with};
+pub use whole::{Policy, expand, expand_fast, expand_with};

@@ -9,6 +9,7 @@ ghost use Rattle.gos_expand.specs.Starts.{chosen};
 ghost use Rattle.gos_expand.specs.Laid.{laid, circuit};
 ghost use Rattle.gos_expand.specs.Acceptance.{AreDifferent, CanBeLaid};
 ghost use Rattle.gos_expand.specs.Choices.{IsLaidBy};
+ghost use Rattle.gos_expand.specs.Fast.{IsFastOf};
 ghost use Rattle.gos_expand.specs.Gates.{ForEach};
 ghost use Rattle.gos_expand.specs.inner.Choosing.{IsChoiceOf, KeepsFewRings};
 ghost use Rattle.gos_expand.specs.inner.Numbering.{laying};
@@ -19,6 +20,7 @@ use crate::numbering::number;
 use crate::orders::Orders;
 use crate::outside::ports;
 use crate::placing::{place_joints, place_loose, place_parts, place_ports};
+use crate::ranks::orders_by_rank;
 use gos_lex::Name;
 use gos_netlist::Netlist;
 use gos_plan::Plan;
@@ -83,6 +85,26 @@ pub fn expand(alloc: Global, plan: &Plan, root: &Name, policy: Policy) -> Result
     lay_out_plain(alloc, plan, root, &keep)
 }
 
+/// The fast circuit of a plan: no Share holds a request, and each is made for the order of the depths of its ends. Few
+/// directions of joints keep their registers, as of `Policy::Few`, by gates in which each Share takes its handshakes by
+/// number.
+///
+/// What is asked is the same. `Err` is want of memory alone.
+pub fn expand_fast(alloc: Global, plan: &Plan, root: &Name) -> Result<Netlist, NoMemory>
+    requires result { IsDone (type_of plan.now.outcome) }
+    requires ground { All (λ i. IsGround (type_of i.ty)) plan.now.imports }
+    requires names { AreDifferent (root.now ∷ map (λ i. i.name) plan.now.imports) }
+    requires size { plan_size (plan_of plan.now) ≤ 5000000 }
+    requires ports { length plan.now.imports + 1 ≤ 65536 }
+    ensures fast { IfOk result (IsFastOf (plan_of plan.now) root.now) }
+{
+    let numbers = Orders::by_number(alloc, plan)?;
+    let (keep, graph) = few(alloc, plan, &numbers)?;
+    let depths = graph.depths(alloc)?;
+    let orders = orders_by_rank(alloc, plan, &depths)?;
+    lay_out(alloc, plan, root, &keep, &orders)
+}
+
 // The directions of joints that a policy chooses.
 fn choice(alloc: Global, plan: &Plan, policy: Policy) -> Result<Vec<bool>, NoMemory>
     requires size { plan_size (plan_of plan.now) ≤ 5000000 }
@@ -100,7 +122,8 @@ fn few_plain(alloc: Global, plan: &Plan) -> Result<Vec<bool>, NoMemory>
     ensures { IfOk result (λ keeps. KeepsFewRings (λ i. ForEach) (plan_of plan.now) keeps.items) }
 {
     let orders = Orders::none(alloc);
-    few(alloc, plan, &orders)
+    let (keeps, _) = few(alloc, plan, &orders)?;
+    Ok(keeps)
 }
 
 // The choice in which so many directions of joints keep their registers.

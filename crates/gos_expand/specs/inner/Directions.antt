@@ -7,7 +7,7 @@ use Rattle.gos_types.specs.Events.{Direction}
 use Rattle.gos_plan.specs.Kinds.{Part, part_contacts}
 use Rattle.gos_plan.specs.Plans.{End, PartEnd, Joint, Plan}
 use Rattle.gos_expand.specs.Gates.{Making, passing_of}
-use Rattle.gos_order.specs.Rings.{Edge, HasEdge}
+use Rattle.gos_order.specs.Rings.{Graph, Edge, HasEdge}
 use Rattle.gos_expand.specs.Starts.{Keep, Laying, place_of}
 use Rattle.gos_expand.specs.Facts.{source, target}
 
@@ -53,3 +53,8 @@ IsLink keep p a b = (x : IsDirection p b) × (a ≡ directions p + b) × (keep x
 -- the edges are those of the graph
 abbrev pub AreEdges : Laying → Plan → List Edge → Type 0
 AreEdges lay p edges = (a b : ℕ) → HasEdge edges a b ↔ (IsInner lay.making p a b ⊎ IsLink lay.keep p a b)
+
+-- it has a node for where each direction arrives, and one for where it leaves
+pub record IsGraphOf (lay : Laying) (p : Plan) (graph : Graph) : Type 0 where
+  pub nodes : graph.nodes ≡ directions p + directions p
+  pub edges : AreEdges lay p graph.edges

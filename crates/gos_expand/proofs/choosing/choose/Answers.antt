@@ -1,4 +1,4 @@
-use Rattle.std.proofs.Common.{◌≡◌, ◌+◌, Bool, not, List, [], ◌∷◌, length, refl, sym, subst, length-append, arith}
+use Rattle.std.proofs.Common.{◌≡◌, ◌+◌, Bool, not, List, [], ◌∷◌, length, refl, sym, ◌∙◌, subst, length-append, arith}
 use Rattle.gos_expand.proofs.ChoosingLemmas.{Chosen, few_none, chosen_next}
 use Rattle.gos_expand.proofs.choosing.choose.Goals as goal
 
@@ -36,3 +36,9 @@ returns-clause-all c =
     let long = c.loop-direction.invariant.1 in
     let end = c.loop-direction-test.false in
     let within = c.loop-direction.auto.direction-end in omega (arith, long, end, within)
+
+pub returns-clause-edges : goal.returns-clause-edges
+returns-clause-edges c = c.loop-direction.invariant.0.edges_are
+
+pub returns-clause-nodes : goal.returns-clause-nodes
+returns-clause-nodes c = c.loop-direction.invariant.0.nodes ∙ sym c.requires.nodes

@@ -1,7 +1,6 @@
 use Rattle.std.proofs.Common.{◌≡◌, ◌∙◌, ◌*◌, length, inl, inr, ap, subst, true, arith}
 use Rattle.std.proofs.lemmas.Bool.{eq-eqb}
-use Rattle.gos_types.specs.Types.{type_of}
-use Rattle.gos_plan.specs.Kinds.{Part, Share, part_contacts}
+use Rattle.gos_plan.specs.Kinds.{Part, part_contacts}
 use Rattle.gos_plan.specs.Seen.{part_of}
 use Rattle.gos_expand.specs.Gates.{passing_of}
 use Rattle.gos_expand.specs.inner.Choosing.{PassesAcross}

@@ -6,7 +6,6 @@ use Rattle.gos_plan.specs.Kinds.{part_contacts}
 use Rattle.gos_macro.specs.Gates.{Incoming, Outgoing}
 use Rattle.gos_plan.specs.Seen.{part_of}
 use Rattle.gos_macro.specs.Wires.{HoldNets}
-use Rattle.gos_expand.specs.Laid.{laid}
 use Rattle.gos_expand.specs.declared.gates.Gates.{Gates}
 use Rattle.gos_expand.specs.Gates.{Making, outs_of, part_size}
 use Rattle.gos_expand.specs.inner.Orders.{making_of}

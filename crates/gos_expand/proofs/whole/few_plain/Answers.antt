@@ -1,7 +1,4 @@
-use Rattle.std.proofs.Common.{◌≡◌, ℕ, List, Bool, sym, subst}
-use Rattle.std.specs.Prelude.{IfOk, Vec}
-use Rattle.std.specs.Global.{Global}
-use Rattle.gos_plan.specs.Kinds.{Part}
+use Rattle.std.proofs.Common.{ℕ, sym, subst}
 use Rattle.gos_plan.specs.Seen.{plan_of}
 use Rattle.gos_expand.specs.Gates.{Making}
 use Rattle.gos_expand.specs.inner.Orders.{IsOrderOf}
@@ -18,5 +15,5 @@ few-requires-clause-passing c =
 
 pub returns : goal.returns
 returns c =
-    subst (λ (making : ℕ → Making). IfOk c.few.result (λ (keeps : Vec Bool Global). KeepsFewRings making (plan_of c.args.plan.now) keeps.items))
-    c.none-orders.ensures c.few.ensures
+    subst (λ (making : ℕ → Making). KeepsFewRings making (plan_of c.args.plan.now) c.in_ok-keeps.keeps.items) c.none-orders.ensures
+    c.in_ok-keeps.ensures.few

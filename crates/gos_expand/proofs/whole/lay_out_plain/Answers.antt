@@ -1,4 +1,4 @@
-use Rattle.std.proofs.Common.{◌≡◌, ℕ, sym, ap, subst}
+use Rattle.std.proofs.Common.{◌≡◌, ℕ, sym, subst}
 use Rattle.gos_netlist.specs.Nets.{Netlist}
 use Rattle.std.specs.Prelude.{IfOk}
 use Rattle.gos_plan.specs.Seen.{plan_of}
