@@ -97,6 +97,8 @@ pub fn expand_fast(alloc: Global, plan: &Plan, root: &Name) -> Result<Netlist, N
     requires size { plan_size (plan_of plan.now) ≤ 5000000 }
     requires ports { length plan.now.imports + 1 ≤ 65536 }
     ensures fast { IfOk result (IsFastOf (plan_of plan.now) root.now) }
+    ensures accepted { IfOk result IsAccepted }
+    ensures few { IfOk result (λ net. length net.cells ≤ plan_size (plan_of plan.now)) }
 {
     let numbers = Orders::by_number(alloc, plan)?;
     let (keep, graph) = few(alloc, plan, &numbers)?;

@@ -1,6 +1,6 @@
 -- A linked plan can be laid out as a circuit.
 use Rattle.std.proofs.Common.{◌≡◌, ◌<◌, ◌∙◌, ℕ, zero, suc, List, [], ◌∷◌, Some, map, length, All, slice_get, refl, ap, sym, subst, arith}
-use Rattle.gos_types.specs.Types.{Type', Com, Exp, Var, Pair, Fun, IsGround, IsDone, type_of}
+use Rattle.gos_types.specs.Types.{IsGround, IsDone, type_of}
 use Rattle.gos_lex.specs.Lines.{Word}
 use Rattle.gos_model.specs.Typing.{Imported}
 use Rattle.gos_plan.specs.declared.plan.PlanImport.{PlanImport}
@@ -55,14 +55,6 @@ import_names : (is : List PlanImport) → map (λ (i : Imported). i.name) (map i
 import_names [] = refl
 import_names (i ∷ is) = ap (λ (names : List Word). i.name ∷ names) (import_names is)
 
--- a result that the outside may use is a command or an expression
-done : (t : Type') → linking.IsDone t → IsDone t
-done Com is = tt
-done (Exp w) is = tt
-done (Var w) is = absurd is
-done (Pair a b) is = absurd is
-done (Fun a b) is = absurd is
-
 pub can_be_laid : (b : Build) (ps : List SeenPlan) (p : SeenPlan) → AreInRange p.imports p.outcome p.parts → IsLinked b ps (plan_of p) → CanBeLaid p b.root
 can_be_laid b ps p in_range l =
     let w = whole_of ps l.services l.root in
@@ -73,7 +65,7 @@ can_be_laid b ps p in_range l =
       in_range = in_range;
       right = l.joining.right;
       ports = record {
-        result = subst IsDone (sym l.joining.outcome) (done w.outcome grounded.result);
+        result = subst IsDone (sym l.joining.outcome) grounded.result;
         ground = all_ground p.imports (subst AllGround (sym l.joining.imports) (left_ground (all_left w) grounded.imports));
       };
       names = subst (λ (xs : List Word). AreDifferent (b.root ∷ xs)) (left_names is (all_left w) ∙ names ∙ import_names p.imports)

@@ -4,7 +4,7 @@ use Rattle.std.specs.List.{AllByRecursion}
 use Rattle.std.proofs.Common.{refl, sym, ◌∙◌, ap, subst, arith, inl, inr}
 use Rattle.std.proofs.lemmas.List.{length-map}
 use Rattle.std.proofs.lemmas.Option.{slice_get_within}
-use Rattle.gos_types.specs.Types.{Type', Com, Exp, Var, Pair, Fun, IsGround, type_of}
+use Rattle.gos_types.specs.Types.{Type', Com, Exp, Var, Pair, Fun, IsGround, IsDone, type_of}
 use Rattle.gos_types.specs.Widths.{HasWidths}
 use Rattle.gos_types.proofs.ListLemmas.{mapped_at}
 use Rattle.gos_netlist.specs.Writable.{IsPortType}
@@ -50,7 +50,7 @@ accepted_at (n ∷ ms) (one, all) zero m at = let same : n ≡ m = cc at in subs
 accepted_at (n ∷ ms) (one, all) (suc k) m at = accepted_at ms all k m at
 
 -- types that may be those of ports
-done_port : (t : Type') → links.IsDone t → HasWidths t → IsPortType t
+done_port : (t : Type') → IsDone t → HasWidths t → IsPortType t
 done_port Com done wide = tt
 done_port (Exp w) done wide = wide
 done_port (Var w) done wide = absurd done
@@ -146,7 +146,7 @@ module _ (b : Build) (ms : List SeenModule) (ps : List SeenPlan) (ls : SeenLinks
     result : (m : SeenModule) → slice_get ms ls.root ≡ Some m → IsPortType (type_of m.result)
     result m at =
         let outcome = outcome_there ms ps stand ls.root ∙ ap outcome_if at in
-        done_port (type_of m.result) (subst links.IsDone outcome are.grounded.result) (accepted_at ms all ls.root m at).result.0
+        done_port (type_of m.result) (subst IsDone outcome are.grounded.result) (accepted_at ms all ls.root m at).result.0
 
     names : map port_name (ports_of b Whole) ≡ b.root ∷ map import_name (program_along ms ls).imports
     names =
