@@ -33,7 +33,7 @@ returns c =
     let making : ℕ → Making = making_in c.in_ok-orders.orders in
     let depths : List ℕ = c.deref.result.now in
     let fast : (net : Netlist) → net ≡ circuit (laying (chosen c.deref-2.result.now) making) p c.args.root.now → CanBeLaid c.args.plan.now c.args.root.now
-        → IsFastOf p c.args.root.now net =
+    → IsFastOf p c.args.root.now net =
     λ net made can. (
       laying (chosen c.deref-2.result.now) making,
       subst (λ (keeps : List Bool). IsFast p (laying (chosen keeps) making)) (sym c.deref-2.ensures.value)
