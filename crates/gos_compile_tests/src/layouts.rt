@@ -5,7 +5,7 @@ ghost use Rattle.gos_plan.specs.Seen.{plan_of};
 ghost use Rattle.gos_plan.specs.Size.{plan_size};
 ghost use Rattle.gos_expand.specs.Acceptance.{AreDifferent};
 
-use gos_expand::{Policy, expand};
+use gos_expand::{Policy, expand, expand_fast};
 use gos_lex::Name;
 use gos_netcheck::accept;
 use gos_plan::{End, Joint, Kind, Plan, PlanImport, make};
@@ -19,6 +19,18 @@ fn part(part: u32, shake: u32) -> End {
 
 fn joint(asks: End, serves: End) -> Joint {
     Joint { asks, serves }
+}
+
+// How many cells the fast circuit of a plan has.
+fn fast_cells(alloc: Global, plan: &Plan, root: &Name) -> Result<usize, NoMemory>
+    requires result { IsDone (type_of plan.now.outcome) }
+    requires ground { All (λ i. IsGround (type_of i.ty)) plan.now.imports }
+    requires names { AreDifferent (root.now ∷ map (λ i. i.name) plan.now.imports) }
+    requires size { plan_size (plan_of plan.now) ≤ 5000000 }
+    requires ports { length plan.now.imports + 1 ≤ 65536 }
+{
+    let net = expand_fast(alloc, plan, root)?;
+    Ok(net.cells.len())
 }
 
 // How many cells the netlist of a plan has, if it is accepted.
@@ -104,6 +116,7 @@ fn two_callers_share_a_command(rt: HostRuntime) -> Result<(), Fail> {
     let plan = make(alloc, 15, Vec::new(alloc), Ty::Com, parts, joints)?;
     let root = Name::new(alloc, b"main")?;
     assert_eq!(rt; cells(alloc, &plan, &root)?, Some(24));
+    assert_eq!(rt; fast_cells(alloc, &plan, &root)?, 14);
     Ok(())
 }
 
