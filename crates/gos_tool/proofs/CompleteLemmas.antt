@@ -10,6 +10,7 @@ use Rattle.gos_command.specs.declared.status.Status.{Status}
 use Rattle.gos_command.specs.declared.status.Status.TheVariants as statuses
 use Rattle.gos_command.specs.declared.stop.Stop.{Stop}
 use Rattle.gos_command.specs.declared.stop.Stop.TheVariants as stops
+use Rattle.gos_tool.specs.declared.circuits.layout.Layout.TheVariants.{Few}
 use Rattle.gos_tool.specs.objects.Complete.{AcceptedIsNotRejected}
 use Rattle.gos_tool.specs.circuits.Complete.{LinkIsNotRejected}
 use Rattle.gos_tool.specs.netlists.Complete.{TidyIsNotRejected, GatesAreNotRejected}
@@ -27,7 +28,7 @@ right_is_not_rejected source link sim build tidy gates explain verify (Check nam
 right_is_not_rejected source link sim build tidy gates explain verify (Compile name object) files new fault line right wrong = source files name right.0 fault line right.1 wrong.2
 right_is_not_rejected source link sim build tidy gates explain verify (Link own) files new fault line right wrong = link files own fault line right wrong.1
 right_is_not_rejected source link sim build tidy gates explain verify (Sim net pulses trace) files new fault line right wrong = sim files net pulses fault line right wrong.2
-right_is_not_rejected source link sim build tidy gates explain verify (Build own) files new fault line right wrong = build files new own fault line right wrong
+right_is_not_rejected source link sim build tidy gates explain verify (Build own) files new fault line right wrong = build Few files new own fault line right wrong
 right_is_not_rejected source link sim build tidy gates explain verify (Demo levels) files new fault line right wrong = cc wrong
 right_is_not_rejected source link sim build tidy gates explain verify (Tidy net out) files new fault line right wrong = tidy files net fault line right wrong.2
 right_is_not_rejected source link sim build tidy gates explain verify (Gates net out) files new fault line right wrong = gates files net fault line right wrong.2

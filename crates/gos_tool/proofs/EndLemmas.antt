@@ -20,6 +20,7 @@ use Rattle.gos_tool.specs.circuits.Linked.{RejectsLink}
 use Rattle.gos_tool.specs.netlists.Netlist.{IsNetFault}
 use Rattle.gos_tool.specs.netlists.Gates.{IsGatesFault}
 use Rattle.gos_tool.specs.simulate.Sim.{IsSimFault}
+use Rattle.gos_tool.specs.declared.circuits.layout.Layout.TheVariants.{Few}
 use Rattle.gos_tool.specs.build.Headline.{Headline}
 use Rattle.gos_tool.specs.build.Paced.{HeadlineHolds}
 use Rattle.gos_tool.specs.demo.DemoFiles.{build_file, demo_files}
@@ -88,7 +89,7 @@ headline law words (Some files) None written printed own means done = tt
 headline law words (Some files) (Some held) written printed own means done =
     let build : IsDone (Build own) (Some files) (Some held) done.report =
     subst (λ (c : Command). IsDone c (Some files) (Some held) done.report) (same_meaning words done.command (Build own) done.means means) done.done in
-    law files held own done.report build
+    law Few files held own done.report build
 
 pub headline_of_demo : HeadlineHolds → (words : List Word) (old new : Option Files) (written printed : Option (List ℕ)) (levels : ℕ)
     → Means words (Demo levels) → EndsDone words old new written printed
@@ -98,7 +99,7 @@ headline_of_demo law words (Some files) None written printed levels means done =
 headline_of_demo law words (Some files) (Some held) written printed levels means done =
     let demo : IsDone (Demo levels) (Some files) (Some held) done.report =
     subst (λ (c : Command). IsDone c (Some files) (Some held) done.report) (same_meaning words done.command (Demo levels) done.means means) done.done in
-    law (with_demo levels files) held (build_file levels).name done.report demo.built
+    law Few (with_demo levels files) held (build_file levels).name done.report demo.built
 
 -- what is known of all other files, of one command and so of any that the words are
 pub kept : (words : List Word) (old new : Option Files) (c d : Command) → Means words c → Means words d → KeepsOthers c old new → KeepsOthers d old new

@@ -8,6 +8,8 @@ use Rattle.gos_plan.specs.Plans.{Plan}
 use Rattle.gos_plan.specs.Seen.{SeenPlan}
 use Rattle.gos_link.specs.declared.build.Build.{Build}
 use Rattle.gos_link.specs.declared.build.Instance.{Instance}
+use Rattle.gos_tool.specs.declared.circuits.layout.Layout.{Layout}
+use Rattle.gos_tool.specs.declared.circuits.layout.Layout.TheVariants.{Few}
 use Rattle.gos_tool.specs.circuits.Objects.{IsObjectCall}
 use Rattle.gos_tool.specs.circuits.Plans.{IsWriteCall, IsPlansCall}
 use Rattle.gos_tool.specs.simulate.Simulation.{IsSimulationCall}
@@ -51,12 +53,12 @@ no_read name e = cc e
 not_written : (name : Word) → NoFault ≡ WriteFault name → ⊥
 not_written name e = cc e
 
-no_write : (old new : Option Files) (b : Build) (whole : Plan) → IsWriteCall old new b whole NoFault → ⊥
-no_write old new b whole (inl (e, same)) = not_written b.net e
-no_write old new b whole (inr (net, is, e, same)) = not_written b.verilog e
+no_write : (layout : Layout) (old new : Option Files) (b : Build) (whole : Plan) → IsWriteCall layout old new b whole NoFault → ⊥
+no_write layout old new b whole (inl (e, same)) = not_written b.net e
+no_write layout old new b whole (inr (net, is, e, same)) = not_written b.verilog e
 
-no_plans : (old new : Option Files) (b : Build) (plans : List SeenPlan) → IsPlansCall old new b plans NoFault → ⊥
-no_plans old new b plans (whole, linked, call) = no_write old new b whole call
+no_plans : (layout : Layout) (old new : Option Files) (b : Build) (plans : List SeenPlan) → IsPlansCall layout old new b plans NoFault → ⊥
+no_plans layout old new b plans (whole, linked, call) = no_write layout old new b whole call
 
 no_simulation : (old new : Option Files) (net : Netlist) (pulses trace : Word) → IsSimulationCall old new net pulses trace NoFault → ⊥
 no_simulation old new net pulses trace (inl (e, kept)) = no_read pulses e
@@ -69,7 +71,7 @@ no_instance old new i Accepted (inr (e, same, says)) = not_written i.object e
 no_build : (old new : Option Files) (own : Word) → IsBuildCall old new own NoFault → ⊥
 no_build old new own (inl (e, kept)) = no_read own e
 no_build old new own (inr (b, reads, inl one)) = no_instance one.between new one.instance _ one.call
-no_build old new own (inr (b, reads, inr (plans, objects, written, inl call))) = no_plans objects new b plans call
+no_build old new own (inr (b, reads, inr (plans, objects, written, inl call))) = no_plans Few objects new b plans call
 no_build old new own (inr (b, reads, inr (plans, objects, written, inr (net, weight, between, done, call)))) =
     no_simulation between new net b.pulses b.trace call
 
@@ -79,7 +81,7 @@ no_fault_is_no_call (commands.Compile source object) old new (inl (e, kept)) = n
 no_fault_is_no_call (commands.Compile source object) old new (inr (e, same, says)) = not_written object e
 no_fault_is_no_call (commands.Link own) old new (inl (e, kept)) = no_read own e
 no_fault_is_no_call (commands.Link own) old new (inr (b, reads, inl (call, kept))) = object_read old b.instances.items NoFault no_read call
-no_fault_is_no_call (commands.Link own) old new (inr (b, reads, inr (whole, linked, call))) = no_write old new b whole call
+no_fault_is_no_call (commands.Link own) old new (inr (b, reads, inr (whole, linked, call))) = no_write Few old new b whole call
 no_fault_is_no_call (commands.Sim net pulses trace) old new (inl (e, kept)) = no_read net e
 no_fault_is_no_call (commands.Sim net pulses trace) old new (inr (circuit, says, call)) = no_simulation old new circuit pulses trace call
 no_fault_is_no_call (commands.Build own) old new call = no_build old new own call

@@ -1,5 +1,6 @@
 -- In reading order: a file uses only files above it.
 pub mod Circuit
+pub mod SmallLaid
 pub mod Paced
 pub mod SmallPaced
 pub mod Objects

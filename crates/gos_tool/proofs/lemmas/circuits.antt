@@ -2,6 +2,7 @@ pub mod ExitLemmas
 pub mod CallLemmas
 pub mod PortLemmas
 pub mod CircuitLemmas
+pub mod SmallLaidLemmas
 pub mod ObjectLemmas
 pub mod WholeLemmas
 pub mod LinkLemmas

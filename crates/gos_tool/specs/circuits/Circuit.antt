@@ -1,7 +1,7 @@
 -- The circuit of a plan.
 --
--- Read first: Accepted of gos_netcheck; Laid and Choices of gos_expand (how a plan is laid out); Pace of gos_pace; Matched of
--- gos_realises (what it means that a plan realises a program).
+-- Read first: Accepted of gos_netcheck; Laid, Choices and Fast of gos_expand (how a plan is laid out); Alike of gos_tidy; Pace of gos_pace;
+-- Matched of gos_realises (what it means that a plan realises a program).
 use Rattle.std.specs.Prelude.{◌≡◌, ◌≤◌, List, ◌∷◌, map, length}
 use Rattle.gos_types.specs.Types.{Type'}
 use Rattle.gos_lex.specs.Lines.{Word}
@@ -14,8 +14,12 @@ use Rattle.gos_plan.specs.Plans.{Plan}
 use Rattle.gos_plan.specs.Size.{plan_size}
 use Rattle.gos_realises.specs.realises.Matched.{RealisesDone, program_of}
 use Rattle.gos_realises.specs.realises.Slim.{IsSlim}
-use Rattle.gos_expand.specs.declared.whole.Policy.TheVariants.{Few}
+use Rattle.gos_expand.specs.declared.whole.Policy.TheVariants as policies
 use Rattle.gos_expand.specs.Choices.{IsLaidBy}
+use Rattle.gos_expand.specs.Fast.{IsFastOf}
+use Rattle.gos_tidy.specs.Alike.{IsTidied}
+use Rattle.gos_tool.specs.declared.circuits.layout.Layout.{Layout}
+use Rattle.gos_tool.specs.declared.circuits.layout.Layout.TheVariants.{Few, Fast}
 
 -- a port without its nets
 pub record Face : Type 0 where
@@ -33,11 +37,16 @@ taken_face i = record { name = i.name; side = Take; ty = i.ty }
 abbrev pub plan_faces : Word → Plan → List Face
 plan_faces root p = record { name = root; side = Give; ty = p.outcome } ∷ map taken_face p.imports
 
--- The netlist has the plan's ports, is accepted, and has at most as many cells as the plan's size. It is the one that the
--- plan is laid out as with few registers. And it keeps pace with every program that the plan realises, where the plan is slim.
-pub record IsCircuitOf (root : Word) (p : Plan) (net : Netlist) : Type 0 where
+-- The netlist is one that the plan is laid out as in this way: the one with few registers; or the fast one, made tidy.
+abbrev pub IsLaidAs : Layout → Plan → Word → Netlist → Type 0
+IsLaidAs Few p root net = IsLaidBy policies.Few p root net
+IsLaidAs Fast p root net = (base : Netlist) × IsFastOf p root base × IsTidied base net
+
+-- The netlist has the plan's ports, is accepted, and has at most as many cells as the plan's size. It is one that the
+-- plan is laid out as in this way. And it keeps pace with every program that the plan realises, where the plan is slim.
+pub record IsCircuitOf (layout : Layout) (root : Word) (p : Plan) (net : Netlist) : Type 0 where
   pub ports : map face_of net.ports ≡ plan_faces root p
   pub accepted : IsAccepted net
   pub few : length net.cells ≤ plan_size p
-  pub is_laid : IsLaidBy Few p root net
+  pub is_laid : IsLaidAs layout p root net
   pub pace : IsSlim p → (m : Term) → RealisesDone p m → KeepsPaceAlways p.weight (program_of p m) net

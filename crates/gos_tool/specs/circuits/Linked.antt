@@ -25,6 +25,7 @@ use Rattle.gos_command.specs.declared.status.Cause.TheVariants as causes
 use Rattle.gos_command.specs.declared.status.Fault.{Fault}
 use Rattle.gos_tool.specs.Calls.{ReadsAs}
 use Rattle.gos_tool.specs.Causes.{IsFileFault}
+use Rattle.gos_tool.specs.declared.circuits.layout.Layout.TheVariants.{Few}
 use Rattle.gos_tool.specs.circuits.Objects.{HoldPlans, RejectsObject, IsObjectCall}
 use Rattle.gos_tool.specs.circuits.Plans.{IsWritten, IsPlansCause, IsWriteCall, IsWriteCutShort}
 
@@ -51,7 +52,7 @@ pub record IsLinkDone (old new : Option Files) (own : Word) (report : Report) : 
   pub net : Netlist
   pub says : IfSome old (λ files. SaysBuild files own build)
   pub linked : IsWhole old build whole
-  pub written : IsWritten old new build whole net
+  pub written : IsWritten Few old new build whole net
   pub pace : KeepsPaceOfWhole old build whole linked net
   pub tells : report ≡ reports.Weight whole.weight
 
@@ -78,7 +79,7 @@ RejectsLink files own fault line =
 -- build file is read, then all. A file whose write fails may hold anything.
 abbrev pub IsWholeCall : Option Files → Option Files → Build → LastFault → Type 0
 IsWholeCall old new b fault =
-    (IsObjectCall old b.instances.items fault × (new ≡ old)) ⊎ ((whole : Plan) × IsWhole old b whole × IsWriteCall old new b whole fault)
+    (IsObjectCall old b.instances.items fault × (new ≡ old)) ⊎ ((whole : Plan) × IsWhole old b whole × IsWriteCall Few old new b whole fault)
 
 abbrev pub IsLinkCall : Option Files → Option Files → Word → LastFault → Type 0
 IsLinkCall old new own fault =
@@ -86,7 +87,7 @@ IsLinkCall old new own fault =
 
 -- what it leaves where memory runs out: the files before, or these with the netlist of a circuit of the plan written
 abbrev pub IsWholeCutShort : Option Files → Option Files → Build → Type 0
-IsWholeCutShort old new b = (new ≡ old) ⊎ ((whole : Plan) × IsWhole old b whole × IsWriteCutShort old new b whole)
+IsWholeCutShort old new b = (new ≡ old) ⊎ ((whole : Plan) × IsWhole old b whole × IsWriteCutShort Few old new b whole)
 
 abbrev pub IsLinkCutShort : Option Files → Option Files → Word → Type 0
 IsLinkCutShort old new own = (new ≡ old) ⊎ ((b : Build) × IfSome old (λ files. SaysBuild files own b) × IsWholeCutShort old new b)

@@ -24,6 +24,7 @@ use Rattle.gos_link.specs.declared.build.Build.{Build}
 use Rattle.gos_link.specs.Linked.{plans_of, IsLinked}
 use Rattle.gos_linked.specs.linked.Linked.{linked_program}
 use Rattle.gos_linked.specs.linked.Modules.{AreModules}
+use Rattle.gos_tool.specs.declared.circuits.layout.Layout.{Layout}
 use Rattle.gos_tool.specs.circuits.Circuit.{IsCircuitOf}
 
 -- The netlist that a slim plan is laid out as keeps pace with every program that the plan realises, whichever directions of joints
@@ -52,19 +53,19 @@ pub record HasOpenPorts (p : Plan) : Type 0 where
 -- the circuit of a slim plan with such ports, which realises a term with any supplies
 abbrev pub OpenCircuitsKeepPace : Type 0
 OpenCircuitsKeepPace =
-    (root : Word) (p : Plan) (m : Term) (net : Netlist)
-    → IsRight p → IsSlim p → HasOpenPorts p → RealisesOpen p m → IsCircuitOf root p net → KeepsPaceAlways p.weight (program_of p m) net
+    (layout : Layout) (root : Word) (p : Plan) (m : Term) (net : Netlist)
+    → IsRight p → IsSlim p → HasOpenPorts p → RealisesOpen p m → IsCircuitOf layout root p net → KeepsPaceAlways p.weight (program_of p m) net
 
 -- so that of one which realises a module
 abbrev pub ModuleCircuitsKeepPace : Type 0
 ModuleCircuitsKeepPace =
-    (root : Word) (p : Plan) (m : Term) (net : Netlist)
-    → RealisesModule p m → AllGround p.imports → IsDone p.outcome → IsCircuitOf root p net
+    (layout : Layout) (root : Word) (p : Plan) (m : Term) (net : Netlist)
+    → RealisesModule p m → AllGround p.imports → IsDone p.outcome → IsCircuitOf layout root p net
     → KeepsPaceAlways p.weight (program_of p m) net
 
 -- and so that of the linked plan of such plans, a plan for each instance of the build, with the substituted program
 abbrev pub LinkedCircuitsKeepPace : Type 0
 LinkedCircuitsKeepPace =
-    (b : Build) (ps : List SeenPlan) (whole : Plan) (programs : Instances) (root : Word) (net : Netlist) (l : IsLinked b ps whole)
-    → length ps ≡ length b.instances.items → AreModules (plans_of ps) programs → IsCircuitOf root whole net
+    (layout : Layout) (b : Build) (ps : List SeenPlan) (whole : Plan) (programs : Instances) (root : Word) (net : Netlist) (l : IsLinked b ps whole)
+    → length ps ≡ length b.instances.items → AreModules (plans_of ps) programs → IsCircuitOf layout root whole net
     → KeepsPaceAlways whole.weight (linked_program b ps whole l programs) net

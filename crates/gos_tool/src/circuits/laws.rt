@@ -3,9 +3,12 @@
 ghost use Rattle.gos_tool.specs.circuits.Complete.{LinkIsNotRejected, EmptyIsNoBuild};
 ghost use Rattle.gos_tool.specs.circuits.Paced.{EveryChoiceKeepsPace, EveryChoiceOfModule, LinkedCircuitsKeepPace, ModuleCircuitsKeepPace, OpenCircuitsKeepPace};
 ghost use Rattle.gos_tool.specs.circuits.Repeated.{CircuitIsOne, LinkMakesOne};
+ghost use Rattle.gos_tool.specs.circuits.SmallLaid.{StraightIsFew, RegistersAreNotFew, TidiedIsFast, RegistersAreNotFast};
 ghost use Rattle.gos_tool.specs.circuits.SmallPaced.{CallHasPorts, FunctionHasNone};
 
-use gos_expand::{cycles_are_lists, one_layout};
+use gos_expand::{
+    cycles_are_lists, fast_circuits, one_layout, small_choices, small_fast, small_nets,
+};
 use gos_link::one_build;
 use gos_linked::laws::keeping::keeps_pace;
 use gos_linked::laws::linked::linked_modules;
@@ -36,13 +39,28 @@ pub fn paced_circuits()
     linked_modules();
 }
 
+/// The plan of `skip` is laid out with few registers as a netlist without any in its joint, and fast as whatever this is made tidy
+/// to; in neither way as the netlist with both.
+pub fn small_layouts()
+    ensures few { StraightIsFew }
+    ensures not_few { RegistersAreNotFew }
+    ensures fast { TidiedIsFast }
+    ensures not_fast { RegistersAreNotFast }
+{
+    small_nets();
+    small_choices();
+    small_fast();
+    fast_circuits();
+    one_layout();
+}
+
 /// A command that calls an imported one has ports as a circuit may have, and a function has not.
 pub fn small_circuits()
     ensures call { CallHasPorts }
     ensures function { FunctionHasNone }
 {}
 
-/// A plan has one circuit. Where `link` is done twice with the same build file and objects, it writes the same and tells the same.
+/// A plan has one circuit with few registers. Where `link` is done twice with the same build file and objects, it writes the same and tells the same.
 pub fn one_link()
     ensures circuit { CircuitIsOne }
     ensures link { LinkMakesOne }

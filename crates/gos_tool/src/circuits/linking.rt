@@ -10,6 +10,7 @@ ghost use Rattle.gos_tool.specs.circuits.Linked.{IsLinkDone, RejectsLink, IsLink
 
 use crate::circuits::build_file::build_in;
 use crate::circuits::laws::paced_circuits;
+use crate::circuits::layout::Layout;
 use crate::circuits::objects::plans_in;
 use crate::circuits::plans::link_plans;
 use gos_command::{Report, Stop};
@@ -42,6 +43,6 @@ pub fn link_build<S: Store>(alloc: Global, own: &[u8], store: &mut S) -> Result<
     paced_circuits();
     let build = build_in(alloc, own, store)?;
     let plans = plans_in(alloc, build.instances.as_slice(), store)?;
-    let linked = link_plans(alloc, own, &build, plans.as_slice(), store)?;
+    let linked = link_plans(alloc, own, &build, plans.as_slice(), Layout::Few, store)?;
     Ok(Report::Weight(linked.weight))
 }

@@ -14,6 +14,7 @@ ghost use Rattle.gos_tool.specs.Calls.{circuit_calls};
 ghost use Rattle.gos_tool.specs.circuits.Plans.{IsWritten, IsPlansDone, IsPlansCause, IsWriteCall, IsPlansCall, IsWriteCutShort, IsPlansCutShort};
 
 use crate::circuits::laying::circuit;
+use crate::circuits::layout::Layout;
 use gos_command::{Cause, Stop, reject, write_file};
 use gos_link::{Build, link};
 use gos_netcheck::Checked;
@@ -32,7 +33,8 @@ pub struct Linked {
     pub net: Checked,
 }
 
-/// Links the plans of a build's instances, and writes the netlist of a circuit of the whole and its Verilog text.
+/// Links the plans of a build's instances, and writes the netlist of a circuit of the whole, laid out in this way, and its Verilog
+/// text.
 ///
 /// The build file `own` is rejected with the first reason for which they can't be linked.
 pub fn link_plans<S: Store>(
@@ -40,11 +42,12 @@ pub fn link_plans<S: Store>(
     own: &[u8],
     build: &Build,
     plans: &[Plan],
+    layout: Layout,
     store: &mut S,
 ) -> Result<Linked, Stop>
     requires own { IsFileName own.now }
     requires plans { IsLinkable build.now plans.now }
-    ensures done { IfOk result (λ linked. IsPlansDone (S.contents store.old) (S.contents store.new) build.now plans.now linked.weight linked.net) }
+    ensures done { IfOk result (λ linked. IsPlansDone layout (S.contents store.old) (S.contents store.new) build.now plans.now linked.weight linked.net) }
     ensures rejected { IfErr result (λ stop. IfStopped stop (IsFileFault own.now (IsPlansCause build.now plans.now))) }
     ensures told { IfErr result (λ stop. IfStopped stop IsTold) }
     ensures rejected_files { IfErr result (λ stop. IfStopped stop (λ fault line. S.contents store.new ≡ S.contents store.old)) }
@@ -52,13 +55,13 @@ pub fn link_plans<S: Store>(
     ensures calls { AreMade (ending result) (circuit_calls build.now) (S.calls store.old) (S.calls store.new) }
     ensures counts { CountsFaults (IsErrOf result Stop.StoreFailed) (S.faults store.old) (S.faults store.new) }
     ensures failed_call { IsErrOf result Stop.StoreFailed →
-        IsPlansCall (S.contents store.old) (S.contents store.new) build.now plans.now (S.last_fault store.new) }
+        IsPlansCall layout (S.contents store.old) (S.contents store.new) build.now plans.now (S.last_fault store.new) }
     ensures memory_files { IsErrOf result Stop.NoMemory →
-        IsPlansCutShort (S.contents store.old) (S.contents store.new) build.now plans.now }
+        IsPlansCutShort layout (S.contents store.old) (S.contents store.new) build.now plans.now }
     ensures others { OthersSame (build.now.net ∷ build.now.verilog ∷ []) (S.contents store.old) (S.contents store.new) }
 {
     match link(alloc, build, plans) {
-        Ok(whole) => write_circuit(alloc, build, &whole, store),
+        Ok(whole) => write_circuit(alloc, build, &whole, layout, store),
         Err(fault) => Err(reject(alloc, own, Cause::Link(fault), None)),
     }
 }
@@ -68,22 +71,23 @@ fn write_circuit<S: Store>(
     alloc: Global,
     build: &Build,
     whole: &Plan,
+    layout: Layout,
     store: &mut S,
 ) -> Result<Linked, Stop>
     requires { (plans : List SeenPlan) × IsLinked build.now plans (plan_of whole.now) }
-    ensures written { IfOk result (λ linked. IsWritten (S.contents store.old) (S.contents store.new) build.now (plan_of whole.now) linked.net) }
+    ensures written { IfOk result (λ linked. IsWritten layout (S.contents store.old) (S.contents store.new) build.now (plan_of whole.now) linked.net) }
     ensures weighs { IfOk result (λ linked. linked.weight ≡ whole.now.weight) }
     ensures rejects_nothing { IfErr result (λ stop. IfStopped stop (λ fault line. ⊥)) }
     ensures calls { AreMade (ending result) (circuit_calls build.now) (S.calls store.old) (S.calls store.new) }
     ensures counts { CountsFaults (IsErrOf result Stop.StoreFailed) (S.faults store.old) (S.faults store.new) }
     ensures failed_call { IsErrOf result Stop.StoreFailed →
-        IsWriteCall (S.contents store.old) (S.contents store.new) build.now (plan_of whole.now) (S.last_fault store.new) }
+        IsWriteCall layout (S.contents store.old) (S.contents store.new) build.now (plan_of whole.now) (S.last_fault store.new) }
     ensures memory_files { IsErrOf result Stop.NoMemory →
-        IsWriteCutShort (S.contents store.old) (S.contents store.new) build.now (plan_of whole.now) }
+        IsWriteCutShort layout (S.contents store.old) (S.contents store.new) build.now (plan_of whole.now) }
     ensures others { OthersSame (build.now.net ∷ build.now.verilog ∷ []) (S.contents store.old) (S.contents store.new) }
 {
     is_in_range(whole);
-    let net = circuit(alloc, whole, &build.root)?;
+    let net = circuit(alloc, whole, &build.root, layout)?;
     let text = print_net(alloc, net.netlist())?;
     write_file(alloc, store, build.net.bytes(), text.as_slice())?;
     let verilog = write_verilog(alloc, &net)?;

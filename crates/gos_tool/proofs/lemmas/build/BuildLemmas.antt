@@ -14,9 +14,10 @@ use Rattle.gos_link.specs.declared.build.Instance.{Instance}
 use Rattle.gos_command.specs.declared.report.Report.{Report}
 use Rattle.gos_command.specs.declared.status.Fault.{Fault}
 use Rattle.gos_command.proofs.EndLemmas.{of_some_both}
+use Rattle.gos_tool.specs.declared.circuits.layout.Layout.{Layout}
 use Rattle.gos_tool.specs.circuits.Linked.{SaysBuild}
 use Rattle.gos_tool.specs.build.Objects.{objects_of, AllWritten, SomeWritten, RejectsModule, IsModuleCall}
-use Rattle.gos_tool.specs.build.Built.{IsPlansBuilt, IsBuilt, RejectsPlans, RejectsBuild, IsPlansBuildCall, IsBuildCall, IsPlansBuildCutShort, IsBuildCutShort, KeepsUnnamed, written_by}
+use Rattle.gos_tool.specs.build.Built.{IsPlansBuilt, IsBuiltAs, RejectsPlans, RejectsBuildAs, IsPlansBuildCall, IsBuildCallAs, IsPlansBuildCutShort, IsBuildCutShortAs, KeepsUnnamed, written_by}
 use Rattle.gos_tool.proofs.lemmas.circuits.LinkLemmas.{HasRead}
 use Rattle.gos_tool.specs.build.Paced.{BuildRealises, BuildKeepsPace, BuildHasImports, BuildIsTyped, BuildHasWeight, BuildIsSmall}
 
@@ -26,15 +27,15 @@ module _ {old told : Option Files} {own : Word} {b : Build} (has : HasRead old t
   after_reading P Q h f =
       of_some_both (λ files. SaysBuild files own b) P Q old f has.says (subst (λ (o : Option Files). IfSome o P) has.kept h)
 
-  pub source_rejected : (is : List Instance) (fault : Fault) (line : List ℕ) → is ≡ b.instances.items
-      → IfSome told (λ files. RejectsModule files new is fault line) → IfSome old (λ files. RejectsBuild files new own fault line)
-  source_rejected is fault line same wrong =
-      after_reading (λ files. RejectsModule files new is fault line) (λ files. RejectsBuild files new own fault line) wrong
+  pub source_rejected : (layout : Layout) (is : List Instance) (fault : Fault) (line : List ℕ) → is ≡ b.instances.items
+      → IfSome told (λ files. RejectsModule files new is fault line) → IfSome old (λ files. RejectsBuildAs layout files new own fault line)
+  source_rejected layout is fault line same wrong =
+      after_reading (λ files. RejectsModule files new is fault line) (λ files. RejectsBuildAs layout files new own fault line) wrong
       (λ files says h. inr (b, says, inl (subst (λ (js : List Instance). RejectsModule files new js fault line) same h)))
 
-  pub source_call : ((text : List ℕ) × IsBuildFile text own b) → (is : List Instance) (fault : LastFault) → is ≡ b.instances.items
-      → IsModuleCall told new is fault → IsBuildCall old new own fault
-  source_call read is fault same call =
+  pub source_call : (layout : Layout) → ((text : List ℕ) × IsBuildFile text own b) → (is : List Instance) (fault : LastFault) → is ≡ b.instances.items
+      → IsModuleCall told new is fault → IsBuildCallAs layout old new own fault
+  source_call layout read is fault same call =
       inr (
         b,
         (read, has.says),
@@ -42,10 +43,10 @@ module _ {old told : Option Files} {own : Word} {b : Build} (has : HasRead old t
             (subst (λ (js : List Instance). IsModuleCall told new js fault) same call)),
       )
 
-  pub source_cut_short : (is : List Instance) → is ≡ b.instances.items
-      → IfSome told (λ files. SomeWritten files new is) → IfSome old (λ files. IsBuildCutShort files new own)
-  source_cut_short is same short =
-      after_reading (λ files. SomeWritten files new is) (λ files. IsBuildCutShort files new own) short
+  pub source_cut_short : (layout : Layout) (is : List Instance) → is ≡ b.instances.items
+      → IfSome told (λ files. SomeWritten files new is) → IfSome old (λ files. IsBuildCutShortAs layout files new own)
+  source_cut_short layout is same short =
+      after_reading (λ files. SomeWritten files new is) (λ files. IsBuildCutShortAs layout files new own) short
       (λ files says h. inr (b, says, inl (subst (λ (js : List Instance). SomeWritten files new js) same h)))
 
   -- all files but the objects are as they were
@@ -83,17 +84,17 @@ module _ {old told : Option Files} {own : Word} {b : Build} {plans : List SeenPl
   after_compiling Q f =
       of_some_both (λ files. SaysBuild files own b) (λ files. AllWritten files told b.instances.items plans) Q old f has.says has.written
 
-  pub plans_rejected : (fault : Fault) (line : List ℕ) → RejectsPlans told new own b plans fault line → IfSome old (λ files. RejectsBuild files new own fault line)
-  plans_rejected fault line wrong =
-      after_compiling (λ files. RejectsBuild files new own fault line) (λ files says written. inr (b, says, inr (plans, told, written, wrong)))
+  pub plans_rejected : (layout : Layout) (fault : Fault) (line : List ℕ) → RejectsPlans layout told new own b plans fault line → IfSome old (λ files. RejectsBuildAs layout files new own fault line)
+  plans_rejected layout fault line wrong =
+      after_compiling (λ files. RejectsBuildAs layout files new own fault line) (λ files says written. inr (b, says, inr (plans, told, written, wrong)))
 
-  pub plans_call : ((text : List ℕ) × IsBuildFile text own b) → (fault : LastFault) → IsPlansBuildCall told new b plans fault
-      → IsBuildCall old new own fault
-  plans_call read fault call = inr (b, (read, has.says), inr (plans, told, has.written, call))
+  pub plans_call : (layout : Layout) → ((text : List ℕ) × IsBuildFile text own b) → (fault : LastFault) → IsPlansBuildCall layout told new b plans fault
+      → IsBuildCallAs layout old new own fault
+  plans_call layout read fault call = inr (b, (read, has.says), inr (plans, told, has.written, call))
 
-  pub plans_cut_short : IsPlansBuildCutShort told new b plans → IfSome old (λ files. IsBuildCutShort files new own)
-  plans_cut_short short =
-      after_compiling (λ files. IsBuildCutShort files new own) (λ files says written. inr (b, says, inr (plans, told, written, short)))
+  pub plans_cut_short : (layout : Layout) → IsPlansBuildCutShort layout told new b plans → IfSome old (λ files. IsBuildCutShortAs layout files new own)
+  plans_cut_short layout short =
+      after_compiling (λ files. IsBuildCutShortAs layout files new own) (λ files says written. inr (b, says, inr (plans, told, written, short)))
 
   pub plans_others : OthersSame (b.net ∷ b.verilog ∷ b.trace ∷ []) told new → KeepsUnnamed own old new
   plans_others others =
@@ -106,10 +107,10 @@ module _ {old told : Option Files} {own : Word} {b : Build} {plans : List SeenPl
       )
 
   -- all was done
-  pub built : BuildRealises → BuildKeepsPace → BuildHasImports → BuildIsTyped → BuildHasWeight → BuildIsSmall → (report : Report)
-      → IsPlansBuilt told new b plans report → IfSome old (λ files. IsBuilt files new own report)
-  built realises has_pace has_imports is_typed has_weight small report h =
-      after_compiling (λ files. IsBuilt files new own report)
+  pub built : (layout : Layout) → BuildRealises → BuildKeepsPace → BuildHasImports → BuildIsTyped → BuildHasWeight → BuildIsSmall → (report : Report)
+      → IsPlansBuilt layout told new b plans report → IfSome old (λ files. IsBuiltAs layout files new own report)
+  built layout realises has_pace has_imports is_typed has_weight small report h =
+      after_compiling (λ files. IsBuiltAs layout files new own report)
       (λ files said written. record {
         build = b;
         plans = plans;
@@ -117,10 +118,10 @@ module _ {old told : Option Files} {own : Word} {b : Build} {plans : List SeenPl
         says = said;
         compiled = written;
         built = h;
-        realises = realises files told told h.between b plans h.weight h.net written h.written;
-        pace = has_pace files told told h.between b plans h.weight h.net written h.written;
-        imports = has_imports files told told h.between b plans h.weight h.net written h.written;
-        typed = is_typed files told told h.between b plans h.weight h.net written h.written;
-        weighs = has_weight files told told h.between b plans h.weight h.net written h.written;
-        few = small files told told h.between b plans h.weight h.net written h.written;
+        realises = realises layout files told told h.between b plans h.weight h.net written h.written;
+        pace = has_pace layout files told told h.between b plans h.weight h.net written h.written;
+        imports = has_imports layout files told told h.between b plans h.weight h.net written h.written;
+        typed = is_typed layout files told told h.between b plans h.weight h.net written h.written;
+        weighs = has_weight layout files told told h.between b plans h.weight h.net written h.written;
+        few = small layout files told told h.between b plans h.weight h.net written h.written;
       })

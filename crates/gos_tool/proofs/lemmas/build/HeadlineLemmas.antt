@@ -104,7 +104,7 @@ held_files (Some old) new one two three first second third apart far further e =
     }
 
 pub headline_holds : HeadlineHolds
-headline_holds files held own report is =
+headline_holds layout files held own report is =
     let b : Build = is.build in
     let ms : List SeenModule = is.compiled.modules in
     let done = is.built.written in

@@ -28,10 +28,10 @@ use Rattle.gos_tool.specs.build.Programs.{imports_if, bind_in, program_along, Is
 use Rattle.gos_tool.specs.build.Paced.{ModuleKeepsPace, BuildKeepsPace, BuildRealises, BuildHasImports, BuildIsTyped, BuildHasWeight, BuildIsSmall}
 
 pub module_keeps_pace : ModuleCircuitsKeepPace → ModuleKeepsPace
-module_keeps_pace law m plan root net is ground done circuit =
+module_keeps_pace law layout m plan root net is ground done circuit =
     let body : Term = (program_of m).body in
     let all = subst AllGround (sym is.made.imports) ground in
-    let paced = law root plan body net is.realises all (subst IsDone (sym is.made.outcome) done) circuit in
+    let paced = law layout root plan body net is.realises all (subst IsDone (sym is.made.outcome) done) circuit in
     subst (λ (w : ℕ). KeepsPaceAlways w (program_of m) net) is.made.weight
     (subst (λ (i : Imports). KeepsPaceAlways plan.weight (record { imports = i; body = body }) net) is.made.imports paced)
 
@@ -76,19 +76,19 @@ same_program : (b : Build) (ms : List SeenModule) (ps : List SeenPlan) (whole : 
 same_program b ms ps whole l have = ap (λ (bs : List Bind). substituted (map program_of ms) bs l.root) (same_binds ms ps l.services have)
 
 pub build_keeps_pace : LinkedCircuitsKeepPace → BuildKeepsPace
-build_keeps_pace law files objects old new b plans weight net compiled done =
+build_keeps_pace law layout files objects old new b plans weight net compiled done =
     let ms : List SeenModule = compiled.modules in
     let have = compiled.written.plans in
     let whole = done.whole in
     let l = done.linked in
     let all = are_modules files b.instances.items ms plans compiled.written.say have in
     let each : length plans ≡ length b.instances.items = as_many ms plans have ∙ compiled.all in
-    let paced = law b plans whole (map program_of ms) b.root net l each all done.written.circuit in
+    let paced = law layout b plans whole (map program_of ms) b.root net l each all done.written.circuit in
     subst (λ (w : ℕ). KeepsPaceAlways w (program_along ms l.services l.root) net) (sym done.weighs)
     (subst (λ (p : Program). KeepsPaceAlways whole.weight p net) (same_program b ms plans whole l have) paced)
 
 pub build_realises : LinkedIsModule → BuildRealises
-build_realises is_module files objects old new b plans weight net compiled done =
+build_realises is_module layout files objects old new b plans weight net compiled done =
     let ms : List SeenModule = compiled.modules in
     let have = compiled.written.plans in
     let l = done.linked in
@@ -98,7 +98,7 @@ build_realises is_module files objects old new b plans weight net compiled done 
     (is_module b plans done.whole (map program_of ms) l each all).realises
 
 pub build_has_imports : LinkedIsModule → BuildHasImports
-build_has_imports is_module files objects old new b plans weight net compiled done =
+build_has_imports is_module layout files objects old new b plans weight net compiled done =
     let ms : List SeenModule = compiled.modules in
     let have = compiled.written.plans in
     let l = done.linked in
@@ -107,7 +107,7 @@ build_has_imports is_module files objects old new b plans weight net compiled do
     (is_module b plans done.whole (map program_of ms) l each all).imports ∙ ap (λ (p : Program). p.imports) (same_program b ms plans done.whole l have)
 
 pub build_is_typed : LinkedIsModule → BuildIsTyped
-build_is_typed is_module files objects old new b plans weight net compiled done =
+build_is_typed is_module layout files objects old new b plans weight net compiled done =
     let ms : List SeenModule = compiled.modules in
     let have = compiled.written.plans in
     let l = done.linked in
@@ -126,13 +126,13 @@ are_weighed (m ∷ ms) [] have = absurd have
 are_weighed (m ∷ ms) (p ∷ ps) have = (have.0.made.weight, are_weighed ms ps have.1)
 
 pub build_has_weight : LinkedHasWeight → BuildHasWeight
-build_has_weight has_weight files objects old new b plans weight net compiled done =
+build_has_weight has_weight layout files objects old new b plans weight net compiled done =
     done.weighs
     ∙ has_weight b plans done.whole (map program_of compiled.modules) done.linked (are_weighed compiled.modules plans compiled.written.plans)
 
 -- the linked plan is slim, since it is that of a module
 pub build_is_small : LinkedIsModule → SlimIsSmall → BuildIsSmall
-build_is_small is_module small files objects old new b plans weight net compiled done =
+build_is_small is_module small layout files objects old new b plans weight net compiled done =
     let ms : List SeenModule = compiled.modules in
     let have = compiled.written.plans in
     let all = are_modules files b.instances.items ms plans compiled.written.say have in

@@ -20,6 +20,8 @@ use Rattle.gos_command.specs.declared.report.Report.TheVariants as reports
 use Rattle.gos_command.specs.declared.status.Fault.{Fault}
 use Rattle.gos_command.proofs.EndLemmas.{of_some, of_some_both}
 use Rattle.gos_tool.specs.Causes.{IsFileFault}
+use Rattle.gos_tool.specs.declared.circuits.layout.Layout.{Layout}
+use Rattle.gos_tool.specs.declared.circuits.layout.Layout.TheVariants.{Few}
 use Rattle.gos_tool.specs.circuits.Circuit.{IsCircuitOf}
 use Rattle.gos_tool.specs.circuits.Paced.{LinkedCircuitsKeepPace}
 use Rattle.gos_tool.specs.circuits.Objects.{HoldPlans, RejectsObject, IsObjectCall}
@@ -97,7 +99,7 @@ module _ {old told : Option Files} {own : Word} {b : Build} {plans : List SeenPl
       (λ files says h. inr (b, says, inr (record { file = wrong.file; cause = (plans, h, wrong.cause); says = wrong.says }))) has.says has.held
 
   -- a call that linking makes, and what it leaves where memory runs out
-  pub plans_call : ((text : List ℕ) × IsBuildFile text own b) → (fault : LastFault) → IsPlansCall told new b plans fault → IsLinkCall old new own fault
+  pub plans_call : ((text : List ℕ) × IsBuildFile text own b) → (fault : LastFault) → IsPlansCall Few told new b plans fault → IsLinkCall old new own fault
   plans_call read fault (whole, linked, call) =
       inr (
         b,
@@ -105,11 +107,11 @@ module _ {old told : Option Files} {own : Word} {b : Build} {plans : List SeenPl
         inr (
           whole,
           record { plans = plans; held = has.held; linked = linked },
-          subst (λ (o : Option Files). IsWriteCall o new b whole fault) has.kept call,
+          subst (λ (o : Option Files). IsWriteCall Few o new b whole fault) has.kept call,
         ),
       )
 
-  pub plans_cut_short : IsPlansCutShort told new b plans → IsLinkCutShort old new own
+  pub plans_cut_short : IsPlansCutShort Few told new b plans → IsLinkCutShort old new own
   plans_cut_short (inl kept) = inl (kept ∙ has.kept)
   plans_cut_short (inr (whole, linked, short)) =
       inr (
@@ -118,7 +120,7 @@ module _ {old told : Option Files} {own : Word} {b : Build} {plans : List SeenPl
         inr (
           whole,
           record { plans = plans; held = has.held; linked = linked },
-          subst (λ (o : Option Files). IsWriteCutShort o new b whole) has.kept short,
+          subst (λ (o : Option Files). IsWriteCutShort Few o new b whole) has.kept short,
         ),
       )
 
@@ -126,7 +128,7 @@ module _ {old told : Option Files} {own : Word} {b : Build} {plans : List SeenPl
   plans_others others = inr (b, has.says, subst (λ (o : Option Files). OthersSame (b.net ∷ b.verilog ∷ []) o new) has.kept others)
 
   -- the whole was written
-  pub link_done : LinkedCircuitsKeepPace → length plans ≡ length b.instances.items → (weight : ℕ) (net : Netlist) → IsPlansDone told new b plans weight net
+  pub link_done : LinkedCircuitsKeepPace → length plans ≡ length b.instances.items → (weight : ℕ) (net : Netlist) → IsPlansDone Few told new b plans weight net
       → IsLinkDone old new own (reports.Weight weight)
   link_done law each weight net done =
       record {
@@ -135,8 +137,8 @@ module _ {old told : Option Files} {own : Word} {b : Build} {plans : List SeenPl
         net = net;
         says = has.says;
         linked = record { plans = plans; held = has.held; linked = done.linked };
-        written = subst (λ (o : Option Files). IsWritten o new b done.whole net) has.kept done.written;
-        pace = λ programs all. law b plans done.whole programs b.root net done.linked each all done.written.circuit;
+        written = subst (λ (o : Option Files). IsWritten Few o new b done.whole net) has.kept done.written;
+        pace = λ programs all. law Few b plans done.whole programs b.root net done.linked each all done.written.circuit;
         tells = ap (λ (n : ℕ). reports.Weight n) done.weighs;
       }
 
@@ -147,15 +149,15 @@ net_written old mid b net given name text printed same is read named written =
     let all : text ≡ text_of net = read ∙ is ∙ ap text_of same in written ∙ (λ i. with_file (named i) (all i) old)
 
 -- and then its Verilog text, or this write failed, or memory ran out
-pub is_written : (old mid new : Option Files) (b : Build) (whole : Plan) (net : Netlist) (name : Word) (text verilog : List ℕ)
-    → IsCircuitOf b.root whole net → mid ≡ with_net old b net → IsVerilogOf net verilog → text ≡ verilog → name ≡ b.verilog → new ≡ with_file name text mid
-    → IsWritten old new b whole net
+pub is_written : {layout : Layout} (old mid new : Option Files) (b : Build) (whole : Plan) (net : Netlist) (name : Word) (text verilog : List ℕ)
+    → IsCircuitOf layout b.root whole net → mid ≡ with_net old b net → IsVerilogOf net verilog → text ≡ verilog → name ≡ b.verilog → new ≡ with_file name text mid
+    → IsWritten layout old new b whole net
 is_written old mid new b whole net name text verilog circuit written is read named wrote =
     record { verilog = verilog; circuit = circuit; text = is; wrote = wrote ∙ (λ i. with_file (named i) (read i) (written i)) }
 
-pub verilog_call : (old mid new : Option Files) (b : Build) (whole : Plan) (net : Netlist) (name : Word) (fault : LastFault)
-    → IsCircuitOf b.root whole net → mid ≡ with_net old b net → name ≡ b.verilog → fault ≡ WriteFault name → SameBut name mid new
-    → IsWriteCall old new b whole fault
+pub verilog_call : {layout : Layout} (old mid new : Option Files) (b : Build) (whole : Plan) (net : Netlist) (name : Word) (fault : LastFault)
+    → IsCircuitOf layout b.root whole net → mid ≡ with_net old b net → name ≡ b.verilog → fault ≡ WriteFault name → SameBut name mid new
+    → IsWriteCall layout old new b whole fault
 verilog_call old mid new b whole net name fault circuit written named is same =
     inr (
       net,
@@ -164,8 +166,8 @@ verilog_call old mid new b whole net name fault circuit written named is same =
       subst (λ (told : Option Files). SameBut b.verilog told new) written (subst (λ (n : Word). SameBut n mid new) named same),
     )
 
-pub has_net : (old mid new : Option Files) (b : Build) (whole : Plan) (net : Netlist)
-    → IsCircuitOf b.root whole net → mid ≡ with_net old b net → new ≡ mid → IsWriteCutShort old new b whole
+pub has_net : {layout : Layout} (old mid new : Option Files) (b : Build) (whole : Plan) (net : Netlist)
+    → IsCircuitOf layout b.root whole net → mid ≡ with_net old b net → new ≡ mid → IsWriteCutShort layout old new b whole
 has_net old mid new b whole net circuit written kept = inr (net, circuit, kept ∙ written)
 
 -- what the writes leave as it was: that of the netlist, and then that of its Verilog text

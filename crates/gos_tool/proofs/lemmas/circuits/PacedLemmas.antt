@@ -11,12 +11,12 @@ use Rattle.gos_tool.proofs.lemmas.circuits.WidthLemmas.{imports_are_wide}
 use Rattle.gos_tool.specs.circuits.Paced.{EveryChoiceKeepsPace, EveryChoiceOfModule, OpenCircuitsKeepPace, ModuleCircuitsKeepPace, LinkedCircuitsKeepPace}
 
 pub open_circuits : OpenIsDone → OpenCircuitsKeepPace
-open_circuits law root p m net right slim ports any circuit =
+open_circuits law layout root p m net right slim ports any circuit =
     circuit.pace slim m (law p m right ports.ground (imports_are_wide root p net circuit ports.ground) ports.names any ports.done).1
 
 pub module_circuits : OpenIsDone → ModuleCircuitsKeepPace
-module_circuits law root p m net realised ground done =
-    open_circuits law root p m net realised.right realised.slim (record { names = realised.names; ground = ground; done = done })
+module_circuits law layout root p m net realised ground done =
+    open_circuits law layout root p m net realised.right realised.slim (record { names = realised.names; ground = ground; done = done })
     realised.open_imports
 
 pub choices_of_module : OpenIsDone → EveryChoiceKeepsPace → EveryChoiceOfModule
@@ -25,7 +25,7 @@ choices_of_module law every keep p root m realised ground done can acyclic =
     (law (plan_of p) m realised.right ground realised.import_widths realised.names realised.open_imports done).1
 
 pub linked_circuits : LinkedIsModule → LinkedIsDone → LinkedCircuitsKeepPace
-linked_circuits is_module is_done b ps whole programs root net l each all circuit =
+linked_circuits is_module is_done layout b ps whole programs root net l each all circuit =
     let linked = is_module b ps whole programs l each all in
     let (matched, program) = is_done b ps whole programs l each all in
     subst (λ (p : Program). KeepsPaceAlways whole.weight p net) program

@@ -1,16 +1,17 @@
--- The ports of the netlist that a plan is laid out as are those of the plan.
-use Rattle.std.proofs.Common.{◌≡◌, ◌<◌, ◌∙◌, ℕ, zero, suc, List, [], ◌∷◌, Some, map, length, All, slice_get, slice_index_or, refl, ap, subst, arith}
-use Rattle.gos_types.specs.Types.{IsGround, type_of}
+-- The ports of the netlist that a plan is laid out as are those of the plan, however it is laid out; and they stay where it is made tidy.
+use Rattle.std.proofs.Common.{◌≡◌, ◌<◌, ◌∙◌, ℕ, zero, suc, List, [], ◌∷◌, Some, map, length, All, slice_get, slice_index_or, refl, ap, sym, subst, arith}
+use Rattle.gos_types.specs.Types.{Type', IsGround, type_of}
 use Rattle.gos_lex.specs.Lines.{Word}
 use Rattle.gos_model.specs.Typing.{Imported}
-use Rattle.gos_netlist.specs.Nets.{Give}
+use Rattle.gos_netlist.specs.Nets.{Side, Give, NetPort}
 use Rattle.gos_plan.specs.declared.plan.PlanImport.{PlanImport}
 use Rattle.gos_plan.specs.Plans.{Plan}
 use Rattle.gos_plan.specs.Seen.{import_of}
 use Rattle.gos_realises.specs.realises.Realises.{AllGround, NamesDiffer}
-use Rattle.gos_expand.specs.Starts.{Keep}
-use Rattle.gos_expand.specs.Laid.{laid, taken}
+use Rattle.gos_expand.specs.Starts.{Laying}
+use Rattle.gos_expand.specs.Laid.{circuit, taken}
 use Rattle.gos_expand.specs.Acceptance.{AreDifferent}
+use Rattle.gos_tidy.specs.Alike.{face, SamePorts}
 use Rattle.gos_linked.specs.keeping.Ports.{AreTaken, HasPorts}
 use Rattle.gos_tool.specs.circuits.Circuit.{Face, face_of, taken_face, plan_faces}
 
@@ -18,15 +19,26 @@ taken_faces : (p : Plan) (k : ℕ) (is : List Imported) → map face_of (taken p
 taken_faces p k [] = refl
 taken_faces p k (i ∷ is) = ap (λ (faces : List Face). taken_face i ∷ faces) (taken_faces p (suc k) is)
 
-pub has_faces : (keep : Keep) (p : Plan) (root : Word) → map face_of (laid keep p root).ports ≡ plan_faces root p
-has_faces keep p root = ap (λ (faces : List Face). record { name = root; side = Give; ty = p.outcome } ∷ faces) (taken_faces p 1 p.imports)
+pub has_faces : (lay : Laying) (p : Plan) (root : Word) → map face_of (circuit lay p root).ports ≡ plan_faces root p
+has_faces lay p root = ap (λ (faces : List Face). record { name = root; side = Give; ty = p.outcome } ∷ faces) (taken_faces p 1 p.imports)
 
 are_taken : (p : Plan) (k : ℕ) (is : List Imported) → AreTaken is (taken p k is)
 are_taken p k [] = tt
 are_taken p k (i ∷ is) = (refl, refl, refl, are_taken p (suc k) is)
 
-pub has_ports : (keep : Keep) (p : Plan) (root : Word) → HasPorts p (laid keep p root).ports
-has_ports keep p root = (refl, refl, are_taken p 1 p.imports)
+pub has_ports : (lay : Laying) (p : Plan) (root : Word) → HasPorts p (circuit lay p root).ports
+has_ports lay p root = (refl, refl, are_taken p 1 p.imports)
+
+-- what is told of a port by gos_tidy, as a face
+abbrev of_told : List ℕ × Side × Type' → Face
+of_told told = record { name = told.0; side = told.1; ty = told.2 }
+
+told_faces : (ps : List NetPort) → map face_of ps ≡ map of_told (map face ps)
+told_faces [] = refl
+told_faces (p ∷ ps) = ap (λ (faces : List Face). face_of p ∷ faces) (told_faces ps)
+
+pub same_faces : (ps qs : List NetPort) → SamePorts ps qs → map face_of qs ≡ map face_of ps
+same_faces ps qs same = told_faces qs ∙ (ap (λ (told : List (List ℕ × Side × Type')). map of_told told) (sym same) ∙ sym (told_faces ps))
 
 -- the element at a place
 at_index : {X : Type 0} (xs : List X) (k : ℕ) (d : X) → k < length xs → slice_get xs k ≡ Some (slice_index_or xs k d)

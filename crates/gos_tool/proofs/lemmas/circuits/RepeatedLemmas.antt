@@ -8,7 +8,7 @@ use Rattle.gos_netcheck.specs.Accepted.{IsAccepted}
 use Rattle.gos_plan.specs.Plans.{Plan}
 use Rattle.gos_plan.specs.Seen.{SeenPlan, plan_of}
 use Rattle.gos_plan.specs.ObjectFaults.{IsOnePlan, IsRead}
-use Rattle.gos_expand.specs.declared.whole.Policy.TheVariants.{Few}
+use Rattle.gos_expand.specs.declared.whole.Policy.TheVariants as policies
 use Rattle.gos_expand.specs.Choices.{LaidByIsOne}
 use Rattle.gos_link.specs.Answers.{IsOneBuild, LinkedIsOne}
 use Rattle.gos_link.specs.BuildFile.{IsBuildFile, Sum, whole}
@@ -20,6 +20,7 @@ use Rattle.gos_verilog.specs.VerilogText.{IsVerilogOf}
 use Rattle.gos_command.specs.declared.report.Report.TheVariants as reports
 use Rattle.gos_tool.specs.Calls.{circuit_calls, object_calls}
 use Rattle.gos_tool.specs.Agreement.{AgreeOn, WriteTheSame, files_of, with_texts}
+use Rattle.gos_tool.specs.declared.circuits.layout.Layout.TheVariants.{Few}
 use Rattle.gos_tool.specs.circuits.Circuit.{IsCircuitOf}
 use Rattle.gos_tool.specs.circuits.Objects.{HoldPlans}
 use Rattle.gos_tool.specs.circuits.Plans.{IsWritten}
@@ -28,7 +29,7 @@ use Rattle.gos_tool.proofs.lemmas.AgreeLemmas.{agree_front, same_then_same}
 use Rattle.gos_tool.proofs.lemmas.circuits.SameBuildLemmas.{file_in, instances_same, linked_too, net_same, root_same}
 
 pub circuit_is_one : LaidByIsOne → CircuitIsOne
-circuit_is_one laid root p net other one two = laid Few p root net other one.is_laid two.is_laid
+circuit_is_one laid root p net other one two = laid policies.Few p root net other one.is_laid two.is_laid
 
 -- object files hold one plan each
 held_same : ((text : List ℕ) → IsOnePlan text) → (files others : Files) (is : List Instance) (ps qs : List SeenPlan) → AgreeOn (object_calls is) files others
@@ -46,15 +47,15 @@ held_same one_plan files others (i ∷ is) (p ∷ ps) (q ∷ qs) agree ((one, ri
     let rest = held_same one_plan files others is ps qs agree.1 held other in λ j. first j ∷ rest j
 
 -- a plan has one circuit for builds that say the same
-pub nets_same : LaidByIsOne → (b c : Build) → whole b ≡ whole c → (p q : Plan) → p ≡ q → (net also : Netlist) → IsCircuitOf b.root p net
-    → IsCircuitOf c.root q also → net ≡ also
+pub nets_same : LaidByIsOne → (b c : Build) → whole b ≡ whole c → (p q : Plan) → p ≡ q → (net also : Netlist) → IsCircuitOf Few b.root p net
+    → IsCircuitOf Few c.root q also → net ≡ also
 nets_same laid b c same p q plans net also one two =
     circuit_is_one laid c.root q net also
-    (subst (λ (root : Word). IsCircuitOf root q net) (root_same b c same) (subst (λ (r : Plan). IsCircuitOf b.root r net) plans one)) two
+    (subst (λ (root : Word). IsCircuitOf Few root q net) (root_same b c same) (subst (λ (r : Plan). IsCircuitOf Few b.root r net) plans one)) two
 
 -- what is written of one plan for builds that say the same is the same
 pub written_same : LaidByIsOne → ((net : Netlist) → IsAccepted net → HasOneText net) → (old mid new other : Option Files) (b c : Build) → whole b ≡ whole c
-    → (p q : Plan) → p ≡ q → (net also : Netlist) → IsWritten old new b p net → IsWritten mid other c q also
+    → (p q : Plan) → p ≡ q → (net also : Netlist) → IsWritten Few old new b p net → IsWritten Few mid other c q also
     → WriteTheSame (circuit_calls b) old mid new other
 written_same laid one_text old mid new other b c same p q plans net also one two =
     record {

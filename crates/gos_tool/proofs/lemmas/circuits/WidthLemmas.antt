@@ -12,6 +12,7 @@ use Rattle.gos_model.specs.Typing.{Imported}
 use Rattle.gos_plan.specs.Plans.{Plan}
 use Rattle.gos_realises.specs.realises.Realises.{AllGround}
 use Rattle.gos_realises.specs.realises.Modules.{HaveWidths}
+use Rattle.gos_tool.specs.declared.circuits.layout.Layout.{Layout}
 use Rattle.gos_tool.specs.circuits.Circuit.{Face, face_of, taken_face, IsCircuitOf}
 
 port_found : (ps : List NetPort) (k : ℕ) (f : Face) → slice_get (map face_of ps) k ≡ Some f → (q : NetPort) × (slice_get ps k ≡ Some q) × (face_of q ≡ f)
@@ -49,7 +50,7 @@ port_wide net accepted side (Var w) ns ground fit =
 port_wide net accepted side (Pair a b) ns ground fit = absurd ground
 port_wide net accepted side (Fun a b) ns ground fit = absurd ground
 
-import_wide : (root : Word) (p : Plan) (net : Netlist) → IsCircuitOf root p net → (i : ℕ) (x : Imported) → slice_get p.imports i ≡ Some x → IsGround x.ty
+import_wide : {layout : Layout} (root : Word) (p : Plan) (net : Netlist) → IsCircuitOf layout root p net → (i : ℕ) (x : Imported) → slice_get p.imports i ≡ Some x → IsGround x.ty
     → HasWidths x.ty
 import_wide root p net circuit i x at ground =
     let there : slice_get (map face_of net.ports) (suc i) ≡ Some (taken_face x) =
@@ -64,5 +65,5 @@ all_wide : (is : List Imported) → AllGround is → ((i : ℕ) (x : Imported) �
 all_wide [] ground each = tt
 all_wide (x ∷ is) ground each = (each 0 x refl ground.0, all_wide is ground.1 (λ i y at of_y. each (suc i) y at of_y))
 
-pub imports_are_wide : (root : Word) (p : Plan) (net : Netlist) → IsCircuitOf root p net → AllGround p.imports → HaveWidths p.imports
+pub imports_are_wide : {layout : Layout} (root : Word) (p : Plan) (net : Netlist) → IsCircuitOf layout root p net → AllGround p.imports → HaveWidths p.imports
 imports_are_wide root p net circuit ground = all_wide p.imports ground (λ i x at of_x. import_wide root p net circuit i x at of_x)

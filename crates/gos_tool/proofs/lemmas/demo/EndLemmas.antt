@@ -15,6 +15,7 @@ use Rattle.gos_command.specs.declared.report.Report.{Report}
 use Rattle.gos_command.specs.declared.status.Fault.{Fault}
 use Rattle.gos_command.specs.declared.stop.Stop.{Stop}
 use Rattle.gos_command.proofs.EndLemmas.{of_result, of_stop}
+use Rattle.gos_tool.specs.declared.circuits.layout.Layout.TheVariants.{Few}
 use Rattle.gos_tool.specs.circuits.Linked.{SaysBuild}
 use Rattle.gos_tool.specs.build.Built as building
 use Rattle.gos_tool.specs.build.Built.{IsBuilt, RejectsBuild, IsBuildCall, IsBuildCutShort, KeepsUnnamed}
@@ -89,7 +90,7 @@ demo_never_rejected levels old mid new ended count exactly few not_rejected betw
     by : (o : Option Files) (fault : Fault) (line : List ℕ) → IfSome o (λ files. RejectsBuild (with_demo levels files) new (build_file levels).name fault line) → o ≡ None
     by None fault line rejects = refl
     by (Some files) fault line rejects =
-        absurd (not_rejected (with_demo levels files) new (build_file levels).name fault line
+        absurd (not_rejected Few (with_demo levels files) new (build_file levels).name fault line
         (demo_is_right exactly few levels (with_demo levels files) new count (demo_held levels files) (own_text levels files)) rejects)
 
 pub demo_call : (levels : ℕ) (old mid new : Option Files) (fault : LastFault) → IsBetween levels old mid

@@ -12,6 +12,7 @@ use Rattle.gos_plan.specs.Seen.{SeenPlan}
 use Rattle.gos_link.specs.declared.build.Build.{Build}
 use Rattle.gos_link.specs.BuildFile.{IsBuildFile}
 use Rattle.gos_link.specs.Answers.{JointsAreFew}
+use Rattle.gos_tool.specs.declared.circuits.layout.Layout.TheVariants.{Few}
 use Rattle.gos_tool.specs.circuits.Circuit.{Face, face_of, taken_face, plan_faces}
 use Rattle.gos_tool.specs.simulate.Complete.{MayRunUnder}
 use Rattle.gos_tool.specs.build.Objects.{HavePlans}
@@ -77,7 +78,7 @@ module _ (exactly : FoundExactly) (few : JointsAreFew) (k : ℕ) (low : k ≤ 11
     plans_each : (ps : List SeenPlan) → HavePlans (modules_of (kinds k)) ps → length ps ≡ length b.instances.items
     plans_each ps have = as_many b.instances.items (kinds k) ps known.sources have
 
-    runs : (net : Netlist) → IsNetFor b (modules_of (kinds k)) net → MayRunUnder net (bytes_at files b.pulses)
+    runs : (net : Netlist) → IsNetFor Few b (modules_of (kinds k)) net → MayRunUnder net (bytes_at files b.pulses)
     runs net is =
         let ps = is.plans in
         let ports = linked_ports few b ps (sorts k) (services k) known.links (plans_known ps is.compiled) (plans_each ps is.compiled) is.whole is.linked in

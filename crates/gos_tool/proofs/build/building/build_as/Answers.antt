@@ -6,7 +6,7 @@ use Rattle.gos_command.proofs.EndLemmas.{early, late, of_stopped_both}
 use Rattle.gos_command.specs.declared.report.Report.TheVariants as reports
 use Rattle.gos_tool.specs.Calls.{circuit_calls, simulation_calls, build_calls}
 use Rattle.gos_tool.specs.Causes.{OfSource, OfBuild, OfWeight, OfPulses}
-use Rattle.gos_tool.specs.build.Built.{RejectsBuild}
+use Rattle.gos_tool.specs.build.Built.{RejectsBuildAs}
 use Rattle.gos_tool.specs.build.inner.Compiling.{AreApart, AreFit}
 use Rattle.gos_tool.proofs.lemmas.StopLemmas.{stops_before, stops_behind}
 use Rattle.gos_tool.proofs.lemmas.circuits.ExitLemmas.{err_is, failed_as, stopped_as, counts_as}
@@ -17,8 +17,8 @@ use Rattle.gos_tool.proofs.lemmas.build.FitLemmas.{never_too_large}
 use Rattle.gos_tool.proofs.lemmas.build.CallLemmas.{at_sources, by_sources, of_names}
 use Rattle.gos_tool.proofs.lemmas.build.PlansLemmas.{plans_built, rejects_pulses, simulation_call, has_circuit, no_trace, with_trace}
 use Rattle.gos_tool.proofs.lemmas.build.BuildLemmas.{HasCompiled, source_rejected, source_call, source_cut_short, source_others, compiled, plans_rejected, plans_call, plans_cut_short, plans_others, built}
-use Rattle.gos_tool.proofs.build.building.build.Given.{Over}
-use Rattle.gos_tool.proofs.build.building.build.Goals as goal
+use Rattle.gos_tool.proofs.build.building.build_as.Given.{Over}
+use Rattle.gos_tool.proofs.build.building.build_as.Goals as goal
 
 -- what the calls before left, at each end: the build file was read; and then the sources were compiled
 has_read : (g : Over) (c : goal.After-drop-build-in_err-plans-6 g) → HasRead (g.S.Store.contents c.args.store.now) (g.S.Store.contents c.build_in.new.store) c.args.own.now c.in_ok-build.build
@@ -47,17 +47,17 @@ compile_all-requires g c =
 -- a source is rejected, or a call fails there
 pub returns-in_err-plans-clause-rejected : goal.returns-in_err-plans-clause-rejected
 returns-in_err-plans-clause-rejected g c =
-    stopped_as _ (λ fault line. IfSome (g.S.Store.contents c.args.store.now) (λ files. RejectsBuild files (g.S.Store.contents c.compile_all.new.store) c.args.own.now fault line)) _ c.in_err-plans.field-0.0 c.from_residual-in_err-plans.ensures.1
-    (λ fault line h. source_rejected (has_read g c) (g.S.Store.contents c.compile_all.new.store) c.as_slice.result.now fault line c.as_slice.ensures.value h) c.in_err-plans.ensures.rejected
+    stopped_as _ (λ fault line. IfSome (g.S.Store.contents c.args.store.now) (λ files. RejectsBuildAs c.args.layout files (g.S.Store.contents c.compile_all.new.store) c.args.own.now fault line)) _ c.in_err-plans.field-0.0 c.from_residual-in_err-plans.ensures.1
+    (λ fault line h. source_rejected (has_read g c) (g.S.Store.contents c.compile_all.new.store) c.args.layout c.as_slice.result.now fault line c.as_slice.ensures.value h) c.in_err-plans.ensures.rejected
 
 pub returns-in_err-plans-clause-failed_call : goal.returns-in_err-plans-clause-failed_call
 returns-in_err-plans-clause-failed_call g c failed =
-    source_call (has_read g c) (g.S.Store.contents c.compile_all.new.store) c.in_ok-build.ensures.read c.as_slice.result.now (g.S.Store.last_fault c.compile_all.new.store) c.as_slice.ensures.value
+    source_call (has_read g c) (g.S.Store.contents c.compile_all.new.store) c.args.layout c.in_ok-build.ensures.read c.as_slice.result.now (g.S.Store.last_fault c.compile_all.new.store) c.as_slice.ensures.value
     (c.in_err-plans.ensures.failed_call (failed_as _ c.from_residual-in_err-plans.ensures.1 failed))
 
 pub returns-in_err-plans-clause-memory_files : goal.returns-in_err-plans-clause-memory_files
 returns-in_err-plans-clause-memory_files g c failed =
-    source_cut_short (has_read g c) (g.S.Store.contents c.compile_all.new.store) c.as_slice.result.now c.as_slice.ensures.value (c.in_err-plans.ensures.memory_files (failed_as _ c.from_residual-in_err-plans.ensures.1 failed))
+    source_cut_short (has_read g c) (g.S.Store.contents c.compile_all.new.store) c.args.layout c.as_slice.result.now c.as_slice.ensures.value (c.in_err-plans.ensures.memory_files (failed_as _ c.from_residual-in_err-plans.ensures.1 failed))
 
 pub returns-in_err-plans-clause-others : goal.returns-in_err-plans-clause-others
 returns-in_err-plans-clause-others g c =
@@ -73,8 +73,8 @@ returns-in_err-plans-clause-calls g c =
 pub returns-in_err-linked-clause-rejected : goal.returns-in_err-linked-clause-rejected
 returns-in_err-linked-clause-rejected g c =
     rw (err_is _ c.from_residual-in_err-linked.ensures.1)
-    (of_stopped_both _ _ (λ fault line. IfSome (g.S.Store.contents c.args.store.now) (λ files. RejectsBuild files (g.S.Store.contents c.link_plans.new.store) c.args.own.now fault line)) c.in_err-linked.field-0.0
-    (λ fault line why kept. plans_rejected (has_linked g c) (g.S.Store.contents c.link_plans.new.store) fault line (inl (why, kept))) c.in_err-linked.ensures.rejected c.in_err-linked.ensures.rejected_files)
+    (of_stopped_both _ _ (λ fault line. IfSome (g.S.Store.contents c.args.store.now) (λ files. RejectsBuildAs c.args.layout files (g.S.Store.contents c.link_plans.new.store) c.args.own.now fault line)) c.in_err-linked.field-0.0
+    (λ fault line why kept. plans_rejected (has_linked g c) (g.S.Store.contents c.link_plans.new.store) c.args.layout fault line (inl (why, kept))) c.in_err-linked.ensures.rejected c.in_err-linked.ensures.rejected_files)
 
 pub returns-in_err-linked-clause-kind : goal.returns-in_err-linked-clause-kind
 returns-in_err-linked-clause-kind g c =
@@ -94,11 +94,11 @@ returns-in_err-linked-clause-calls g c =
 
 pub returns-in_err-linked-clause-failed_call : goal.returns-in_err-linked-clause-failed_call
 returns-in_err-linked-clause-failed_call g c failed =
-    plans_call (has_linked g c) (g.S.Store.contents c.link_plans.new.store) c.in_ok-build.ensures.read (g.S.Store.last_fault c.link_plans.new.store) (inl (c.in_err-linked.ensures.failed_call (failed_as _ c.from_residual-in_err-linked.ensures.1 failed)))
+    plans_call (has_linked g c) (g.S.Store.contents c.link_plans.new.store) c.args.layout c.in_ok-build.ensures.read (g.S.Store.last_fault c.link_plans.new.store) (inl (c.in_err-linked.ensures.failed_call (failed_as _ c.from_residual-in_err-linked.ensures.1 failed)))
 
 pub returns-in_err-linked-clause-memory_files : goal.returns-in_err-linked-clause-memory_files
 returns-in_err-linked-clause-memory_files g c failed =
-    plans_cut_short (has_linked g c) (g.S.Store.contents c.link_plans.new.store) (inl (c.in_err-linked.ensures.memory_files (failed_as _ c.from_residual-in_err-linked.ensures.1 failed)))
+    plans_cut_short (has_linked g c) (g.S.Store.contents c.link_plans.new.store) c.args.layout (inl (c.in_err-linked.ensures.memory_files (failed_as _ c.from_residual-in_err-linked.ensures.1 failed)))
 
 pub returns-in_err-linked-clause-others : goal.returns-in_err-linked-clause-others
 returns-in_err-linked-clause-others g c =
@@ -108,8 +108,8 @@ returns-in_err-linked-clause-others g c =
 pub returns-in_err-counts-clause-rejected : goal.returns-in_err-counts-clause-rejected
 returns-in_err-counts-clause-rejected g c =
     rw (err_is _ c.from_residual-in_err-counts.ensures.1)
-    (of_stopped_both _ _ (λ fault line. IfSome (g.S.Store.contents c.args.store.now) (λ files. RejectsBuild files (g.S.Store.contents c.simulate.new.store) c.args.own.now fault line)) c.in_err-counts.field-0.0
-    (λ fault line why kept. plans_rejected (has_circuits g c) (g.S.Store.contents c.simulate.new.store) fault line
+    (of_stopped_both _ _ (λ fault line. IfSome (g.S.Store.contents c.args.store.now) (λ files. RejectsBuildAs c.args.layout files (g.S.Store.contents c.simulate.new.store) c.args.own.now fault line)) c.in_err-counts.field-0.0
+    (λ fault line why kept. plans_rejected (has_circuits g c) (g.S.Store.contents c.simulate.new.store) c.args.layout fault line
     (rejects_pulses (g.S.Store.contents c.compile_all.new.store) (g.S.Store.contents c.link_plans.new.store) (g.S.Store.contents c.simulate.new.store) c.args.own.now c.in_ok-build.build c.as_slice-2.result.now c.in_ok-linked.linked.weight c.in_ok-linked.linked.net c.bytes.result.now fault line c.bytes.ensures.bytes
     c.in_ok-linked.ensures.done kept why))
     c.in_err-counts.ensures.rejected c.in_err-counts.ensures.rejected_files)
@@ -132,14 +132,14 @@ returns-in_err-counts-clause-counts g c =
 
 pub returns-in_err-counts-clause-failed_call : goal.returns-in_err-counts-clause-failed_call
 returns-in_err-counts-clause-failed_call g c failed =
-    plans_call (has_circuits g c) (g.S.Store.contents c.simulate.new.store) c.in_ok-build.ensures.read (g.S.Store.last_fault c.simulate.new.store)
+    plans_call (has_circuits g c) (g.S.Store.contents c.simulate.new.store) c.args.layout c.in_ok-build.ensures.read (g.S.Store.last_fault c.simulate.new.store)
     (simulation_call (g.S.Store.contents c.compile_all.new.store) (g.S.Store.contents c.link_plans.new.store) (g.S.Store.contents c.simulate.new.store) c.in_ok-build.build c.as_slice-2.result.now c.in_ok-linked.linked.weight c.in_ok-linked.linked.net c.bytes.result.now c.bytes-2.result.now
     (g.S.Store.last_fault c.simulate.new.store) c.bytes.ensures.bytes c.bytes-2.ensures.bytes c.in_ok-linked.ensures.done
     (c.in_err-counts.ensures.failed_call (failed_as _ c.from_residual-in_err-counts.ensures.1 failed)))
 
 pub returns-in_err-counts-clause-memory_files : goal.returns-in_err-counts-clause-memory_files
 returns-in_err-counts-clause-memory_files g c failed =
-    plans_cut_short (has_circuits g c) (g.S.Store.contents c.simulate.new.store)
+    plans_cut_short (has_circuits g c) (g.S.Store.contents c.simulate.new.store) c.args.layout
     (has_circuit (g.S.Store.contents c.compile_all.new.store) (g.S.Store.contents c.link_plans.new.store) (g.S.Store.contents c.simulate.new.store) c.in_ok-build.build c.as_slice-2.result.now c.in_ok-linked.linked.weight c.in_ok-linked.linked.net c.in_ok-linked.ensures.done
     (c.in_err-counts.ensures.memory_files (failed_as _ c.from_residual-in_err-counts.ensures.1 failed)))
 
@@ -151,7 +151,7 @@ returns-in_err-counts-clause-others g c =
 -- all was done
 pub returns-clause-done : goal.returns-clause-done
 returns-clause-done g c =
-    built (has_all g c) (g.S.Store.contents c.simulate.new.store) c.paced_modules.ensures.realises c.paced_modules.ensures.linked c.paced_modules.ensures.imports c.paced_modules.ensures.typed c.paced_modules.ensures.weight c.paced_modules.ensures.small _
+    built (has_all g c) (g.S.Store.contents c.simulate.new.store) c.args.layout c.paced_modules.ensures.realises c.paced_modules.ensures.linked c.paced_modules.ensures.imports c.paced_modules.ensures.typed c.paced_modules.ensures.weight c.paced_modules.ensures.small _
     (plans_built (g.S.Store.contents c.compile_all.new.store) (g.S.Store.contents c.link_plans.new.store) (g.S.Store.contents c.simulate.new.store) c.in_ok-build.build c.as_slice-2.result.now c.in_ok-linked.linked.weight c.in_ok-linked.linked.net c.bytes.result.now c.bytes-2.result.now c.in_ok-counts.counts
     (reports.Build c.in_ok-linked.linked.weight c.in_ok-counts.counts) c.bytes.ensures.bytes c.bytes-2.ensures.bytes c.in_ok-linked.ensures.done c.in_ok-counts.ensures.done refl)
 
